@@ -1,0 +1,3 @@
+pub mod Lists
+pub mod Byte
+pub mod Utf8

@@ -1,0 +1,76 @@
+-- Lists of lists, and tests of every element. Assumes nothing.
+use mathlib.Core.Path.{_≡_, refl, sym, ap, _∙_}
+use mathlib.Core.Bool.{Bool, true, false, not, cond, _&&_}
+use mathlib.Core.List.{List, [], _∷_, _++_, append-assoc, map}
+use lib.Dec.{T}
+use mir.Facts.{and-yes, yes-and}
+
+-- by cases on a test
+pub by-test {ℓ} : {X : Type ℓ} (b : Bool) → (T b → X) → (T (not b) → X) → X
+by-test true f g = f tt
+by-test false f g = g tt
+
+pub cond-yes {ℓ} : {X : Type ℓ} (b : Bool) (x y : X) → T b → cond b x y ≡ x
+cond-yes true x y t = refl
+cond-yes false x y t = absurd t
+
+pub cond-no {ℓ} : {X : Type ℓ} (b : Bool) (x y : X) → T (not b) → cond b x y ≡ y
+cond-no true x y t = absurd t
+cond-no false x y t = refl
+
+-- what both arms have, given the test's answer
+pub cond-has {ℓ} : {X : Type ℓ} (P : X → Type 0) (b : Bool) (x y : X) → (T b → P x) → (T (not b) → P y) → P (cond b x y)
+cond-has P true x y f g = f tt
+cond-has P false x y f g = g tt
+
+-- every element passes the test
+abbrev pub all : {A : Type 0} → (A → Bool) → List A → Bool
+all f [] = true
+all f (x ∷ xs) = f x && all f xs
+
+-- the lists of a list, one after another
+abbrev pub joined : {A : Type 0} → List (List A) → List A
+joined [] = []
+joined (g ∷ gs) = g ++ joined gs
+
+module _ {A : Type 0} where
+  pub all-append : (f : A → Bool) (a b : List A) → T (all f a) → T (all f b) → T (all f (a ++ b))
+  all-append f [] b h k = k
+  all-append f (x ∷ a) b h k =
+      let both = and-yes (f x) (all f a) h in
+      yes-and (f x) (all f (a ++ b)) (both .0) (all-append f a b (both .1) k)
+
+  pub all-left : (f : A → Bool) (a b : List A) → T (all f (a ++ b)) → T (all f a)
+  all-left f [] b h = tt
+  all-left f (x ∷ a) b h =
+      let both = and-yes (f x) (all f (a ++ b)) h in
+      yes-and (f x) (all f a) (both .0) (all-left f a b (both .1))
+
+  pub all-right : (f : A → Bool) (a b : List A) → T (all f (a ++ b)) → T (all f b)
+  all-right f [] b h = h
+  all-right f (x ∷ a) b h = all-right f a b (and-yes (f x) (all f (a ++ b)) h .1)
+
+  -- a test that implies another
+  pub all-weaken : (f g : A → Bool) → ((x : A) → T (f x) → T (g x)) → (xs : List A) → T (all f xs) → T (all g xs)
+  all-weaken f g w [] h = tt
+  all-weaken f g w (x ∷ xs) h =
+      let both = and-yes (f x) (all f xs) h in
+      yes-and (g x) (all g xs) (w x (both .0)) (all-weaken f g w xs (both .1))
+
+  pub joined-append : (a b : List (List A)) → joined (a ++ b) ≡ joined a ++ joined b
+  joined-append [] b = refl
+  joined-append (g ∷ a) b = rw (joined-append a b) (sym (append-assoc g (joined a) (joined b)))
+
+  pub joined-map : (gs : List (List (List A))) → joined (map joined gs) ≡ joined (joined gs)
+  joined-map [] = refl
+  joined-map (g ∷ gs) = rw (joined-map gs) (sym (joined-append g (joined gs)))
+
+  pub all-joined : (f : A → Bool) (gs : List (List A)) → T (all f (joined gs)) → T (all (all f) gs)
+  all-joined f [] h = tt
+  all-joined f (g ∷ gs) h = yes-and (all f g) (all (all f) gs) (all-left f g (joined gs) h) (all-joined f gs (all-right f g (joined gs) h))
+
+  pub joined-all : (f : A → Bool) (gs : List (List A)) → T (all (all f) gs) → T (all f (joined gs))
+  joined-all f [] h = tt
+  joined-all f (g ∷ gs) h =
+      let both = and-yes (all f g) (all (all f) gs) h in
+      all-append f g (joined gs) (both .0) (joined-all f gs (both .1))
