@@ -1,8 +1,11 @@
 -- Lists of lists, and tests of every element. Assumes nothing.
-use mathlib.Core.Path.{_≡_, refl, sym, ap, _∙_}
+use mathlib.Core.Path.{_≡_, refl, sym}
 use mathlib.Core.Bool.{Bool, true, false, not, cond, _&&_}
 use mathlib.Core.List.{List, [], _∷_, _++_, append-assoc, map}
+use Prim.Native.Nat.{ℕ, zero, suc, _<_}
+use native.Mathlib.Nat.{not-suc-le-zero, le-of-suc-le-suc}
 use lib.Dec.{T}
+use lib.ListN.{length, getD}
 use mir.Facts.{and-yes, yes-and}
 
 -- by cases on a test
@@ -74,3 +77,14 @@ module _ {A : Type 0} where
   joined-all f (g ∷ gs) h =
       let both = and-yes (all f g) (all (all f) gs) h in
       all-append f g (joined gs) (both .0) (joined-all f gs (both .1))
+
+  -- a test of every element, at one of them
+  pub all-at : (f : A → Bool) (xs : List A) (i : ℕ) (d : A) → T (all f xs) → i < length xs → T (f (getD xs i d))
+  all-at f [] i d h k = absurd (not-suc-le-zero k)
+  all-at f (x ∷ xs) zero d h k = and-yes (f x) (all f xs) h .0
+  all-at f (x ∷ xs) (suc i) d h k = all-at f xs i d (and-yes (f x) (all f xs) h .1) (le-of-suc-le-suc k)
+
+-- a list with an element
+abbrev pub nonempty : {A : Type 0} → List A → Bool
+nonempty [] = false
+nonempty (x ∷ xs) = true
