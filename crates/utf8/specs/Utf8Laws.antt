@@ -7,11 +7,11 @@ use Prim.Native.Nat.{ℕ, zero, suc, pred, _+_, _-_, _≤_, _<_}
 use native.Mathlib.Nat.{add-zero, not-suc-le-zero}
 use native.Mathlib.Omega.{arith}
 use lib.Count.{leadingZeros, leading-le}
-use lib.Dec.{T, leb, ltb, eqb, eqb→eq, lt→ltb}
-use lib.ListN.{length, take, drop, getD, length-drop, take-append-drop, drop-of-length-le}
-use lib.Seq.{take-at, drop-at, drop-drop, getD-drop}
-use mir.Facts.{and-yes, yes-and, ltb-yes, ltb-no, leb-yes}
-use Rattle.utf8.specs.Lists.{cond-yes, cond-has, all, all-weaken, joined, joined-all, nonempty}
+use lib.Dec.{T, leb, ltb, eqb, eqb→eq, lt→ltb, leb→le}
+use lib.ListN.{length, length-append, take, drop, getD, length-drop, take-append-drop, drop-of-length-le, List·getD-append}
+use lib.Seq.{take-at, drop-at, drop-drop, getD-drop, getD-append-seam, take-append-le, drop-append-le}
+use mir.Facts.{and-yes, yes-and, ltb-yes, ltb-no, leb-yes, leb-no}
+use Rattle.utf8.specs.Lists.{cond-yes, cond-has, all, all-weaken, joined, joined-all, nonempty, by-test, all-past, all-at}
 use Rattle.utf8.specs.Byte.{within, within-low, within-high, to-within, isByte, isAscii, below}
 use Rattle.utf8.specs.Utf8.{leadingOnes, charLen, continues, secondLow, secondHigh, isChar, charsAfter, chars, utf8}
 
@@ -196,3 +196,57 @@ chars-of cs h = rw (append-nil, chars-nil, append-nil) at (chars-then cs [] h)
 pub utf8-of : (cs : List (List ℕ)) → T (all isChar cs) → T (utf8 (joined cs))
 unfolding utf8
 utf8-of cs h = rw (chars-of cs h) h
+
+-- ---- texts one after another
+
+pub chars-append : (a b : List ℕ) → T (utf8 a) → chars (a ++ b) ≡ chars a ++ chars b
+unfolding utf8
+chars-append a b h = rw (chars-joined a) at (chars-then (chars a) b h)
+
+pub utf8-right : (a b : List ℕ) → T (utf8 a) → utf8 (a ++ b) ≡ utf8 b
+unfolding utf8
+utf8-right a b h = rw (chars-append a b h) (all-past isChar (chars a) (chars b) h)
+
+pub utf8-append : (a b : List ℕ) → T (utf8 a) → T (utf8 b) → T (utf8 (a ++ b))
+utf8-append a b h k = rw (utf8-right a b h) k
+
+pub utf8-char : (c : List ℕ) → T (isChar c) → T (utf8 c)
+utf8-char c h = rw append-nil at (utf8-of (c ∷ []) (yes-and (isChar c) true h tt))
+
+pub utf8-ascii : (t : List ℕ) → T (all isAscii t) → T (utf8 t)
+unfolding isChar
+utf8-ascii [] h = utf8-of [] tt
+utf8-ascii (x ∷ t) h =
+    let both = and-yes (isAscii x) (all isAscii t) h in
+    utf8-append (x ∷ []) t (utf8-char (x ∷ []) (both .0)) (utf8-ascii t (both .1))
+
+-- ---- a text is cut before an ASCII byte
+
+-- a byte of ASCII that stands in the first character is the first: no character of more than one byte holds one
+cut-first : (cs : List (List ℕ)) (c a : List ℕ) (x : ℕ) (b : List ℕ) → x < 128 → T (isChar c) → T (all isChar cs) → length a < length c
+    → c ++ joined cs ≡ a ++ (x ∷ b) → T (utf8 a) × T (utf8 (x ∷ b))
+cut-first cs c [] x b k h hs less e = (utf8-of [] tt, rw e at (utf8-of (c ∷ cs) (yes-and (isChar c) (all isChar cs) h hs)))
+cut-first cs c (y ∷ a) x b k h hs less e =
+    let n = length (y ∷ a) in
+    let here : getD c n 0 ≡ x = sym (List·getD-append c (joined cs) 0 n less) ∙ rw e (getD-append-seam (y ∷ a) x b 0) in
+    absurd (omega (arith, here, leb→le 128 (getD c n 0) (all-at (leb 128) c n 0 (char-high c h (omega arith)) less)))
+
+cut-chars : (cs : List (List ℕ)) (a : List ℕ) (x : ℕ) (b : List ℕ) → x < 128 → T (all isChar cs) → joined cs ≡ a ++ (x ∷ b)
+    → T (utf8 a) × T (utf8 (x ∷ b))
+cut-chars [] a x b k h e = absurd (omega (arith, length-append a (x ∷ b), ap length e))
+cut-chars (c ∷ cs) a x b k h e =
+    let n = length c in
+    let both = and-yes (isChar c) (all isChar cs) h in
+    by-test (leb n (length a))
+    (λ t.
+    let fits : n ≤ length a = leb-yes t in
+    let front : c ≡ take n a = sym (take-at c (joined cs) n refl) ∙ ap (take n) e ∙ take-append-le n a (x ∷ b) fits in
+    let rest : joined cs ≡ drop n a ++ (x ∷ b) = sym (drop-at c (joined cs) n refl) ∙ ap (drop n) e ∙ drop-append-le n a (x ∷ b) fits in
+    let parts = cut-chars cs (drop n a) x b k (both .1) rest in
+    let first : T (utf8 (take n a)) = rw (← front) (utf8-char c (both .0)) in
+    (rw (take-append-drop n a) at (utf8-append (take n a) (drop n a) first (parts .0)), parts .1))
+    (λ t. cut-first cs c a x b k (both .0) (both .1) (leb-no t) e)
+
+pub utf8-cut : (a : List ℕ) (x : ℕ) (b : List ℕ) → x < 128 → T (utf8 (a ++ (x ∷ b))) → T (utf8 a) × T (utf8 (x ∷ b))
+unfolding utf8
+utf8-cut a x b k h = cut-chars (chars (a ++ (x ∷ b))) a x b k h (chars-joined (a ++ (x ∷ b)))
