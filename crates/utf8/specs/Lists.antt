@@ -1,8 +1,11 @@
 -- Lists of lists, and tests of every element. Assumes nothing.
-use mathlib.Core.Path.{_≡_, refl, sym, ap, _∙_}
-use mathlib.Core.Bool.{Bool, true, false, not, cond, _&&_}
+use mathlib.Core.Path.{_≡_, refl, sym}
+use mathlib.Core.Bool.{Bool, true, false, not, cond, _&&_, and-true, and-assoc}
 use mathlib.Core.List.{List, [], _∷_, _++_, append-assoc, map}
+use Prim.Native.Nat.{ℕ, zero, suc, _<_}
+use native.Mathlib.Nat.{not-suc-le-zero, le-of-suc-le-suc}
 use lib.Dec.{T}
+use lib.ListN.{length, getD}
 use mir.Facts.{and-yes, yes-and}
 
 -- by cases on a test
@@ -17,6 +20,17 @@ cond-yes false x y t = absurd t
 pub cond-no {ℓ} : {X : Type ℓ} (b : Bool) (x y : X) → T (not b) → cond b x y ≡ y
 cond-no true x y t = absurd t
 cond-no false x y t = refl
+
+pub yes-true : (b : Bool) → T b → b ≡ true
+yes-true true t = refl
+yes-true false t = absurd t
+
+pub true-yes : (b : Bool) → b ≡ true → T b
+true-yes b e = rw e tt
+
+pub not-false : (b : Bool) → (T b → ⊥) → b ≡ false
+not-false true f = absurd (f tt)
+not-false false f = refl
 
 -- what both arms have, given the test's answer
 pub cond-has {ℓ} : {X : Type ℓ} (P : X → Type 0) (b : Bool) (x y : X) → (T b → P x) → (T (not b) → P y) → P (cond b x y)
@@ -50,6 +64,15 @@ module _ {A : Type 0} where
   all-right f [] b h = h
   all-right f (x ∷ a) b h = all-right f a b (and-yes (f x) (all f (a ++ b)) h .1)
 
+  -- elements that pass are passed over
+  pub all-past : (f : A → Bool) (a b : List A) → T (all f a) → all f (a ++ b) ≡ all f b
+  all-past f [] b h = refl
+  all-past f (x ∷ a) b h = let both = and-yes (f x) (all f a) h in rw (yes-true (f x) (both .0)) (all-past f a b (both .1))
+
+  pub all-snoc : (f : A → Bool) (a : List A) (x : A) → all f (a ++ (x ∷ [])) ≡ all f a && f x
+  all-snoc f [] x = and-true (f x)
+  all-snoc f (y ∷ a) x = rw (all-snoc f a x) (sym (and-assoc (f y) (all f a) (f x)))
+
   -- a test that implies another
   pub all-weaken : (f g : A → Bool) → ((x : A) → T (f x) → T (g x)) → (xs : List A) → T (all f xs) → T (all g xs)
   all-weaken f g w [] h = tt
@@ -74,3 +97,14 @@ module _ {A : Type 0} where
   joined-all f (g ∷ gs) h =
       let both = and-yes (all f g) (all (all f) gs) h in
       all-append f g (joined gs) (both .0) (joined-all f gs (both .1))
+
+  -- a test of every element, at one of them
+  pub all-at : (f : A → Bool) (xs : List A) (i : ℕ) (d : A) → T (all f xs) → i < length xs → T (f (getD xs i d))
+  all-at f [] i d h k = absurd (not-suc-le-zero k)
+  all-at f (x ∷ xs) zero d h k = and-yes (f x) (all f xs) h .0
+  all-at f (x ∷ xs) (suc i) d h k = all-at f xs i d (and-yes (f x) (all f xs) h .1) (le-of-suc-le-suc k)
+
+-- a list with an element
+abbrev pub nonempty : {A : Type 0} → List A → Bool
+nonempty [] = false
+nonempty (x ∷ xs) = true

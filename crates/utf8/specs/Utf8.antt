@@ -1,9 +1,9 @@
 -- UTF-8 (RFC 3629): a character, a text cut into characters, and which texts are UTF-8. Assumes nothing.
-use mathlib.Core.Bool.{Bool, true, false, cond, _&&_}
+use mathlib.Core.Bool.{Bool, false, cond, _&&_}
 use mathlib.Core.List.{List, [], _∷_}
-use Prim.Native.Nat.{ℕ, zero, suc, pred, _+_, _-_}
+use Prim.Native.Nat.{ℕ, zero, suc, pred, _-_}
 use lib.Count.{leadingZeros}
-use lib.Dec.{leb, ltb, eqb}
+use lib.Dec.{eqb}
 use lib.ListN.{length, take}
 use Rattle.utf8.specs.Lists.{all}
 use Rattle.utf8.specs.Byte.{within, isAscii}
