@@ -1,0 +1,175 @@
+-- Demand 3 holds of every text of UTF-8 and its row. Proved once over the room of a word. Assumes nothing.
+use mathlib.Core.Path.{_≡_, refl, sym, ap, _∙_}
+use mathlib.Core.Bool.{Bool, _&&_}
+use mathlib.Core.List.{List, [], _∷_, _++_, append-nil, map, nil≢cons}
+use mathlib.Core.Option.{some}
+use Prim.Native.Nat.{ℕ, zero, suc, _+_, _*_, _≤_, _<_}
+use native.Mathlib.Omega.{arith}
+use lib.ListN.{length, length-append, length-map}
+use lib.Dec.{T, leb→le, le→leb, lit≤}
+use mir.Facts.{and-yes, yes-and}
+use Rattle.utf8.specs.Lists.{all, all-append, all-joined, nonempty, joined, joined-append, joined-map}
+use Rattle.utf8.specs.Byte.{isByte}
+use Rattle.utf8.specs.Utf8.{isChar, chars, utf8}
+use Rattle.utf8.specs.Utf8Laws.{chars-joined, chars-of, utf8-of, utf8-bytes, char-length}
+use Rattle.encoded_word.specs.Cut.{AllFit}
+use Rattle.encoded_word.specs.CutLaws.{cut-joined, cut-fits, cut-some, fewest}
+use Rattle.encoded_word.specs.Spelling.{spellByte, spell}
+use Rattle.encoded_word.specs.SpellingLaws.{length-spell, length-spell-joined}
+use Rattle.encoded_word.specs.Reading.{Word, added, standing, wordBytes, wordsOf, textOf, opening, closing}
+use Rattle.encoded_word.specs.ReadingLaws.{ours, words-of-lines}
+use Rattle.encoded_word.specs.Row.{fitsRoom, runs, rowIn}
+use Rattle.encoded_word.specs.Demand3.{InSpelling, Proper, AllProper, StandsIn, Stands}
+
+-- a word is its opening and closing, 12 characters, and what stands between
+length-word : (w : Word) → length (wordBytes w) ≡ length (standing w) + 12
+length-word w = rw (length-append opening (standing w ++ closing), length-append (standing w) closing) (omega arith)
+
+spelt-standing : (w : Word) → InSpelling w → standing w ≡ spell (added w)
+unfolding spell
+spelt-standing [] h = refl
+spelt-standing (a ∷ w) h = rw (h .0, spelt-standing w (h .1)) refl
+
+-- ---- the runs of characters that our words hold
+
+fits-part : (room k : ℕ) (d m e : List (List ℕ)) → T (fitsRoom room k (d ++ (m ++ e))) → T (fitsRoom room k m)
+fits-part room k d m e t =
+    le→leb (length (spell (joined m))) room
+    (omega (arith, leb→le (length (spell (joined (d ++ (m ++ e))))) room t, length-spell-joined d (m ++ e), length-spell-joined m e))
+
+pub runs-joined : (room : ℕ) (cs : List (List ℕ)) → joined (runs room cs) ≡ cs
+unfolding runs
+runs-joined room [] = refl
+runs-joined room (c ∷ cs) = cut-joined (fitsRoom room) 0 (c ∷ []) cs
+
+-- each holds something
+pub runs-some : (room : ℕ) (cs : List (List ℕ)) → T (all nonempty (runs room cs))
+unfolding runs
+runs-some room [] = tt
+runs-some room (c ∷ cs) = cut-some (fitsRoom room) 0 (c ∷ []) cs tt
+
+-- a room of 12 holds every character
+char-fits : (room : ℕ) → 12 ≤ room → (k : ℕ) (c : List ℕ) → T (isChar c) → T (fitsRoom room k (c ∷ []))
+char-fits room h k c t = rw append-nil (le→leb (length (spell c)) room (omega (arith, length-spell c, char-length c t)))
+
+runs-fit : (room : ℕ) → 12 ≤ room → (cs : List (List ℕ)) → T (all isChar cs) → AllFit (fitsRoom room) 0 (runs room cs)
+unfolding runs
+runs-fit room h [] t = tt
+runs-fit room h (c ∷ cs) t =
+    let both = and-yes (isChar c) (all isChar cs) t in
+    cut-fits (fitsRoom room) isChar (λ k d u. char-fits room h (suc k) d u) 0 (c ∷ []) cs (char-fits room h 0 c (both .0)) (both .1)
+
+runs-fewest : (room : ℕ) (cs : List (List ℕ)) (hs : List (List (List ℕ))) → AllFit (fitsRoom room) 0 hs → joined hs ≡ cs
+    → length (runs room cs) ≤ length hs
+unfolding runs
+runs-fewest room [] hs f e = omega arith
+runs-fewest room (c ∷ cs) [] f e = absurd (nil≢cons e)
+runs-fewest room (c ∷ cs) (h ∷ hs) f e = fewest (fitsRoom room) (fits-part room) 0 [] (c ∷ []) cs h hs f e
+
+-- ---- the runs of characters that any proper words hold
+
+abbrev held : List Word → List (List (List ℕ))
+held [] = []
+held (w ∷ ws) = chars (added w) ∷ held ws
+
+module _ (room : ℕ) where
+  held-fit : (k : ℕ) (ws : List Word) → AllProper (room + 12) ws → AllFit (fitsRoom room) k (held ws)
+  held-fit k [] h = tt
+  held-fit k (w ∷ ws) h = (
+    le→leb (length (spell (joined (chars (added w))))) room
+        (rw (chars-joined (added w), ← (spelt-standing w (h .0 .spelt))) (omega (arith, length-word w, h .0 .short))),
+    held-fit (suc k) ws (h .1),
+  )
+
+  held-chars : (ws : List Word) → AllProper (room + 12) ws → T (all isChar (joined (held ws)))
+  unfolding utf8
+  held-chars [] h = tt
+  held-chars (w ∷ ws) h = all-append isChar (chars (added w)) (joined (held ws)) (h .0 .whole) (held-chars ws (h .1))
+
+held-text : (ws : List Word) → joined (joined (held ws)) ≡ textOf ws
+held-text [] = refl
+held-text (w ∷ ws) = rw (joined-append (chars (added w)) (joined (held ws)), chars-joined (added w), held-text ws) refl
+
+length-held : (ws : List Word) → length (held ws) ≡ length ws
+length-held [] = refl
+length-held (w ∷ ws) = ap suc (length-held ws)
+
+words-fewest : (room : ℕ) (ws : List Word) → AllProper (room + 12) ws → length (runs room (chars (textOf ws))) ≤ length ws
+words-fewest room ws h =
+    let same : chars (textOf ws) ≡ joined (held ws) = ap chars (sym (held-text ws)) ∙ chars-of (joined (held ws)) (held-chars room ws h) in
+    rw (same, ← (length-held ws)) (runs-fewest room (joined (held ws)) (held ws) (held-fit room 0 ws h) refl)
+
+-- ---- our words
+
+ours-added : (bytes : List ℕ) → added (ours bytes) ≡ bytes
+ours-added [] = refl
+ours-added (b ∷ bytes) = ap (λ (x : List ℕ). b ∷ x) (ours-added bytes)
+
+ours-standing : (bytes : List ℕ) → standing (ours bytes) ≡ spell bytes
+unfolding spell
+ours-standing [] = refl
+ours-standing (b ∷ bytes) = ap (λ (x : List ℕ). spellByte b ++ x) (ours-standing bytes)
+
+ours-spelt : (bytes : List ℕ) → InSpelling (ours bytes)
+ours-spelt [] = tt
+ours-spelt (b ∷ bytes) = (refl, ours-spelt bytes)
+
+ours-text : (ls : List (List ℕ)) → textOf (map ours ls) ≡ joined ls
+ours-text [] = refl
+ours-text (l ∷ ls) = rw (ours-added l, ours-text ls) refl
+
+ours-proper : (room k : ℕ) (rs : List (List (List ℕ))) → AllFit (fitsRoom room) k rs → T (all (all isChar) rs)
+    → AllProper (room + 12) (map ours (map joined rs))
+ours-proper room k [] f h = tt
+ours-proper room k (r ∷ rs) f h =
+    let both = and-yes (all isChar r) (all (all isChar) rs) h in (
+      record {
+        spelt = ours-spelt (joined r);
+        short = omega (arith, length-word (ours (joined r)), ap length (ours-standing (joined r)), leb→le (length (spell (joined r))) room (f .0));
+        whole = rw (ours-added (joined r)) (utf8-of r (both .0));
+      },
+      ours-proper room (suc k) rs (f .1) (both .1),
+    )
+
+-- the words of a text's row
+pub rowWords : ℕ → List ℕ → List Word
+rowWords room text = map ours (map joined (runs room (chars text)))
+
+pub row-reads : (room : ℕ) (text : List ℕ) → T (utf8 text) → wordsOf (rowIn room text) ≡ some (rowWords room text)
+unfolding rowIn rowWords
+row-reads room text h =
+    words-of-lines (map joined (runs room (chars text)))
+    (all-joined isByte (map joined (runs room (chars text)))
+    (rw (joined-map (runs room (chars text)), runs-joined room (chars text), chars-joined text) (utf8-bytes text h)))
+
+pub row-text : (room : ℕ) (text : List ℕ) → textOf (rowWords room text) ≡ text
+unfolding rowWords
+row-text room text =
+    ours-text (map joined (runs room (chars text)))
+    ∙ joined-map (runs room (chars text)) ∙ ap joined (runs-joined room (chars text)) ∙ chars-joined text
+
+pub row-proper : (room : ℕ) (text : List ℕ) → 12 ≤ room → T (utf8 text) → AllProper (room + 12) (rowWords room text)
+unfolding rowWords utf8
+row-proper room text h u =
+    ours-proper room 0 (runs room (chars text)) (runs-fit room h (chars text) u)
+    (all-joined isChar (runs room (chars text)) (rw (runs-joined room (chars text)) u))
+
+pub row-fewest : (room : ℕ) (text : List ℕ) (ws : List Word) → textOf ws ≡ text → AllProper (room + 12) ws
+    → length (rowWords room text) ≤ length ws
+unfolding rowWords
+row-fewest room text ws e h =
+    rw (length-map (map joined (runs room (chars text))) ours, length-map (runs room (chars text)) joined, ← e) (words-fewest room ws h)
+
+-- Demand 3, over the room.
+pub stands-in : (room : ℕ) (text : List ℕ) → 12 ≤ room → T (utf8 text) → StandsIn (room + 12) text (rowIn room text)
+stands-in room text h u = record {
+  words = rowWords room text;
+  reads = row-reads room text u;
+  back = row-text room text;
+  proper = row-proper room text h u;
+  fewest = λ other ws r e p. row-fewest room text ws e p;
+}
+
+-- Demand 3.
+pub stands : (text : List ℕ) → T (utf8 text) → Stands text (rowIn 63 text)
+stands text u = stands-in 63 text (lit≤ tt) u

@@ -1,0 +1,10 @@
+pub mod Cut
+pub mod CutLaws
+pub mod Spelling
+pub mod SpellingLaws
+pub mod Reading
+pub mod Row
+pub mod Demand3
+pub mod ReadingLaws
+pub mod Layout
+pub mod Demand3Laws

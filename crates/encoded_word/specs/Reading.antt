@@ -1,0 +1,132 @@
+-- "Reading a row back": "A row is read from its bytes alone, front to back. The reading starts between words, with nothing
+-- added." Assumes nothing.
+use mathlib.Core.Path.{_≡_}
+use mathlib.Core.Bool.{Bool, true, false, not, cond, _&&_}
+use mathlib.Core.List.{List, [], _∷_, _++_, map}
+use mathlib.Core.Option.{Option, none, some, Option·map}
+use Prim.Native.Nat.{ℕ, _+_, _-_, _*_}
+use lib.Dec.{eqb}
+use Rattle.utf8.specs.Byte.{within}
+use Rattle.utf8.specs.Lists.{joined}
+
+-- a byte that a word adds, after the bytes that stand there for it
+abbrev pub Addition : Type 0
+Addition = List ℕ × ℕ
+
+abbrev pub Word : Type 0
+Word = List Addition
+
+-- `=?UTF-8?Q?`
+abbrev pub opening : List ℕ
+opening = 61 ∷ 63 ∷ 85 ∷ 84 ∷ 70 ∷ 45 ∷ 56 ∷ 63 ∷ 81 ∷ 63 ∷ []
+
+-- `?=`
+abbrev pub closing : List ℕ
+closing = 63 ∷ 61 ∷ []
+
+-- Where the reading stands, with the words closed so far and, in a word, what it has added so far.
+pub data Place : Type 0 where
+  fault : Place
+  -- between words; true straight after the `?=` of a word
+  between : Bool → List Word → Place
+  -- after a CR between words
+  afterCr : List Word → Place
+  -- inside `=?UTF-8?Q?`, with these bytes of it to come
+  opens : List ℕ → List Word → Place
+  inWord : List Word → Word → Place
+  -- in a word after `=`; and after `=` and a digit, with the digit and its value
+  afterEquals : List Word → Word → Place
+  afterDigit : List Word → Word → ℕ → ℕ → Place
+  -- in a word after `?`
+  closes : List Word → Word → Place
+
+-- what a byte is in a word
+pub data Kind : Type 0 where
+  underscore equals question itself other : Kind
+
+unfoldable pub kind : ℕ → Kind
+kind b = cond (eqb b 95) underscore (cond (eqb b 61) equals (cond (eqb b 63) question (cond (within 33 126 b) itself other)))
+
+-- the value of a hex digit in any case
+unfoldable pub hexValue : ℕ → Option ℕ
+hexValue b = cond (within 48 57 b) (some (b - 48)) (cond (within 65 70 b) (some (b - 55)) (cond (within 97 102 b) (some (b - 87)) none))
+
+-- "Between words: CRLF and spaces add nothing. `=?UTF-8?Q?` opens a word; straight after the `?=` of another it is a fault."
+abbrev pub stepBetween : Bool → List Word → ℕ → Place
+stepBetween straight ws b =
+    cond (eqb b 32) (between false ws)
+    (cond (eqb b 13) (afterCr ws)
+    (cond (eqb b 61 && not straight) (opens (63 ∷ 85 ∷ 84 ∷ 70 ∷ 45 ∷ 56 ∷ 63 ∷ 81 ∷ 63 ∷ []) ws) fault))
+
+abbrev pub stepOpens : List ℕ → List Word → ℕ → Place
+stepOpens [] ws b = fault
+stepOpens (x ∷ []) ws b = cond (eqb b x) (inWord ws []) fault
+stepOpens (x ∷ y ∷ more) ws b = cond (eqb b x) (opens (y ∷ more) ws) fault
+
+-- "In a word: `_` adds byte 32. `=` with two hex digits in any case adds that byte. `?=` closes the word. Any other byte 33 to
+-- 126 except `?` and `=` adds itself."
+abbrev pub stepInWord : Kind → List Word → Word → ℕ → Place
+stepInWord underscore ws w b = inWord ws (w ++ ((b ∷ [], 32) ∷ []))
+stepInWord equals ws w b = afterEquals ws w
+stepInWord question ws w b = closes ws w
+stepInWord itself ws w b = inWord ws (w ++ ((b ∷ [], b) ∷ []))
+stepInWord other ws w b = fault
+
+abbrev pub stepDigit : Option ℕ → List Word → Word → ℕ → Place
+stepDigit none ws w b = fault
+stepDigit (some high) ws w b = afterDigit ws w b high
+
+abbrev pub stepSecond : Option ℕ → List Word → Word → ℕ → ℕ → ℕ → Place
+stepSecond none ws w first high b = fault
+stepSecond (some low) ws w first high b = inWord ws (w ++ ((61 ∷ first ∷ b ∷ [], high * 16 + low) ∷ []))
+
+-- "Anything else is a fault"
+unfoldable pub step : Place → ℕ → Place
+step fault b = fault
+step (between straight ws) b = stepBetween straight ws b
+step (afterCr ws) b = cond (eqb b 10) (between false ws) fault
+step (opens more ws) b = stepOpens more ws b
+step (inWord ws w) b = stepInWord (kind b) ws w b
+step (afterEquals ws w) b = stepDigit (hexValue b) ws w b
+step (afterDigit ws w first high) b = stepSecond (hexValue b) ws w first high b
+step (closes ws w) b = cond (eqb b 61) (between true (ws ++ (w ∷ []))) fault
+
+unfoldable pub reading : Place → List ℕ → Place
+reading p [] = p
+reading p (b ∷ row) = reading (step p b) row
+
+-- ", and so is an end inside a word." A CR at the end is no CRLF, and a fault too.
+abbrev pub finish : Place → Option (List Word)
+finish fault = none
+finish (between straight ws) = some ws
+finish (afterCr ws) = none
+finish (opens more ws) = none
+finish (inWord ws w) = none
+finish (afterEquals ws w) = none
+finish (afterDigit ws w first high) = none
+finish (closes ws w) = none
+
+-- the words of a row of bytes, or none where it has a fault
+unfoldable pub wordsOf : List ℕ → Option (List Word)
+wordsOf row = finish (reading (between false []) row)
+
+-- the bytes that a word adds, and those that stand in it for them
+abbrev pub added : Word → List ℕ
+added [] = []
+added (a ∷ w) = a .1 ∷ added w
+
+abbrev pub standing : Word → List ℕ
+standing [] = []
+standing (a ∷ w) = a .0 ++ standing w
+
+-- a word's bytes in the row
+abbrev pub wordBytes : Word → List ℕ
+wordBytes w = opening ++ (standing w ++ closing)
+
+-- what a row's words add, in order
+abbrev pub textOf : List Word → List ℕ
+textOf ws = joined (map added ws)
+
+-- "A row with a fault reads back as no text; any other reads back as the bytes added, in order."
+unfoldable pub readsAs : List ℕ → Option (List ℕ)
+readsAs row = Option·map textOf (wordsOf row)

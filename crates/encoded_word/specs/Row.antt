@@ -1,0 +1,35 @@
+-- The row of encoded words of a text. Assumes nothing.
+use mathlib.Core.Bool.{Bool}
+use mathlib.Core.List.{List, [], _∷_, _++_, map}
+use Prim.Native.Nat.{ℕ}
+use lib.Dec.{leb}
+use lib.ListN.{length}
+use Rattle.utf8.specs.Lists.{joined}
+use Rattle.utf8.specs.Utf8.{chars}
+use Rattle.encoded_word.specs.Cut.{cut}
+use Rattle.encoded_word.specs.Spelling.{spell}
+use Rattle.encoded_word.specs.Reading.{opening, closing}
+
+-- characters that a word of this room holds
+abbrev pub fitsRoom : ℕ → ℕ → List (List ℕ) → Bool
+fitsRoom room k run = leb (length (spell (joined run))) room
+
+-- "A word takes as many whole characters as fit." No character, no word.
+unfoldable pub runs : ℕ → List (List ℕ) → List (List (List ℕ))
+runs room [] = []
+runs room (c ∷ cs) = cut (fitsRoom room) 0 (c ∷ []) cs
+
+-- "A word is `=?UTF-8?Q?`, 1 to 63 characters, `?=`."
+unfoldable pub word : List ℕ → List ℕ
+word bytes = opening ++ (spell bytes ++ closing)
+
+-- "Every word has a line of its own: CRLF and one space come before it"
+unfoldable pub lines : List (List ℕ) → List ℕ
+lines [] = []
+lines (bytes ∷ more) = (13 ∷ 10 ∷ 32 ∷ word bytes) ++ lines more
+
+unfoldable pub rowIn : ℕ → List ℕ → List ℕ
+rowIn room text = lines (map joined (runs room (chars text)))
+
+abbrev pub row : List ℕ → List ℕ
+row text = rowIn 63 text

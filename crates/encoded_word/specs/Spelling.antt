@@ -1,0 +1,22 @@
+-- How encoded words write a byte: "Letters, digits and `!*+-/` stand for themselves, space is `_`, each other byte is `=` and
+-- two uppercase hex digits." Assumes nothing.
+use mathlib.Core.Bool.{Bool, cond, _||_}
+use mathlib.Core.List.{List, [], _∷_, _++_}
+use Prim.Native.Nat.{ℕ, _+_, _/_, _%_}
+use lib.Dec.{eqb, ltb}
+use Rattle.utf8.specs.Byte.{within}
+
+-- letters, digits and !*+-/
+unfoldable pub bare : ℕ → Bool
+bare b = within 65 90 b || within 97 122 b || within 48 57 b || eqb b 33 || eqb b 42 || eqb b 43 || eqb b 45 || eqb b 47
+
+-- an uppercase hex digit: 0 to 9, A to F
+unfoldable pub hexDigit : ℕ → ℕ
+hexDigit d = cond (ltb d 10) (d + 48) (d + 55)
+
+unfoldable pub spellByte : ℕ → List ℕ
+spellByte b = cond (bare b) (b ∷ []) (cond (eqb b 32) (95 ∷ []) (61 ∷ hexDigit (b / 16) ∷ hexDigit (b % 16) ∷ []))
+
+unfoldable pub spell : List ℕ → List ℕ
+spell [] = []
+spell (b ∷ bytes) = spellByte b ++ spell bytes

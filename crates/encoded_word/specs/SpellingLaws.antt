@@ -1,0 +1,65 @@
+-- Laws of the spelling. Assumes nothing.
+use mathlib.Core.Path.{_≡_, refl, sym, ap, _∙_}
+use mathlib.Core.Bool.{Bool, true, false, not, cond, _||_}
+use mathlib.Core.List.{List, [], _∷_, _++_, append-assoc, append-nil}
+use Prim.Native.Nat.{ℕ, zero, suc, _+_, _*_, _/_, _%_, _≤_, _<_}
+use native.Mathlib.Numerals.{add-one}
+use native.Mathlib.Omega.{arith}
+use lib.ListN.{length, take, drop, getD, length-append, drop-of-length-le}
+use lib.Seq.{drop-cons, take-suc}
+use lib.Dec.{T, eqb, eqb→eq, lit≤}
+use Rattle.utf8.specs.Lists.{by-test, cond-yes, cond-no, joined, joined-append}
+use Rattle.encoded_word.specs.Spelling.{bare, hexDigit, spellByte, spell}
+
+pub spell-bare : (b : ℕ) → T (bare b) → spellByte b ≡ b ∷ []
+unfolding spellByte
+spell-bare b t = cond-yes (bare b) _ _ t
+
+pub spell-space : spellByte 32 ≡ 95 ∷ []
+unfolding spellByte bare
+spell-space = refl
+
+pub spell-hex : (b : ℕ) → T (not (bare b)) → T (not (eqb b 32)) → spellByte b ≡ 61 ∷ hexDigit (b / 16) ∷ hexDigit (b % 16) ∷ []
+unfolding spellByte
+spell-hex b t u = cond-no (bare b) _ _ t ∙ cond-no (eqb b 32) _ _ u
+
+-- what each of the three spellings has, every byte's has
+by-spelling : (P : List ℕ → Type 0) (b : ℕ) → P (b ∷ []) → P (95 ∷ []) → P (61 ∷ hexDigit (b / 16) ∷ hexDigit (b % 16) ∷ []) → P (spellByte b)
+by-spelling P b x y z =
+    by-test (bare b) (λ t. rw (spell-bare b t) x)
+    (λ t. by-test (eqb b 32) (λ u. rw (eqb→eq b 32 u, spell-space) y) (λ u. rw (spell-hex b t u) z))
+
+pub length-spell-byte : (b : ℕ) → length (spellByte b) ≤ 3
+length-spell-byte b = by-spelling (λ l. length l ≤ 3) b (lit≤ tt) (lit≤ tt) (lit≤ tt)
+
+pub spell-byte-some : (b : ℕ) → 0 < length (spellByte b)
+spell-byte-some b = by-spelling (λ l. 0 < length l) b (lit≤ tt) (lit≤ tt) (lit≤ tt)
+
+pub spell-append : (a b : List ℕ) → spell (a ++ b) ≡ spell a ++ spell b
+unfolding spell
+spell-append [] b = refl
+spell-append (x ∷ a) b = rw (spell-append a b) (sym (append-assoc (spellByte x) (spell a) (spell b)))
+
+pub length-spell : (l : List ℕ) → length (spell l) ≤ 3 * length l
+unfolding spell
+length-spell [] = omega arith
+length-spell (b ∷ l) = omega (arith, length-append (spellByte b) (spell l), length-spell-byte b, length-spell l)
+
+pub length-spell-append : (a b : List ℕ) → length (spell (a ++ b)) ≡ length (spell a) + length (spell b)
+length-spell-append a b = ap length (spell-append a b) ∙ length-append (spell a) (spell b)
+
+pub length-spell-joined : (d m : List (List ℕ)) → length (spell (joined (d ++ m))) ≡ length (spell (joined d)) + length (spell (joined m))
+length-spell-joined d m = rw joined-append (length-spell-append (joined d) (joined m))
+
+pub spell-one : (b : ℕ) → spell (b ∷ []) ≡ spellByte b
+unfolding spell
+spell-one b = append-nil (spellByte b)
+
+-- a text from a place on
+pub spell-at : (s : List ℕ) (j : ℕ) → j < length s → spell (drop j s) ≡ spellByte (getD s j 0) ++ spell (drop (j + 1) s)
+unfolding spell
+spell-at s j h = rw (add-one j, drop-cons s j 0 h) refl
+
+pub spell-end : (s : List ℕ) (j : ℕ) → length s ≤ j → spell (drop j s) ≡ []
+unfolding spell
+spell-end s j h = rw (drop-of-length-le s {i = j} h) refl
