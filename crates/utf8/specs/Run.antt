@@ -1,5 +1,5 @@
 -- Runs: how many bytes at the front of a list pass a test, as a loop counts them one by one or by blocks. Assumes nothing.
-use mathlib.Core.Path.{_≡_}
+use mathlib.Core.Path.{_≡_, refl, ap}
 use mathlib.Core.Bool.{Bool, true, false, cond, _&&_}
 use mathlib.Core.List.{List, [], _∷_, _++_}
 use Prim.Native.Nat.{ℕ, suc, _+_, _≤_, _<_}
@@ -61,3 +61,17 @@ module _ (f : ℕ → Bool) where
     -- a test of n bytes, and of one more
     pub all-next : (n : ℕ) → i + n < length s → all f (take (n + 1) (drop i s)) ≡ all f (take n (drop i s)) && f (getD s (i + n) 0)
     all-next n h = rw (add-one, take-suc (drop i s) n 0 (rw length-drop (omega arith)), getD-drop i s n 0) (all-snoc f (take n (drop i s)) (getD s (i + n) 0))
+
+-- what a loop that tests n bytes from i has found after some of them
+pub record Tested (f : ℕ → Bool) (s : List ℕ) (i n : ℕ) (ok : Bool) : Type 0 where
+  pub is : ok ≡ all f (take n (drop i s))
+
+module _ {f : ℕ → Bool} {s : List ℕ} {i : ℕ} where
+  pub tested-none : Tested f s i 0 true
+  tested-none = record { is = refl }
+
+  pub tested-more : {n : ℕ} {ok : Bool} → i + n < length s → Tested f s i n ok → Tested f s i (n + 1) (ok && f (getD s (i + n) 0))
+  tested-more {n} h t = record { is = rw (all-next f s i n h) (ap (λ (o : Bool). o && f (getD s (i + n) 0)) (t .is)) }
+
+  pub tested-all : {n : ℕ} {ok : Bool} (whole : ℕ) → n ≡ whole → Tested f s i n ok → ok ≡ all f (take whole (drop i s))
+  tested-all whole e t = rw e at (t .is)
