@@ -1,4 +1,6 @@
 pub mod Lists
 pub mod Byte
+pub mod Run
 pub mod Utf8
 pub mod Utf8Laws
+pub mod Utf8At

@@ -4,8 +4,9 @@ use mathlib.Core.List.{List, [], _∷_}
 use Prim.Native.Nat.{ℕ, zero, suc, pred, _-_}
 use lib.Count.{leadingZeros}
 use lib.Dec.{eqb}
-use lib.ListN.{length, take}
+use lib.ListN.{length, take, getD}
 use Rattle.utf8.specs.Lists.{all}
+use Rattle.utf8.specs.Run.{run}
 use Rattle.utf8.specs.Byte.{within, isAscii}
 
 -- "the number of leading one bits" of a byte: the leading zero bits of the inverted byte
@@ -48,3 +49,11 @@ chars text = charsAfter 0 text
 -- UTF8-octets: characters, and nothing else
 unfoldable pub utf8 : List ℕ → Bool
 utf8 text = all isChar (chars text)
+
+-- the length of the character at the front of a text; 0 where none starts
+unfoldable pub charAt : List ℕ → ℕ
+charAt text = let n = charLen (getD text 0 0) in cond (isChar (take n text)) n 0
+
+-- how many ASCII bytes stand at the front of a text
+unfoldable pub asciiRun : List ℕ → ℕ
+asciiRun text = run isAscii text

@@ -1,0 +1,24 @@
+use Rattle.utf8.specs.Utf8.{secondHigh}
+use borrow.Author.Tests.{eq-eqb, ne-eqb}
+use Rattle.utf8.proofs.second_high.Statement.{statement}
+use Rattle.utf8.proofs.second_high.Tie as tie
+use Rattle.utf8.proofs.second_high.Reads as reads
+use Rattle.utf8.proofs.second_high.Lts as lts
+
+-- src/lib.rt:35:9
+returns : tie.Need-returns
+unfolding secondHigh
+returns c = simp (eq-eqb _ _ (c .if1 .taken))
+
+-- src/lib.rt:38:9
+returns-2 : tie.Need-returns-2
+unfolding secondHigh
+returns-2 c = simp (ne-eqb _ _ (c .before .if1 .left), eq-eqb _ _ (c .if2 .taken))
+
+-- src/lib.rt:31:1
+returns-3 : tie.Need-returns-3
+unfolding secondHigh
+returns-3 c = simp (ne-eqb _ _ (c .before .if1 .left), ne-eqb _ _ (c .if2 .left))
+
+pub second-high-spec : {M : Type 1} → statement M
+second-high-spec = tie.close (tie.spec returns returns-2 returns-3)
