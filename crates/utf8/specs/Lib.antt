@@ -4,3 +4,4 @@ pub mod Run
 pub mod Utf8
 pub mod Utf8Laws
 pub mod Utf8At
+pub mod Utf8Cases
