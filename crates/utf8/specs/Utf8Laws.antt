@@ -10,7 +10,7 @@ use lib.Count.{leadingZeros, leading-le}
 use lib.Dec.{T, leb, ltb, eqb, eqb→eq, lt→ltb, leb→le}
 use lib.ListN.{length, length-append, take, drop, getD, length-drop, take-append-drop, drop-of-length-le, List·getD-append}
 use lib.Seq.{take-at, drop-at, drop-drop, getD-drop, getD-append-seam, take-append-le, drop-append-le}
-use mir.Facts.{and-yes, yes-and, ltb-yes, ltb-no, leb-yes, leb-no}
+use mir.Facts.{and-yes, yes-and, ltb-yes, ltb-no, leb-yes, leb-no, yes-eqb}
 use Rattle.utf8.specs.Lists.{cond-yes, cond-has, all, all-weaken, joined, joined-all, nonempty, by-test, all-past, all-at}
 use Rattle.utf8.specs.Byte.{within, within-low, within-high, to-within, isByte, isAscii, below}
 use Rattle.utf8.specs.Utf8.{leadingOnes, charLen, continues, secondLow, secondHigh, isChar, charsAfter, chars, utf8}
@@ -122,6 +122,16 @@ multibyte a b more t =
       second = two .1;
       tails = three .1;
     }
+
+pub to-multibyte : (a b : ℕ) (more : List ℕ) → Multibyte a b more → T (isChar (a ∷ b ∷ more))
+unfolding isChar
+to-multibyte a b more m =
+    let lead = within 194 244 a in
+    let size = eqb (charLen a) (length (a ∷ b ∷ more)) in
+    let second = within (secondLow a) (secondHigh a) b in
+    yes-and (lead && size && second) (all continues more)
+    (yes-and (lead && size) second (yes-and lead size (to-within 194 244 a (m .low) (m .high)) (yes-eqb (m .size))) (m .second))
+    (m .tails)
 
 pub second-low : (a : ℕ) → 128 ≤ secondLow a
 unfolding secondLow

@@ -4,8 +4,6 @@ use Prim.Native.Nat.{_-_, _≤_}
 use native.Mathlib.Omega.{arith}
 use Rattle.utf8.proofs.all_continue.Statement.{statement}
 use Rattle.utf8.proofs.all_continue.Tie as tie
-use Rattle.utf8.proofs.all_continue.Reads as reads
-use Rattle.utf8.proofs.all_continue.Lts as lts
 
 abbrev Inv-loop : tie.InvT-loop
 Inv-loop s at n ok₀ j₀ ok j = (j ≤ n) × Tested continues s at j ok
@@ -13,31 +11,24 @@ Inv-loop s at n ok₀ j₀ ok j = (j ≤ n) × Tested continues s at j ok
 abbrev μ-loop : tie.MeasureT-loop
 μ-loop s at n ok₀ j₀ ok j = n - j
 
--- src/lib.rt:50:5
 loop-holds : tie.Need-loop-holds Inv-loop μ-loop
 loop-holds c = (omega arith, tested-none)
 
--- src/lib.rt:51:19
 add-b : tie.Need-add-b Inv-loop μ-loop
 add-b c = omega arith
 
--- src/lib.rt:51:17
 shared-slice-read-b : tie.Need-shared-slice-read-b Inv-loop μ-loop
 shared-slice-read-b c = omega arith
 
--- src/lib.rt:53:9
 add-j : tie.Need-add-j Inv-loop μ-loop
 add-j c = omega arith
 
--- src/lib.rt:50:5
 loop-less : tie.Need-loop-less Inv-loop μ-loop
 loop-less c = omega arith
 
--- src/lib.rt:50:5
 loop-again : tie.Need-loop-again Inv-loop μ-loop
 loop-again c = (omega arith, tested-more (omega arith) (c .before .before .loop .inv .1))
 
--- src/lib.rt:44:1
 returns : tie.Need-returns Inv-loop μ-loop
 returns c = tested-all (c .before .before .args .n) (omega arith) (c .before .loop .inv .1)
 

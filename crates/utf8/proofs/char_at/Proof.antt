@@ -6,72 +6,51 @@ use native.Mathlib.Omega.{arith}
 use borrow.Author.Needs.{needs}
 use Rattle.utf8.proofs.char_at.Statement.{statement}
 use Rattle.utf8.proofs.char_at.Tie as tie
-use Rattle.utf8.proofs.char_at.Reads as reads
-use Rattle.utf8.proofs.char_at.Lts as lts
-use Rattle.utf8.proofs.all_continue.Reads as all-continue-reads
-use Rattle.utf8.proofs.char_len.Reads as char-len-reads
-use Rattle.utf8.proofs.second_high.Reads as second-high-reads
-use Rattle.utf8.proofs.second_low.Reads as second-low-reads
 
--- src/lib.rt:63:9
 returns : tie.Need-returns
 returns c = sym (char-at-end (c .before .before .args .s .now) (c .before .before .args .at) (c .if1 .taken))
 
--- src/lib.rt:65:13
 shared-slice-read-a : tie.Need-shared-slice-read-a
 shared-slice-read-a c = search needs
 
--- src/lib.rt:67:9
 returns-2 : tie.Need-returns-2
 returns-2 c = sym (char-at-ascii (c .before .before .before .before .args .s .now) (c .before .before .before .before .args .at) (c .before .before .if1 .left) (c .if2 .taken))
 
--- src/lib.rt:69:9
 char-len-requires : tie.Need-char-len-requires
 char-len-requires c κs = search needs
 
--- src/lib.rt:70:42
 sub-if3 : tie.Need-sub-if3
 sub-if3 c = search needs
 
--- src/lib.rt:71:9
 returns-3 : tie.Need-returns-3
 returns-3 c = sym (char-at-none (c .before .before .before .before .before .before .args .s .now) (c .before .before .before .before .before .before .args .at) (c .before .before .before .before .if1 .left) _ (c .before .char-len .ensures) (c .before .before .if2 .left) (not-true _ (c .if3 .taken)))
 
--- src/lib.rt:73:15
 add-b : tie.Need-add-b
 add-b c = search needs
 
--- src/lib.rt:73:13
 shared-slice-read-b : tie.Need-shared-slice-read-b
 shared-slice-read-b c = let room = char-at-room (c .before .before .before .before .before .before .before .args .s .now) (c .before .before .before .before .before .before .before .args .at) (c .before .before .before .before .before .if1 .left) _ (c .before .before .char-len .ensures) (not-false _ (c .before .if3 .left)) in omega arith
 
--- src/lib.rt:74:11
 second-low-requires : tie.Need-second-low-requires
 second-low-requires c κs = search needs
 
--- src/lib.rt:74:39
 second-high-requires : tie.Need-second-high-requires
 second-high-requires c κs = search needs
 
--- src/lib.rt:74:73
 add-all-continue : tie.Need-add-all-continue
 add-all-continue c = search needs
 
--- src/lib.rt:74:81
 sub-all-continue : tie.Need-sub-all-continue
 sub-all-continue c = char-at-room (c .before .before .before .before .before .before .before .before .before .args .s .now) (c .before .before .before .before .before .before .before .before .before .args .at) (c .before .before .before .before .before .before .before .if1 .left) _ (c .before .before .before .before .char-len .ensures) (not-false _ (c .before .before .before .if3 .left)) .0
 
--- src/lib.rt:74:57
 all-continue-requires : tie.Need-all-continue-requires
 all-continue-requires c κs = let room = char-at-room (c .before .before .before .before .before .before .before .before .before .args .s .now) (c .before .before .before .before .before .before .before .before .before .args .at) (c .before .before .before .before .before .before .before .if1 .left) _ (c .before .before .before .before .char-len .ensures) (not-false _ (c .before .before .before .if3 .left)) in omega arith
 
--- src/lib.rt:75:9
 returns-4 : tie.Need-returns-4
 returns-4 c = sym
     (char-at-more (c .before .before .before .before .before .before .before .before .before .before .before .args .s .now) (c .before .before .before .before .before .before .before .before .before .before .before .args .at) (c .before .before .before .before .before .before .before .before .before .if1 .left) _ (c .before .before .before .before .before .before .char-len .ensures) (not-false _ (c .before .before .before .before .before .if3 .left)) _ _ _ false
     (c .before .before .before .second-low .ensures) (c .before .before .second-high .ensures) (c .before .all-continue .ensures) (not-true _ (c .if4 .taken)))
 
--- src/lib.rt:59:1
 returns-5 : tie.Need-returns-5
 returns-5 c = sym
     (char-at-more (c .before .before .before .before .before .before .before .before .before .before .before .args .s .now) (c .before .before .before .before .before .before .before .before .before .before .before .args .at) (c .before .before .before .before .before .before .before .before .before .if1 .left) _ (c .before .before .before .before .before .before .char-len .ensures) (not-false _ (c .before .before .before .before .before .if3 .left)) _ _ _ true

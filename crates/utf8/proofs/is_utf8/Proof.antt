@@ -7,10 +7,6 @@ use native.Mathlib.Omega.{arith}
 use borrow.Author.Needs.{needs}
 use Rattle.utf8.proofs.is_utf8.Statement.{statement}
 use Rattle.utf8.proofs.is_utf8.Tie as tie
-use Rattle.utf8.proofs.is_utf8.Reads as reads
-use Rattle.utf8.proofs.is_utf8.Lts as lts
-use Rattle.utf8.proofs.ascii_end.Reads as ascii-end-reads
-use Rattle.utf8.proofs.char_at.Reads as char-at-reads
 
 abbrev Inv-loop : tie.InvT-loop
 Inv-loop s i₀ i = utf8 s ≡ utf8 (drop i s)
@@ -18,39 +14,30 @@ Inv-loop s i₀ i = utf8 s ≡ utf8 (drop i s)
 abbrev μ-loop : tie.MeasureT-loop
 μ-loop s i₀ i = length s - i
 
--- src/lib.rt:134:9
 ascii-end-requires : tie.Need-ascii-end-requires Inv-loop μ-loop
 ascii-end-requires c κs = search needs
 
--- src/lib.rt:135:5
 loop-holds : tie.Need-loop-holds Inv-loop μ-loop
 loop-holds c = utf8-start _ _ (c .ascii-end .ensures)
 
--- src/lib.rt:136:13
 char-at-requires : tie.Need-char-at-requires Inv-loop μ-loop
 char-at-requires c κs = search needs
 
--- src/lib.rt:138:13
 returns : tie.Need-returns Inv-loop μ-loop
 returns c = sym (c .before .before .before .loop .inv ∙ utf8-stop _ _ (c .before .before .loop-test .taken) (sym (c .before .char-at .ensures) ∙ c .if1 .taken))
 
--- src/lib.rt:140:26
 add-ascii-end : tie.Need-add-ascii-end Inv-loop μ-loop
 add-ascii-end c = let rest = drop (c .before .before .before .loop .i) (c .before .before .before .before .before .before .args .s .now) in omega (arith, char-at-within rest, length-drop (c .before .before .before .loop .i) (c .before .before .before .before .before .before .args .s .now))
 
--- src/lib.rt:140:9
 ascii-end-requires-2 : tie.Need-ascii-end-requires-2 Inv-loop μ-loop
 ascii-end-requires-2 c κs = search needs
 
--- src/lib.rt:135:5
 loop-less : tie.Need-loop-less Inv-loop μ-loop
 loop-less c = omega arith
 
--- src/lib.rt:135:5
 loop-again : tie.Need-loop-again Inv-loop μ-loop
 loop-again c = c .before .before .before .before .loop .inv ∙ utf8-next _ _ _ _ (c .before .before .char-at .ensures) (c .before .if1 .left) (c .ascii-end2 .ensures)
 
--- src/lib.rt:131:1
 returns-2 : tie.Need-returns-2 Inv-loop μ-loop
 returns-2 c = sym (c .before .loop .inv ∙ utf8-end _ _ (c .loop-test .left))
 
