@@ -5,17 +5,17 @@ use mathlib.Core.Path.{_≡_, refl, sym, _∙_, ap}
 use mathlib.Core.Bool.{true, false, Bool, not, cond, _&&_, _||_}
 use mathlib.Core.List.{List, [], _∷_}
 use Prim.Native.Nat.{ℕ, zero, suc, _+_, _≤_, _<_, _-_}
-use native.Mathlib.Nat.{not-suc-le-zero}
+use native.Mathlib.Nat.{not-suc-le-zero, add-zero}
 use native.Mathlib.Omega.{arith}
 use lib.Dec.{T, T-not, ltb, leb, leb→le, le→leb}
 use lib.ListN.{length, take, drop, getD, length-drop, length-take, take-append-drop, drop-of-length-le}
-use lib.Seq.{drop-drop, take-nil, getD-take, drop-cons, length-take-le}
+use lib.Seq.{drop-drop, take-nil, getD-take, drop-cons, length-take-le, getD-drop}
 use mir.Facts.{ltb-yes, ltb-no, and-yes, yes-and, leb-yes}
 use Rattle.utf8.specs.Lists.{by-test, cond-yes, cond-has, yes-true, not-false, all, true-yes}
 use Rattle.utf8.specs.Byte.{isAscii, within, within-high, to-within, below, implies}
 use Rattle.utf8.specs.Run.{run-all}
-use Rattle.utf8.specs.Utf8.{charLen, isChar, utf8, charAt, asciiRun, leadingOnes, continues, secondLow, secondHigh}
-use Rattle.utf8.specs.Utf8Laws.{char-len-some, chars-cons, char-first, char-some, char-length, utf8-right, utf8-ascii, utf8-char, utf8-of, multibyte}
+use Rattle.utf8.specs.Utf8.{charLen, isChar, utf8, charAt, asciiRun, leadingOnes, continues, secondLow, secondHigh, chars}
+use Rattle.utf8.specs.Utf8Laws.{char-len-some, chars-cons, char-first, char-some, char-length, utf8-right, utf8-ascii, utf8-char, utf8-of, multibyte, chars-at}
 
 no-char : T (isChar []) → ⊥
 no-char t = not-suc-le-zero (char-some [] t)
@@ -78,6 +78,32 @@ module _ (s : List ℕ) (i : ℕ) where
 
   pub utf8-end : length s ≤ i → utf8 (drop i s) ≡ true
   utf8-end h = rw (drop-of-length-le s {i = i} h) (yes-true (utf8 []) (utf8-of [] tt))
+
+-- ---- the first character of what is left of UTF-8
+
+pub record First (s : List ℕ) (i n : ℕ) : Type 0 where
+  pub char : T (isChar (take n (drop i s)))
+  pub cut : chars (drop i s) ≡ take n (drop i s) ∷ chars (drop (i + n) s)
+  pub rest : T (utf8 (drop (i + n) s))
+  pub some : 0 < n
+  pub fits : i + n ≤ length s
+
+pub utf8-first : (s : List ℕ) (i : ℕ) → i < length s → T (utf8 (drop i s)) → First s i (charLen (getD s i 0))
+unfolding utf8
+utf8-first s i h u =
+    let n = charLen (getD s i 0) in
+    let text = drop i s in
+    let cut : chars text ≡ take n text ∷ chars (drop (i + n) s) = chars-at s i h in
+    let both = and-yes (isChar (take n text)) (all isChar (chars (drop (i + n) s))) (rw cut at u) in
+    let here : n ≡ charLen (getD text 0 0) = rw (getD-drop i s 0 0, add-zero) in
+    let size : length (take n text) ≡ n = whole-char text n here (both .0) in
+    record {
+      char = both .0;
+      cut = cut;
+      rest = both .1;
+      some = char-len-some (getD s i 0);
+      fits = omega (arith, length-take n text, length-drop i s);
+    }
 
 -- ---- the turns of a loop that passes over a run of ASCII bytes, then over a character and the run after it
 
