@@ -1,6 +1,6 @@
 -- Runs: how many bytes at the front of a list pass a test, as a loop counts them one by one or by blocks. Assumes nothing.
-use mathlib.Core.Path.{_≡_, refl, ap}
-use mathlib.Core.Bool.{Bool, true, false, cond, _&&_}
+use mathlib.Core.Path.{_≡_, refl, ap, _∙_}
+use mathlib.Core.Bool.{Bool, true, false, cond, _&&_, and-true}
 use mathlib.Core.List.{List, [], _∷_, _++_}
 use Prim.Native.Nat.{ℕ, suc, _+_, _≤_, _<_}
 use native.Mathlib.Numerals.{add-one}
@@ -75,3 +75,11 @@ module _ {f : ℕ → Bool} {s : List ℕ} {i : ℕ} where
 
   pub tested-all : {n : ℕ} {ok : Bool} (whole : ℕ) → n ≡ whole → Tested f s i n ok → ok ≡ all f (take whole (drop i s))
   tested-all whole e t = rw e at (t .is)
+
+-- a test of one byte, and of two
+module _ (f : ℕ → Bool) (s : List ℕ) (i : ℕ) where
+  pub all-one : i < length s → all f (take 1 (drop i s)) ≡ f (getD s i 0)
+  all-one h = rw (drop-cons s i 0 h) (and-true (f (getD s i 0)))
+
+  pub all-two : i + 1 < length s → all f (take 2 (drop i s)) ≡ f (getD s i 0) && f (getD s (i + 1) 0)
+  all-two h = all-next f s i 1 h ∙ rw (all-one (omega arith))

@@ -2,20 +2,20 @@
 use borrow.Author.Tests.{lt-ltb, eq-eqb}
 use lib.Count.{leadingZeros}
 use mathlib.Core.Path.{_≡_, refl, sym, _∙_, ap}
-use mathlib.Core.Bool.{true, false, Bool, not, cond, _&&_, _||_}
+use mathlib.Core.Bool.{true, false, Bool, not, cond, _&&_, _||_, and-true, and-assoc}
 use mathlib.Core.List.{List, [], _∷_}
 use Prim.Native.Nat.{ℕ, zero, suc, _+_, _≤_, _<_, _-_}
 use native.Mathlib.Nat.{not-suc-le-zero, add-zero}
 use native.Mathlib.Omega.{arith}
-use lib.Dec.{T, T-not, ltb, leb, leb→le, le→leb}
+use lib.Dec.{T, T-not, ltb, leb, leb→le, le→leb, eqb, eqb→eq}
 use lib.ListN.{length, take, drop, getD, length-drop, length-take, take-append-drop, drop-of-length-le}
 use lib.Seq.{drop-drop, take-nil, getD-take, drop-cons, length-take-le, getD-drop}
-use mir.Facts.{ltb-yes, ltb-no, and-yes, yes-and, leb-yes}
+use mir.Facts.{ltb-yes, ltb-no, and-yes, yes-and, leb-yes, yes-eqb, eqb-no}
 use Rattle.utf8.specs.Lists.{by-test, cond-yes, cond-has, yes-true, not-false, all, true-yes}
 use Rattle.utf8.specs.Byte.{isAscii, within, within-high, to-within, below, implies}
-use Rattle.utf8.specs.Run.{run-all}
+use Rattle.utf8.specs.Run.{run-all, all-one, all-two}
 use Rattle.utf8.specs.Utf8.{charLen, isChar, utf8, charAt, asciiRun, leadingOnes, continues, secondLow, secondHigh, chars}
-use Rattle.utf8.specs.Utf8Laws.{char-len-some, chars-cons, char-first, char-some, char-length, utf8-right, utf8-ascii, utf8-char, utf8-of, multibyte, chars-at}
+use Rattle.utf8.specs.Utf8Laws.{char-len-some, chars-cons, char-first, char-some, char-length, utf8-right, utf8-ascii, utf8-char, utf8-of, multibyte, chars-at, lead-len}
 
 no-char : T (isChar []) → ⊥
 no-char t = not-suc-le-zero (char-some [] t)
@@ -64,17 +64,17 @@ module _ (s : List ℕ) (i : ℕ) where
   past n h = rw (take-append-drop n (drop i s), drop-drop n i s) at (utf8-right (take n (drop i s)) (drop n (drop i s)) h)
 
   -- a character is passed over
-  pub utf8-step : 0 < charAt (drop i s) → utf8 (drop i s) ≡ utf8 (drop (i + charAt (drop i s)) s)
-  utf8-step h = past (charAt (drop i s)) (utf8-char (take (charAt (drop i s)) (drop i s)) (char-at-some (drop i s) h))
+  pub utf8-step : (n : ℕ) → n ≡ charAt (drop i s) → (n ≡ 0 → ⊥) → utf8 (drop i s) ≡ utf8 (drop (i + n) s)
+  utf8-step n e z = rw e (past (charAt (drop i s)) (utf8-char (take (charAt (drop i s)) (drop i s)) (char-at-some (drop i s) (omega arith))))
 
   -- no character starts before the end
   pub utf8-stop : i < length s → charAt (drop i s) ≡ 0 → utf8 (drop i s) ≡ false
   utf8-stop h e = no-first (drop i s) (rw length-drop (omega arith)) e
 
   -- a run of ASCII bytes is passed over
-  pub utf8-run : utf8 (drop i s) ≡ utf8 (drop (i + asciiRun (drop i s)) s)
+  pub utf8-run : (next : ℕ) → next ≡ i + asciiRun (drop i s) → utf8 (drop i s) ≡ utf8 (drop next s)
   unfolding asciiRun
-  utf8-run = past (asciiRun (drop i s)) (utf8-ascii (take (asciiRun (drop i s)) (drop i s)) (run-all isAscii (drop i s)))
+  utf8-run next e = rw e (past (asciiRun (drop i s)) (utf8-ascii (take (asciiRun (drop i s)) (drop i s)) (run-all isAscii (drop i s))))
 
   pub utf8-end : length s ≤ i → utf8 (drop i s) ≡ true
   utf8-end h = rw (drop-of-length-le s {i = i} h) (yes-true (utf8 []) (utf8-of [] tt))
@@ -104,14 +104,6 @@ utf8-first s i h u =
       some = char-len-some (getD s i 0);
       fits = omega (arith, length-take n text, length-drop i s);
     }
-
--- ---- the turns of a loop that passes over a run of ASCII bytes, then over a character and the run after it
-
-pub utf8-start : (s : List ℕ) (i : ℕ) → i ≡ 0 + asciiRun (drop 0 s) → utf8 s ≡ utf8 (drop i s)
-utf8-start s i e = rw e (utf8-run s 0)
-
-pub utf8-next : (s : List ℕ) (i n next : ℕ) → n ≡ charAt (drop i s) → (n ≡ 0 → ⊥) → next ≡ i + n + asciiRun (drop (i + n) s) → utf8 (drop i s) ≡ utf8 (drop next s)
-utf8-next s i n next e z f = rw (f, e) (utf8-step s i (omega arith) ∙ utf8-run s (i + charAt (drop i s)))
 
 -- ---- the character at the front, as code finds it: by its first byte, its second, and the others
 
@@ -148,7 +140,20 @@ no-lead a text h e =
 
 lead-two : (a : ℕ) → T (within 194 244 a) → 2 ≤ charLen a
 unfolding charLen leadingOnes leadingZeros
-lead-two a t = leb-yes (implies (within 194 244 a) (leb 2 (charLen a)) (below (λ k. not (within 194 244 k) || leb 2 (charLen k)) 245 tt a (omega (arith, within-high 194 244 a t))) t)
+lead-two a t =
+    let test : ℕ → Bool = λ k. not (within 194 244 k) || leb 2 (charLen k) in
+    leb-yes (implies (within 194 244 a) (leb 2 (charLen a)) (below test 245 tt a (omega (arith, within-high 194 244 a t))) t)
+
+-- in a character of two bytes the second byte has no narrower range
+plain-second : (a : ℕ) → T (within 194 244 a) → charLen a ≡ 2 → (secondLow a ≡ 128) × (secondHigh a ≡ 191)
+unfolding charLen leadingOnes leadingZeros secondLow secondHigh
+plain-second a t e =
+    let two = within 194 244 a && eqb (charLen a) 2 in
+    let plain = eqb (secondLow a) 128 && eqb (secondHigh a) 191 in
+    let test : ℕ → Bool = λ k. not (within 194 244 k && eqb (charLen k) 2) || eqb (secondLow k) 128 && eqb (secondHigh k) 191 in
+    let both = and-yes (eqb (secondLow a) 128) (eqb (secondHigh a) 191)
+    (implies two plain (below test 245 tt a (omega (arith, within-high 194 244 a t))) (yes-and (within 194 244 a) (eqb (charLen a) 2) t (yes-eqb e))) in
+    (eqb→eq (secondLow a) 128 (both .0), eqb→eq (secondHigh a) 191 (both .1))
 
 take-two : (n a b : ℕ) (text : List ℕ) → 2 ≤ n → take n (a ∷ b ∷ text) ≡ a ∷ b ∷ take (n - 2) text
 take-two zero a b text h = absurd (omega arith)
@@ -171,27 +176,66 @@ module _ (s : List ℕ) (i : ℕ) (h : i < length s) where
   pub char-at-ascii : getD s i 0 < 128 → charAt (drop i s) ≡ 1
   char-at-ascii k = rw front (ascii-first (getD s i 0) (drop (suc i) s) k)
 
-  module _ (n : ℕ) (len : n ≡ charLen (getD s i 0)) where
-    pub char-at-none : 128 ≤ getD s i 0 → within 194 244 (getD s i 0) && leb n (length s - i) ≡ false → charAt (drop i s) ≡ 0
-    char-at-none k e =
-        let left : length (getD s i 0 ∷ drop (suc i) s) ≡ length s - i = ap length (sym front) ∙ length-drop i s in
-        rw front (no-lead (getD s i 0) (drop (suc i) s) k (rw (left, ← len) e))
+  pub char-at-none : (n : ℕ) → n ≡ charLen (getD s i 0) → 128 ≤ getD s i 0 → within 194 244 (getD s i 0) && leb n (length s - i) ≡ false → charAt (drop i s) ≡ 0
+  char-at-none n len k e =
+      let left : length (getD s i 0 ∷ drop (suc i) s) ≡ length s - i = ap length (sym front) ∙ length-drop i s in
+      rw front (no-lead (getD s i 0) (drop (suc i) s) k (rw (left, ← len) e))
 
-    module _ (e : within 194 244 (getD s i 0) && leb n (length s - i) ≡ true) where
-      lead : T (within 194 244 (getD s i 0)) × T (leb n (length s - i))
-      lead = and-yes (within 194 244 (getD s i 0)) (leb n (length s - i)) (true-yes _ e)
+-- the byte at i leads a character of n bytes, for which there is room
+pub record Leads (s : List ℕ) (i n : ℕ) : Type 0 where
+  pub size : n ≡ charLen (getD s i 0)
+  pub lead : T (within 194 244 (getD s i 0))
+  pub least : 2 ≤ n
+  pub most : n ≤ 4
+  pub fits : i + n ≤ length s
 
-      pub char-at-room : (2 ≤ n) × (i + n ≤ length s)
-      char-at-room = (omega (arith, len, lead-two (getD s i 0) (lead .0)), omega (arith, leb→le n (length s - i) (lead .1)))
+pub to-leads : (s : List ℕ) (i n : ℕ) → i < length s → n ≡ charLen (getD s i 0) → within 194 244 (getD s i 0) && leb n (length s - i) ≡ true → Leads s i n
+to-leads s i n h len e =
+    let a = getD s i 0 in
+    let both = and-yes (within 194 244 a) (leb n (length s - i)) (true-yes (within 194 244 a && leb n (length s - i)) e) in
+    record {
+      size = len;
+      lead = both .0;
+      least = omega (arith, len, lead-two a (both .0));
+      most = omega (arith, len, lead-len a (within-high 194 244 a (both .0)));
+      fits = omega (arith, leb→le n (length s - i) (both .1));
+    }
 
-      -- with the tests of the other bytes as code makes them
-      pub char-at-more : (low high : ℕ) (tails test : Bool) → low ≡ secondLow (getD s i 0) → high ≡ secondHigh (getD s i 0)
-          → tails ≡ all continues (take (n - 2) (drop (i + 2) s)) → within low high (getD s (i + 1) 0) && tails ≡ test
-          → charAt (drop i s) ≡ cond test n 0
-      char-at-more low high tails test l g m t =
-          let room = char-at-room in
-          let one : i + 1 ≡ suc i = omega arith in
-          let next : i + 2 ≡ suc (suc i) = omega arith in
-          let two : drop i s ≡ getD s i 0 ∷ getD s (i + 1) 0 ∷ drop (i + 2) s = rw (one, next, front, drop-cons s (suc i) 0 (omega arith)) in
-          let found = after-lead (getD s i 0) (getD s (i + 1) 0) (drop (i + 2) s) (lead .0) (omega (arith, ap length two, length-drop i s)) in
-          rw (← two, ← len, ← l, ← g, ← m, t) at found
+-- the tests of the second byte and the third
+abbrev pub third : List ℕ → ℕ → Bool
+third s i = within (secondLow (getD s i 0)) (secondHigh (getD s i 0)) (getD s (i + 1) 0) && continues (getD s (i + 2) 0)
+
+-- as code makes them
+pub to-third : (s : List ℕ) (i : ℕ) (low high : ℕ) (tail test : Bool) → low ≡ secondLow (getD s i 0) → high ≡ secondHigh (getD s i 0)
+    → tail ≡ continues (getD s (i + 2) 0) → within low high (getD s (i + 1) 0) && tail ≡ test → third s i ≡ test
+to-third s i low high tail test l g m t = rw (← l, ← g, ← m) t
+
+module _ {s : List ℕ} {i n : ℕ} (l : Leads s i n) where
+  led : charAt (drop i s) ≡ cond (within (secondLow (getD s i 0)) (secondHigh (getD s i 0)) (getD s (i + 1) 0) && all continues (take (n - 2) (drop (i + 2) s))) n 0
+  led =
+      let one : i + 1 ≡ suc i = omega arith in
+      let next : i + 2 ≡ suc (suc i) = omega arith in
+      let two : drop i s ≡ getD s i 0 ∷ getD s (i + 1) 0 ∷ drop (i + 2) s = rw (one, next, drop-cons s i 0 (omega arith), drop-cons s (suc i) 0 (omega arith)) in
+      let found = after-lead (getD s i 0) (getD s (i + 1) 0) (drop (i + 2) s) (l .lead) (omega (arith, l .size, ap length two, length-drop i s)) in
+      rw (← two, ← l .size) at found
+
+  pub char-at-two : n ≡ 2 → (test : Bool) → continues (getD s (i + 1) 0) ≡ test → charAt (drop i s) ≡ cond test 2 0
+  char-at-two e test t =
+      let plain = plain-second (getD s i 0) (l .lead) (sym (l .size) ∙ e) in
+      rw (e, plain .0, plain .1, t, and-true test) at led
+
+  pub char-at-three : n ≡ 3 → (test : Bool) → third s i ≡ test → charAt (drop i s) ≡ cond test 3 0
+  char-at-three e test t = rw (e, all-one continues s (i + 2) (omega arith), t) at led
+
+  pub char-at-four : n ≡ 4 → (first last : Bool) → third s i ≡ first → continues (getD s (i + 3) 0) ≡ last → charAt (drop i s) ≡ cond (first && last) 4 0
+  char-at-four e first last t u =
+      let next : i + 2 + 1 ≡ i + 3 = omega arith in
+      let more = within (secondLow (getD s i 0)) (secondHigh (getD s i 0)) (getD s (i + 1) 0) in
+      rw (e, all-two continues s (i + 2) (omega arith), next, ← and-assoc more (continues (getD s (i + 2) 0)) (continues (getD s (i + 3) 0)), t, u) at led
+
+  -- the second byte or the third is wrong
+  pub char-at-bad : (n ≡ 2 → ⊥) → third s i ≡ false → charAt (drop i s) ≡ 0
+  char-at-bad z t =
+      by-test (eqb n 3)
+      (λ u. char-at-three (eqb→eq n 3 u) false t)
+      (λ u. char-at-four (omega (arith, l .least, l .most, z, eqb-no {a = n} {b = 3} u)) false (continues (getD s (i + 3) 0)) t refl)
