@@ -28,9 +28,9 @@ yes-true false t = absurd t
 pub true-yes : (b : Bool) → b ≡ true → T b
 true-yes b e = rw e tt
 
-pub not-false : (b : Bool) → (T b → ⊥) → b ≡ false
-not-false true f = absurd (f tt)
-not-false false f = refl
+pub no-false : (b : Bool) → T (not b) → b ≡ false
+no-false true t = absurd t
+no-false false t = refl
 
 -- what both arms have, given the test's answer
 pub cond-has {ℓ} : {X : Type ℓ} (P : X → Type 0) (b : Bool) (x y : X) → (T b → P x) → (T (not b) → P y) → P (cond b x y)

@@ -40,22 +40,15 @@ fn second_high(a: u8) -> u8
     191
 }
 
-// Whether the n bytes from `at` continue a character.
-fn all_continue(s: &[u8], at: usize, n: usize) -> bool
-    requires { ⌜ at + n ≤ length (now s) ⌝ }
-    ensures { λ r. ⌜ r ≡ all continues (take n (drop at (now (s .entry)))) ⌝ }
+// Whether a byte continues a character.
+fn is_tail(b: u8) -> bool
+    ensures { λ r. ⌜ r ≡ continues b ⌝ }
 {
-    let mut ok = true;
-    let mut j: usize = 0;
-    while j < n {
-        let b = s[at + j];
-        ok = ok & ((128 <= b) & (b <= 191));
-        j += 1;
-    }
-    ok
+    (128 <= b) & (b <= 191)
 }
 
-// The length of the character at `at`; 0 where none starts there.
+// The length of the character at `at`; 0 where none starts there. Lengths are answered as constants, so that a loop over a
+// text need not wait for n.
 pub fn char_at(s: &[u8], at: usize) -> usize
     ensures { λ r. ⌜ r ≡ charAt (drop at (now (s .entry))) ⌝ }
 {
@@ -71,10 +64,22 @@ pub fn char_at(s: &[u8], at: usize) -> usize
         return 0;
     }
     let b = s[at + 1];
-    if !((second_low(a) <= b) & (b <= second_high(a)) & all_continue(s, at + 2, n - 2)) {
+    if n == 2 {
+        if !is_tail(b) {
+            return 0;
+        }
+        return 2;
+    }
+    if !((second_low(a) <= b) & (b <= second_high(a)) & is_tail(s[at + 2])) {
         return 0;
     }
-    n
+    if n == 3 {
+        return 3;
+    }
+    if !is_tail(s[at + 3]) {
+        return 0;
+    }
+    4
 }
 
 // Whether the 32 bytes from `at` are ASCII. Without an early exit, so that it is compiled to a few vector instructions.
@@ -131,13 +136,17 @@ pub fn ascii_end(s: &[u8], at: usize) -> usize
 pub fn is_utf8(s: &[u8]) -> bool
     ensures { λ r. ⌜ r ≡ utf8 (now (s .entry)) ⌝ }
 {
-    let mut i = ascii_end(s, 0);
+    let mut i = 0;
     while i < s.len() {
-        let n = char_at(s, i);
-        if n == 0 {
-            return false;
+        if s[i] < 128 {
+            i = ascii_end(s, i);
+        } else {
+            let n = char_at(s, i);
+            if n == 0 {
+                return false;
+            }
+            i += n;
         }
-        i = ascii_end(s, i + n);
     }
     true
 }
