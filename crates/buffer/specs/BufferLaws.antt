@@ -166,6 +166,9 @@ module _ (text before last : List ℕ) (at a : ℕ) (ha : a ≡ min at (length b
       → Added text at before (take a before ++ (last ++ drop (length before - a) (drop a before))) s
   added-by w e = record { place = rw (← w .size) e; bytes = lent (w .bytes) }
 
+pub length-added : {text before after : List ℕ} {at r : ℕ} → Added text at before after r → length after ≡ length before
+length-added {text} {before} {after} {at} {r} a = rw (a .bytes) (length-overlay-at at text before)
+
 -- where the place after the text is a usize
 pub appended-of : {text before after : List ℕ} {at r : ℕ} → Added text at before after r → at + length text ≤ greatest → Appended text at before after r
 appended-of {text} {before} {after} {at} {r} a h = record { place = omega (arith, a .place, h); bytes = a .bytes }

@@ -8,3 +8,5 @@ pub mod Demand3
 pub mod ReadingLaws
 pub mod Layout
 pub mod Demand3Laws
+pub mod Stream
+pub mod StreamLaws

@@ -1,5 +1,5 @@
 -- The row of encoded words of a text. Assumes nothing.
-use mathlib.Core.Bool.{Bool}
+use mathlib.Core.Bool.{Bool, cond}
 use mathlib.Core.List.{List, [], _∷_, _++_, map}
 use Prim.Native.Nat.{ℕ}
 use lib.Dec.{leb}
@@ -33,3 +33,7 @@ rowIn room text = lines (map joined (runs room (chars text)))
 
 abbrev pub row : List ℕ → List ℕ
 row text = rowIn 63 text
+
+-- The texts that are encoded: a text of more than 4 GiB counts as empty, so that no length is more than a usize holds.
+unfoldable pub bounded : List ℕ → List ℕ
+bounded text = cond (leb (length text) 4294967296) text []

@@ -14,8 +14,12 @@ bare b = within 65 90 b || within 97 122 b || within 48 57 b || eqb b 33 || eqb 
 unfoldable pub hexDigit : ℕ → ℕ
 hexDigit d = cond (ltb d 10) (d + 48) (d + 55)
 
+-- `=` and two hex digits
+abbrev pub escape : ℕ → List ℕ
+escape b = 61 ∷ hexDigit (b / 16) ∷ hexDigit (b % 16) ∷ []
+
 unfoldable pub spellByte : ℕ → List ℕ
-spellByte b = cond (bare b) (b ∷ []) (cond (eqb b 32) (95 ∷ []) (61 ∷ hexDigit (b / 16) ∷ hexDigit (b % 16) ∷ []))
+spellByte b = cond (bare b) (b ∷ []) (cond (eqb b 32) (95 ∷ []) (escape b))
 
 unfoldable pub spell : List ℕ → List ℕ
 spell [] = []

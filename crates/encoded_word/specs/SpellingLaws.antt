@@ -7,9 +7,11 @@ use native.Mathlib.Numerals.{add-one}
 use native.Mathlib.Omega.{arith}
 use lib.ListN.{length, take, drop, getD, length-append, drop-of-length-le}
 use lib.Seq.{drop-cons, take-suc}
-use lib.Dec.{T, eqb, eqb→eq, lit≤}
-use Rattle.utf8.specs.Lists.{by-test, cond-yes, cond-no, joined, joined-append}
-use Rattle.encoded_word.specs.Spelling.{bare, hexDigit, spellByte, spell}
+use lib.Dec.{T, leb, eqb, eqb→eq, lit≤, ltb→lt}
+use mir.Facts.{and-yes, yes-leb, no-eqb}
+use Rattle.utf8.specs.Lists.{by-test, cond-yes, cond-no, all, joined, joined-append}
+use Rattle.utf8.specs.Byte.{within, within-low, within-high, below, implies}
+use Rattle.encoded_word.specs.Spelling.{bare, hexDigit, escape, spellByte, spell}
 
 pub spell-bare : (b : ℕ) → T (bare b) → spellByte b ≡ b ∷ []
 unfolding spellByte
@@ -19,12 +21,12 @@ pub spell-space : spellByte 32 ≡ 95 ∷ []
 unfolding spellByte bare
 spell-space = refl
 
-pub spell-hex : (b : ℕ) → T (not (bare b)) → T (not (eqb b 32)) → spellByte b ≡ 61 ∷ hexDigit (b / 16) ∷ hexDigit (b % 16) ∷ []
+pub spell-hex : (b : ℕ) → T (not (bare b)) → T (not (eqb b 32)) → spellByte b ≡ escape b
 unfolding spellByte
 spell-hex b t u = cond-no (bare b) _ _ t ∙ cond-no (eqb b 32) _ _ u
 
 -- what each of the three spellings has, every byte's has
-by-spelling : (P : List ℕ → Type 0) (b : ℕ) → P (b ∷ []) → P (95 ∷ []) → P (61 ∷ hexDigit (b / 16) ∷ hexDigit (b % 16) ∷ []) → P (spellByte b)
+by-spelling : (P : List ℕ → Type 0) (b : ℕ) → P (b ∷ []) → P (95 ∷ []) → P (escape b) → P (spellByte b)
 by-spelling P b x y z =
     by-test (bare b) (λ t. rw (spell-bare b t) x)
     (λ t. by-test (eqb b 32) (λ u. rw (eqb→eq b 32 u, spell-space) y) (λ u. rw (spell-hex b t u) z))
@@ -63,3 +65,28 @@ spell-at s j h = rw (add-one j, drop-cons s j 0 h) refl
 pub spell-end : (s : List ℕ) (j : ℕ) → length s ≤ j → spell (drop j s) ≡ []
 unfolding spell
 spell-end s j h = rw (drop-of-length-le s {i = j} h) refl
+
+-- ---- bytes that are not ASCII
+
+abbrev pub high : ℕ → Bool
+high b = within 128 255 b
+
+abbrev pub escapes : List ℕ → List ℕ
+escapes [] = []
+escapes (b ∷ bytes) = escape b ++ escapes bytes
+
+high-bare : (b : ℕ) → T (high b) → T (not (bare b))
+unfolding bare
+high-bare b t = implies (high b) (not (bare b)) (below (λ k. not (high k) || not (bare k)) 256 tt b (omega (arith, within-high 128 255 b t))) t
+
+pub spell-high : (bytes : List ℕ) → T (all high bytes) → spell bytes ≡ escapes bytes
+unfolding spell
+spell-high [] h = refl
+spell-high (b ∷ bytes) h =
+    let both = and-yes (high b) (all high bytes) h in
+    let other : T (not (eqb b 32)) = no-eqb {a = b} {b = 32} (λ e. omega (arith, within-low 128 255 b (both .0), e)) in
+    rw (spell-hex b (high-bare b (both .0)) other, spell-high bytes (both .1)) refl
+
+pub length-escapes : (bytes : List ℕ) → length (escapes bytes) ≡ 3 * length bytes
+length-escapes [] = refl
+length-escapes (b ∷ bytes) = omega (arith, length-append (escape b) (escapes bytes), length-escapes bytes)

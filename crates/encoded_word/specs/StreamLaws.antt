@@ -1,0 +1,418 @@
+-- The row that a loop writes is the row, and the laws of its turns. Assumes nothing.
+use mathlib.Core.Path.{_≡_, refl, sym, ap, _∙_}
+use mathlib.Core.Bool.{Bool, true, false, not, cond, _&&_}
+use mathlib.Core.List.{List, [], _∷_, _++_, append-assoc, append-nil, map}
+use Prim.Native.Nat.{ℕ, zero, suc, pred, _+_, _-_, _*_, _/_, _%_, _≤_, _<_, min}
+use native.Mathlib.Nat.{add-zero, add-suc, suc-add, zero-add, le-of-suc-le-suc, not-suc-le-zero}
+use native.Mathlib.Numerals.{add-one, unary-clauses}
+use native.Mathlib.Omega.{arith}
+use lib.ListN.{length, take, drop, getD, length-append, length-take, length-drop, drop-of-length-le}
+use lib.Seq.{drop-cons}
+use lib.Dec.{T, leb, ltb, eqb, eqb→eq, leb→le, le→leb, lit≤, lt→ltb}
+use mir.Facts.{and-yes, yes-and, no-leb, leb-no}
+use borrow.Author.Tests.{le-leb, lt-leb, leb-true, ltb-true}
+use Rattle.utf8.specs.Lists.{by-test, cond-yes, cond-no, all, joined, joined-append}
+use Rattle.utf8.specs.Byte.{to-within}
+use Rattle.utf8.specs.Utf8.{charLen, charsAfter, chars}
+use Rattle.buffer.specs.Buffer.{Wrote, Appended, Added, Reached, greatest}
+use Rattle.buffer.specs.BufferLaws.{overlay-front, wrote-from, appended-of, appended-then, length-appended, reached-start, reached-then, reached-last}
+use Rattle.utf8.specs.Utf8Laws.{char-len-some, char-len-le, chars-cons, chars-at, chars-end, chars-nil}
+use Rattle.encoded_word.specs.Cut.{cut}
+use Rattle.encoded_word.specs.CutLaws.{cut-more, cut-next}
+use Rattle.encoded_word.specs.Spelling.{bare, escape, spellByte, spell}
+use Rattle.encoded_word.specs.SpellingLaws.{spell-append, spell-bare, spell-space, spell-hex, spell-one, spell-at, spell-end, length-spell, length-spell-append, length-spell-byte, high, escapes, spell-high, length-escapes}
+use Rattle.encoded_word.specs.Reading.{opening, closing}
+use Rattle.encoded_word.specs.Row.{fitsRoom, runs, word, lines, rowIn, bounded}
+use Rattle.encoded_word.specs.Stream.{cost, start, gap, leftAfter, onwards, onwardsAt, byteCost, byteCosts, from, alone, Turned, MeasuredTurn, PutTurn}
+
+-- ---- the room in the open word
+
+module _ (left m : ℕ) where
+  pub gap-here : m ≤ left → gap left m ≡ []
+  unfolding gap
+  gap-here h = rw (le-leb m left h)
+
+  pub gap-next : left < m → gap left m ≡ closing ++ start
+  unfolding gap
+  gap-next h = rw (lt-leb m left h)
+
+  pub left-here : (room : ℕ) → m ≤ left → leftAfter room left m ≡ left - m
+  unfolding leftAfter
+  left-here room h = rw (le-leb m left h)
+
+  pub left-next : (room : ℕ) → left < m → leftAfter room left m ≡ room - m
+  unfolding leftAfter
+  left-next room h = rw (lt-leb m left h)
+
+pub left-le : (room left m : ℕ) → left ≤ room → leftAfter room left m ≤ room
+unfolding leftAfter
+left-le room left m h = go (leb m left)
+  where
+    go : (b : Bool) → cond b (left - m) (room - m) ≤ room
+    go true = omega arith
+    go false = omega arith
+
+pub length-gap : (left m : ℕ) → length (gap left m) ≤ 15
+unfolding gap start
+length-gap left m = go (leb m left)
+  where
+    go : (b : Bool) → length (cond b [] (closing ++ start)) ≤ 15
+    go true = lit≤ tt
+    go false = lit≤ tt
+
+pub length-gap-here : (left m : ℕ) → m ≤ left → length (gap left m) ≡ 0
+length-gap-here left m h = ap length (gap-here left m h)
+
+pub length-gap-next : (left m : ℕ) → left < m → length (gap left m) ≡ 15
+unfolding start
+length-gap-next left m h = ap length (gap-next left m h)
+
+-- ---- the row by lines is the row by characters
+
+lines-cons : (l : List ℕ) (ls : List (List ℕ)) → lines (l ∷ ls) ≡ start ++ (spell l ++ (closing ++ lines ls))
+unfolding lines word start
+lines-cons l ls = simp append-assoc
+
+lines-one : (l : List ℕ) → lines (l ∷ []) ≡ start ++ (spell l ++ closing)
+unfolding lines word start
+lines-one l = simp append-nil
+
+spell-snoc : (run : List (List ℕ)) (c : List ℕ) → spell (joined (run ++ (c ∷ []))) ≡ spell (joined run) ++ spell c
+spell-snoc run c = rw (joined-append run (c ∷ []), append-nil, spell-append (joined run) c) refl
+
+module _ (room : ℕ) where
+  cut-lines : (k : ℕ) (run cs : List (List ℕ)) → cost (joined run) ≤ room → T (all (λ c. leb (cost c) room) cs)
+      → lines (map joined (cut (fitsRoom room) k run cs)) ≡ start ++ (spell (joined run) ++ onwards room (room - cost (joined run)) cs)
+  unfolding cut onwards start
+  cut-lines k run [] h t = lines-one (joined run)
+  cut-lines k run (c ∷ cs) h t =
+      let both = and-yes (leb (cost c) room) (all (λ c. leb (cost c) room) cs) t in
+      let snoc : cost (joined (run ++ (c ∷ []))) ≡ cost (joined run) + cost c = ap length (spell-snoc run c) ∙ length-append (spell (joined run)) (spell c) in
+      let u = cost (joined run) in
+      by-test (fitsRoom room k (run ++ (c ∷ [])))
+      (λ y.
+      let fits : cost c ≤ room - u = omega (arith, leb→le (cost (joined (run ++ (c ∷ [])))) room y, snoc) in
+      let same : room - cost (joined (run ++ (c ∷ []))) ≡ room - u - cost c = omega (arith, snoc) in
+      rw (
+        cut-more (fitsRoom room) k run c cs y,
+        cut-lines k (run ++ (c ∷ [])) cs (leb→le (cost (joined (run ++ (c ∷ [])))) room y) (both .1),
+        same,
+        spell-snoc run c,
+        append-assoc,
+        gap-here (room - u) (cost c) fits,
+        left-here (room - u) (cost c) room fits,
+      ) refl)
+      (λ n.
+      let over : room - u < cost c = omega (arith, leb-no {a = cost (joined (run ++ (c ∷ [])))} {b = room} n, snoc) in
+      rw (cut-next (fitsRoom room) k run c cs n, gap-next (room - u) (cost c) over, left-next (room - u) (cost c) room over)
+      (lines-cons (joined run) (map joined (cut (fitsRoom room) (suc k) (c ∷ []) cs))
+      ∙ rw (cut-lines (suc k) (c ∷ []) cs (rw append-nil (leb→le (cost c) room (both .0))) (both .1), append-nil) refl))
+
+  stream : (c : List ℕ) (cs : List (List ℕ)) → T (all (λ c. leb (cost c) room) (c ∷ cs))
+      → lines (map joined (runs room (c ∷ cs))) ≡ start ++ onwards room room (c ∷ cs)
+  unfolding runs onwards
+  stream c cs t =
+      let both = and-yes (leb (cost c) room) (all (λ c. leb (cost c) room) cs) t in
+      let fits : cost c ≤ room = leb→le (cost c) room (both .0) in
+      rw (gap-here room (cost c) fits, left-here room (cost c) room fits)
+      (cut-lines 0 (c ∷ []) cs (rw append-nil fits) (both .1) ∙ rw append-nil refl)
+
+-- ---- the row of every text, UTF-8 or not
+
+-- a character by its first byte has at most 8 bytes, so every character fits a word
+after-fit : (k : ℕ) (text : List ℕ) → T (all (λ c. leb (cost c) 63) (charsAfter k text))
+unfolding charsAfter
+after-fit zero [] = tt
+after-fit (suc k) [] = tt
+after-fit (suc k) (b ∷ text) = after-fit k text
+after-fit zero (b ∷ text) =
+    let c = take (charLen b) (b ∷ text) in
+    yes-and (leb (cost c) 63) (all (λ c. leb (cost c) 63) (charsAfter (pred (charLen b)) text))
+    (le→leb (cost c) 63 (omega (arith, length-spell c, length-take (charLen b) (b ∷ text), char-len-le b)))
+    (after-fit (pred (charLen b)) text)
+
+pub chars-fit : (text : List ℕ) → T (all (λ c. leb (cost c) 63) (chars text))
+unfolding chars
+chars-fit text = after-fit 0 text
+
+pub row-nil : (text : List ℕ) → length text ≡ 0 → rowIn 63 text ≡ []
+unfolding rowIn runs lines
+row-nil [] e = rw chars-nil refl
+row-nil (b ∷ text) e = absurd (omega arith)
+
+pub row-start : (text : List ℕ) → 0 < length text → rowIn 63 text ≡ start ++ onwardsAt text 0 63
+unfolding rowIn
+row-start [] h = absurd (not-suc-le-zero h)
+row-start (b ∷ text) h = go (chars-cons b text) (chars-fit (b ∷ text))
+  where
+    go : {c : List ℕ} {cs : List (List ℕ)} → chars (b ∷ text) ≡ c ∷ cs → T (all (λ c. leb (cost c) 63) (chars (b ∷ text)))
+        → rowIn 63 (b ∷ text) ≡ start ++ onwards 63 63 (chars (b ∷ text))
+    go {c} {cs} e t = rw e (stream 63 c cs (rw e at t))
+
+-- the texts that are encoded
+pub bounded-short : (text : List ℕ) → length text ≤ 4294967296 → bounded text ≡ text
+unfolding bounded
+bounded-short text h = rw (le-leb (length text) 4294967296 h)
+
+pub row-long : (text : List ℕ) → 4294967296 < length text → rowIn 63 (bounded text) ≡ []
+unfolding bounded
+row-long text h = rw (lt-leb (length text) 4294967296 h) (row-nil [] refl)
+
+pub length-row : (text : List ℕ) → 0 < length text → length (rowIn 63 text) ≡ 13 + length (onwardsAt text 0 63)
+unfolding start
+length-row text h = ap length (row-start text h) ∙ length-append start (onwardsAt text 0 63)
+
+pub onwards-end : (s : List ℕ) (i left : ℕ) → length s ≤ i → onwardsAt s i left ≡ closing
+unfolding onwards
+onwards-end s i left h = rw (chars-end s i h) refl
+
+-- ---- a turn
+
+take-min : (n : ℕ) (l : List ℕ) → take (min n (length l)) l ≡ take n l
+take-min zero l = simp unary-clauses
+take-min (suc n) [] = simp unary-clauses
+take-min (suc n) (x ∷ l) = simp unary-clauses (ap (λ (r : List ℕ). x ∷ r) (take-min n l))
+
+drop-min : (n : ℕ) (l : List ℕ) → drop (min n (length l)) l ≡ drop n l
+drop-min zero l = simp unary-clauses
+drop-min (suc n) [] = simp unary-clauses
+drop-min (suc n) (x ∷ l) = simp unary-clauses (drop-min n l)
+
+module _ (s : List ℕ) (i left : ℕ) (h : i < length s) (hl : left ≤ 63) where
+  -- the character `c` at place i ends at place e
+  pub turn : (e : ℕ) (c : List ℕ) → e ≡ min (i + charLen (getD s i 0)) (length s) → take (e - i) (drop i s) ≡ c
+      → Turned s i left e (leftAfter 63 left (cost c)) (gap left (cost c) ++ spell c)
+  unfolding onwards
+  turn e c he hc =
+      let n = charLen (getD s i 0) in
+      let size : length c ≡ e - i = rw (← hc) (rw length-take (omega (arith, length-drop i s, char-len-some (getD s i 0)))) in
+      let clipped : min n (length (drop i s)) ≡ e - i = omega (arith, length-drop i s) in
+      let front : take n (drop i s) ≡ c = sym (take-min n (drop i s)) ∙ ap (λ (k : ℕ). take k (drop i s)) clipped ∙ hc in
+      let back : drop (i + n) s ≡ drop e s = sym (drop-min (i + n) s) ∙ ap (λ (k : ℕ). drop k s) (sym he) in
+      record {
+        more = omega (arith, char-len-some (getD s i 0));
+        within = omega arith;
+        roomy = left-le 63 left (cost c) hl;
+        short = rw length-append (omega (arith, length-gap left (cost c), length-spell c, char-len-some (getD s i 0)));
+        joins = rw (chars-at s i h, front, back) refl;
+      }
+
+pub turned-then : {s : List ℕ} {i left j mid k last : ℕ} {xs ys : List ℕ} → Turned s i left j mid xs → Turned s j mid k last ys
+    → Turned s i left k last (xs ++ ys)
+turned-then {s} {i} {left} {j} {mid} {k} {last} {xs} {ys} t u = record {
+  more = omega (arith, t .more, u .more);
+  within = u .within;
+  roomy = u .roomy;
+  short = rw length-append (omega (arith, t .short, u .short, t .more, u .more));
+  joins = t .joins ∙ rw (u .joins, append-assoc);
+}
+
+-- ---- a byte's spelling, by how many characters it takes
+
+module _ (b : ℕ) where
+  three : byteCost b ≡ 1 → length (escape b) ≡ 1 → ⊥
+  three e k = omega (arith, k)
+
+  pub spelt-alone : byteCost b ≡ 1 → spellByte b ≡ alone b ∷ []
+  unfolding alone bare
+  spelt-alone e =
+      by-test (eqb b 32) (λ t. rw (eqb→eq b 32 t, spell-space) refl)
+      (λ t. by-test (bare b)
+      (λ u. rw (spell-bare b u, cond-no (eqb b 32) 95 b t) refl)
+      (λ u. absurd (three e (sym (ap length (spell-hex b u t)) ∙ e))))
+
+  pub spelt-escape : (byteCost b ≡ 1 → ⊥) → spellByte b ≡ escape b
+  unfolding bare
+  spelt-escape n =
+      by-test (eqb b 32) (λ t. absurd (n (rw (eqb→eq b 32 t, spell-space) refl)))
+      (λ t. by-test (bare b) (λ u. absurd (n (ap length (spell-bare b u)))) (λ u. spell-hex b u t))
+
+  pub byte-cost-le : byteCost b ≤ 3
+  byte-cost-le = length-spell-byte b
+
+from-at : (f : ℕ → ℕ) (k n j : ℕ) → j < n → getD (from f k n) j 0 ≡ f (k + j)
+unfolding from
+from-at f k zero j h = absurd (not-suc-le-zero h)
+from-at f k (suc n) zero h = ap f (sym (add-zero k))
+from-at f k (suc n) (suc j) h = from-at f (suc k) n j (le-of-suc-le-suc h) ∙ ap f (suc-add k j ∙ sym (add-suc k j))
+
+pub byte-costs-at : (b : ℕ) → b < 256 → getD byteCosts b 0 ≡ byteCost b
+unfolding byteCosts
+byte-costs-at b h = from-at byteCost 0 256 b h ∙ ap byteCost (zero-add b)
+
+pub cost-at : (c : List ℕ) (i : ℕ) → i < length c → cost (drop i c) ≡ byteCost (getD c i 0) + cost (drop (i + 1) c)
+cost-at c i h = ap length (spell-at c i h) ∙ length-append (spellByte (getD c i 0)) (spell (drop (i + 1) c))
+
+cost-cons : (b : ℕ) (c : List ℕ) → cost (b ∷ c) ≡ byteCost b + cost c
+unfolding spell
+cost-cons b c = length-append (spellByte b) (spell c)
+
+pub cost-one : (a m : ℕ) → m ≡ byteCost a → m ≡ cost (a ∷ [])
+unfolding spell
+cost-one a m e = omega (arith, e, cost-cons a [])
+
+pub cost-two : (a b x y : ℕ) → x ≡ byteCost a → y ≡ byteCost b → x + y ≡ cost (a ∷ b ∷ [])
+cost-two a b x y p q = omega (arith, p, cost-cons a (b ∷ []), cost-one b y q)
+
+pub cost-three : (a b c x y z : ℕ) → x ≡ byteCost a → y ≡ byteCost b → z ≡ byteCost c → x + y + z ≡ cost (a ∷ b ∷ c ∷ [])
+cost-three a b c x y z p q r = omega (arith, p, cost-cons a (b ∷ c ∷ []), cost-two b c y z q r)
+
+pub cost-end : (c : List ℕ) (i : ℕ) → length c ≤ i → cost (drop i c) ≡ 0
+cost-end c i h = ap length (spell-end c i h)
+
+-- ---- turns of one character, by the character's length
+
+-- the bytes from a place on, one by one
+take-cons : (s : List ℕ) (i n : ℕ) → i < length s → take (suc n) (drop i s) ≡ getD s i 0 ∷ take n (drop (i + 1) s)
+take-cons s i n h = rw (add-one i, drop-cons s i 0 h) refl
+
+pub ascii-len : (b : ℕ) → b < 128 → charLen b ≡ 1
+unfolding charLen
+ascii-len b h = cond-yes (ltb b 128) 1 _ (lt→ltb b 128 h)
+
+both : (a b : Bool) → a && b ≡ true → (a ≡ true) × (b ≡ true)
+both true b e = (refl, e)
+both false b e = let z : _≡_ {A = ℕ} 0 1 = cc in absurd (omega arith)
+
+-- two tests at once
+pub at-least : (n a b : ℕ) → leb n a && leb n b ≡ true → (n ≤ a) × (n ≤ b)
+at-least n a b e = let p = both (leb n a) (leb n b) e in (leb-true n a (p .0), leb-true n b (p .1))
+
+module _ (s : List ℕ) (i : ℕ) where
+  -- the bytes of a character, however long
+  pub char-size : (e : ℕ) → e ≡ min (i + charLen (getD s i 0)) (length s) → length (take (e - i) (drop i s)) ≤ 8
+  char-size e he = rw length-take (omega (arith, char-len-le (getD s i 0)))
+
+  pub char-cost : (e m : ℕ) → e ≡ min (i + charLen (getD s i 0)) (length s) → m ≡ cost (take (e - i) (drop i s)) → m ≤ 24
+  char-cost e m he hm = omega (arith, hm, length-spell (take (e - i) (drop i s)), char-size e he)
+
+  -- the bytes of a character, by its length
+  pub one-byte : i < length s → take (i + 1 - i) (drop i s) ≡ getD s i 0 ∷ []
+  one-byte h = let size : i + 1 - i ≡ 1 = omega arith in rw size (take-cons s i 0 h)
+
+  pub two-bytes : i + 2 ≤ length s → take (i + 1 + 1 - i) (drop i s) ≡ getD s i 0 ∷ getD s (i + 1) 0 ∷ []
+  two-bytes h =
+      let size : i + 1 + 1 - i ≡ 2 = omega arith in
+      rw (size, take-cons s i 1 (omega arith), take-cons s (i + 1) 0 (omega arith)) refl
+
+  pub three-bytes : i + 3 ≤ length s → take (i + 1 + 1 + 1 - i) (drop i s) ≡ getD s i 0 ∷ getD s (i + 1) 0 ∷ getD s (i + 1 + 1) 0 ∷ []
+  three-bytes h =
+      let size : i + 1 + 1 + 1 - i ≡ 3 = omega arith in
+      rw (size, take-cons s i 2 (omega arith), take-cons s (i + 1) 1 (omega arith), take-cons s (i + 1 + 1) 0 (omega arith)) refl
+
+-- ---- turns, measured
+
+module _ (s : List ℕ) (i left n : ℕ) (h : i < length s) (hl : left ≤ 63) where
+  -- a character `c` that takes m characters
+  pub measured : (e m next left′ n′ : ℕ) (c : List ℕ) → e ≡ min (i + charLen (getD s i 0)) (length s) → take (e - i) (drop i s) ≡ c → m ≡ cost c
+      → (next ≡ e) × (left′ ≡ leftAfter 63 left m) × (n′ ≡ n + (length (gap left m) + m)) → MeasuredTurn s i left n next left′ n′
+  measured e m next left′ n′ c he hc hm r = record {
+    text = gap left (cost c) ++ spell c;
+    turned = rw (r .0, r .1, hm) (turn s i left h hl e c he hc);
+    size = rw (r .2, hm, length-append) refl;
+  }
+
+-- the length so far and the length that is left make up the whole
+pub measured-on : {s : List ℕ} {i left n i′ left′ n′ : ℕ} (whole : ℕ) → MeasuredTurn s i left n i′ left′ n′
+    → n + length (onwardsAt s i left) ≡ whole → n′ + length (onwardsAt s i′ left′) ≡ whole
+measured-on {s} {i} {left} {n} {i′} {left′} {n′} whole t e =
+    omega (arith, t .size, e, ap length (t .turned .joins), length-append (t .text) (onwardsAt s i′ left′))
+
+-- ASCII characters that fit the open word
+module _ (s : List ℕ) where
+  turn-here : (i left : ℕ) → i < length s → left ≤ 63 → getD s i 0 < 128 → byteCost (getD s i 0) ≤ left
+      → Turned s i left (i + 1) (left - byteCost (getD s i 0)) (spellByte (getD s i 0))
+  turn-here i left h hl k f =
+      let b = getD s i 0 in
+      rw (spell-one b, gap-here left (byteCost b) f, left-here left (byteCost b) 63 f) at
+      (turn s i left h hl (i + 1) (b ∷ []) (omega (arith, ascii-len b k)) (one-byte s i h))
+
+  pub measured-four : (i left n m : ℕ) → 4 ≤ length s - i → left ≤ 63
+      → getD s i 0 < 128 → ltb (getD s (i + 1) 0) 128 && ltb (getD s (i + 1 + 1) 0) 128 && ltb (getD s (i + 1 + 1 + 1) 0) 128 ≡ true
+      → m ≡ byteCost (getD s i 0) + byteCost (getD s (i + 1) 0) + byteCost (getD s (i + 1 + 1) 0) + byteCost (getD s (i + 1 + 1 + 1) 0)
+      → m ≤ left → MeasuredTurn s i left n (i + 1 + 1 + 1 + 1) (left - m) (n + m)
+  measured-four i left n m h hl a bcd hm f =
+      let p = both (ltb (getD s (i + 1) 0) 128 && ltb (getD s (i + 1 + 1) 0) 128) (ltb (getD s (i + 1 + 1 + 1) 0) 128) bcd in
+      let q = both (ltb (getD s (i + 1) 0) 128) (ltb (getD s (i + 1 + 1) 0) 128) (p .0) in
+      let b = ltb-true (getD s (i + 1) 0) 128 (q .0) in
+      let c = ltb-true (getD s (i + 1 + 1) 0) 128 (q .1) in
+      let d = ltb-true (getD s (i + 1 + 1 + 1) 0) 128 (p .1) in
+      let x = byteCost (getD s i 0) in
+      let y = byteCost (getD s (i + 1) 0) in
+      let z = byteCost (getD s (i + 1 + 1) 0) in
+      let w = byteCost (getD s (i + 1 + 1 + 1) 0) in
+      let t1 = turn-here i left (omega arith) hl a (omega arith) in
+      let t2 = turn-here (i + 1) (left - x) (omega arith) (omega arith) b (omega arith) in
+      let t3 = turn-here (i + 1 + 1) (left - x - y) (omega arith) (omega arith) c (omega arith) in
+      let t4 = turn-here (i + 1 + 1 + 1) (left - x - y - z) (omega arith) (omega arith) d (omega arith) in
+      let rest : left - x - y - z - w ≡ left - m = omega arith in
+      record {
+        text = _;
+        turned = rw rest at (turned-then (turned-then t1 t2) (turned-then t3 t4));
+        size = rw (length-append, length-append, length-append) (omega arith);
+      }
+
+-- ---- turns, written
+
+-- a character `c` that is written as `t` and takes m characters
+pub put-turn : (s : List ℕ) (i left at : ℕ) → i < length s → left ≤ 63 → {before mid after : List ℕ} {e a next left′ m : ℕ} (c t : List ℕ)
+    → e ≡ min (i + charLen (getD s i 0)) (length s) → take (e - i) (drop i s) ≡ c → spell c ≡ t → m ≡ cost c
+    → left′ ≡ leftAfter 63 left m → Appended (gap left m) at before mid a → Appended t a mid after next
+    → PutTurn s i left at before after e left′ next
+put-turn s i left at h hl {e = e} {m = m} c t he hc ht hm l v w =
+    let size : length c ≤ 8 = rw (← hc) (rw length-take (omega (arith, char-len-le (getD s i 0)))) in
+    record {
+      text = gap left m ++ t;
+      turned = rw (l, hm, ← ht) (turn s i left h hl e c he hc);
+      small = rw (length-append, ← ht) (omega (arith, length-gap left m, length-spell c));
+      wrote = appended-then v w;
+    }
+
+-- the same where no byte of the character is ASCII
+pub put-high : (s : List ℕ) (i left at : ℕ) → i < length s → left ≤ 63 → {before mid after : List ℕ} {e a next left′ m : ℕ} (c : List ℕ)
+    → e ≡ min (i + charLen (getD s i 0)) (length s) → take (e - i) (drop i s) ≡ c → T (all high c) → m ≡ 3 * length c
+    → left′ ≡ leftAfter 63 left m → Appended (gap left m) at before mid a → Appended (escapes c) a mid after next
+    → PutTurn s i left at before after e left′ next
+put-high s i left at h hl c he hc t hm l v w =
+    put-turn s i left at h hl c (escapes c) he hc (spell-high c t) (hm ∙ sym (ap length (spell-high c t) ∙ length-escapes c)) l v w
+
+to-high : (b : ℕ) (l : List ℕ) → 128 ≤ b → b < 256 → T (all high l) → T (all high (b ∷ l))
+to-high b l h k t = yes-and (high b) (all high l) (to-within 128 255 b h (omega arith)) t
+
+pub high-two : (a b : ℕ) → 128 ≤ a → a < 256 → 128 ≤ b → b < 256 → T (all high (a ∷ b ∷ []))
+high-two a b h k h′ k′ = to-high a (b ∷ []) h k (to-high b [] h′ k′ tt)
+
+pub high-three : (a b d : ℕ) → 128 ≤ a → a < 256 → 128 ≤ b → b < 256 → 128 ≤ d → d < 256 → T (all high (a ∷ b ∷ d ∷ []))
+high-three a b d h k h′ k′ h″ k″ = to-high a (b ∷ d ∷ []) h k (high-two b d h′ k′ h″ k″)
+
+-- room that is left after a text
+pub room-left : {t before after : List ℕ} {at r : ℕ} (k n : ℕ) → Appended t at before after r → length t ≤ k → at + (k + n) ≤ length before → r + n ≤ length after
+room-left k n a h f = omega (arith, a .place, length-appended a, h, f)
+
+-- a turn of the loop that writes
+pub put-on : {whole s before mid after : List ℕ} {at₀ at i left i′ left′ at′ : ℕ} → Reached whole (onwardsAt s i left) at₀ before mid at
+    → PutTurn s i left at mid after i′ left′ at′ → Reached whole (onwardsAt s i′ left′) at₀ before after at′
+put-on g t = reached-then (t .text) _ g (t .turned .joins) (t .wrote)
+
+pub length-start : length start ≡ 13
+unfolding start
+length-start = refl
+
+-- a row: its first start, what a loop has written, the last closing
+pub row-ended : (s : List ℕ) (i left : ℕ) {before begun mid after : List ℕ} {a n r : ℕ} → 0 < length s → length s ≤ i
+    → Appended start 0 before begun a → Reached (onwardsAt s 0 63) (onwardsAt s i left) a begun mid n → Appended closing n mid after r
+    → Wrote (rowIn 63 s) before after r
+row-ended s i left some h b g e = wrote-from (rw (row-start s some) (appended-then b (reached-last g (rw (onwards-end s i left h) e))))
+
+-- a turn that is written into a piece of its own, and copied from there
+pub copied-on : {whole s before mid after piece piece′ : List ℕ} {at₀ at i left i′ left′ n r : ℕ} → Reached whole (onwardsAt s i left) at₀ before mid at
+    → length piece ≡ 39 → PutTurn s i left 0 piece piece′ i′ left′ n → Added (take n piece′) at mid after r → at + 39 ≤ greatest
+    → Reached whole (onwardsAt s i′ left′) at₀ before after r × (r ≤ at + 18 * (i′ - i))
+copied-on {mid = mid} {after = after} {piece = piece} {piece′ = piece′} {at = at} {n = n} {r = r} g size t a h =
+    let w = wrote-from (t .wrote) in
+    let same : take n piece′ ≡ t .text = rw (w .size, w .bytes) (overlay-front (t .text) piece (omega (arith, t .small, size))) in
+    let b : Appended (t .text) at mid after r = appended-of (rw same at a) (omega (arith, t .small, h)) in
+    (reached-then (t .text) _ g (t .turned .joins) b, omega (arith, b .place, t .turned .short))
+
+pub put-within : {s piece piece′ : List ℕ} {i left i′ left′ n : ℕ} → PutTurn s i left 0 piece piece′ i′ left′ n → length piece ≡ 39 → n ≤ length piece′
+put-within t size = omega (arith, t .wrote .place, t .small, length-appended (t .wrote), size)

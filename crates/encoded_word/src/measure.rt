@@ -1,0 +1,136 @@
+// The length of a text's row, without writing it.
+ghost use mathlib.Core.Path.{_≡_};
+ghost use Prim.Native.Nat.{_+_, _*_, _≤_, _<_};
+ghost use lib.ListN.{length, getD};
+ghost use Rattle.utf8.specs.Utf8.{charLen};
+ghost use Rattle.encoded_word.specs.Row.{row};
+ghost use Rattle.encoded_word.specs.Stream.{byteCosts, gap, leftAfter, MeasuredTurn};
+use crate::spelling::byte_cost;
+use crate::spelling::char_cost;
+use crate::spelling::char_end;
+
+// A place in the text, the room that is left in the open word, and the length so far.
+pub(crate) struct Measure {
+    pub i: usize,
+    pub left: usize,
+    pub n: usize,
+}
+
+// m characters more, up to the place i of the text: in the open word, or in a new one.
+fn with_cost(i: usize, left: usize, n: usize, m: usize) -> Measure
+    requires { ⌜ (m ≤ 63) × (n ≤ 1152921504606846976) ⌝ }
+    ensures { λ r. ⌜ (r .i ≡ i) × (r .left ≡ leftAfter 63 left m) × (r .n ≡ n + (length (gap left m) + m)) ⌝ }
+{
+    if m <= left {
+        return Measure {
+            i,
+            left: left - m,
+            n: n + m,
+        };
+    }
+    Measure {
+        i,
+        left: 63 - m,
+        n: n + (15 + m),
+    }
+}
+
+// A character of any length, cut at the end of the text.
+fn any_char(costs: &[u8; 256], s: &[u8], i: usize, left: usize, n: usize) -> Measure
+    requires { ⌜ (now costs ≡ byteCosts) × (i < length (now s)) × (left ≤ 63) × (n ≤ 1152921504606846976) ⌝ }
+    ensures { λ r. ⌜ MeasuredTurn (now (s .entry)) i left n (r .i) (r .left) (r .n) ⌝ }
+{
+    let e = char_end(s, i);
+    with_cost(e, left, n, char_cost(costs, &s[i..e]))
+}
+
+// A character of two bytes.
+fn two_bytes(costs: &[u8; 256], s: &[u8], i: usize, left: usize, n: usize) -> Measure
+    requires { ⌜ (now costs ≡ byteCosts) × (i + 2 ≤ length (now s)) × (left ≤ 63) × (n ≤ 1152921504606846976) × (charLen (getD (now s) i 0) ≡ 2) ⌝ }
+    ensures { λ r. ⌜ MeasuredTurn (now (s .entry)) i left n (r .i) (r .left) (r .n) ⌝ }
+{
+    let j = i + 1;
+    with_cost(
+        j + 1,
+        left,
+        n,
+        byte_cost(costs, s[i]) + byte_cost(costs, s[j]),
+    )
+}
+
+// A character of three bytes.
+fn three_bytes(costs: &[u8; 256], s: &[u8], i: usize, left: usize, n: usize) -> Measure
+    requires { ⌜ (now costs ≡ byteCosts) × (i + 3 ≤ length (now s)) × (left ≤ 63) × (n ≤ 1152921504606846976) × (charLen (getD (now s) i 0) ≡ 3) ⌝ }
+    ensures { λ r. ⌜ MeasuredTurn (now (s .entry)) i left n (r .i) (r .left) (r .n) ⌝ }
+{
+    let j = i + 1;
+    let k = j + 1;
+    let m = byte_cost(costs, s[i]) + byte_cost(costs, s[j]) + byte_cost(costs, s[k]);
+    with_cost(k + 1, left, n, m)
+}
+
+// An ASCII character, or four where they fit the open word together.
+fn ascii(costs: &[u8; 256], s: &[u8], i: usize, left: usize, n: usize) -> Measure
+    requires { ⌜ (now costs ≡ byteCosts) × (i < length (now s)) × (left ≤ 63) × (n ≤ 1152921504606846976) × (getD (now s) i 0 < 128) ⌝ }
+    ensures { λ r. ⌜ MeasuredTurn (now (s .entry)) i left n (r .i) (r .left) (r .n) ⌝ }
+{
+    let m1 = byte_cost(costs, s[i]);
+    let j = i + 1;
+    if 4 <= s.len() - i {
+        let k = j + 1;
+        let l = k + 1;
+        if (s[j] < 128) & (s[k] < 128) & (s[l] < 128) {
+            let m = m1 + byte_cost(costs, s[j]) + byte_cost(costs, s[k]) + byte_cost(costs, s[l]);
+            if m <= left {
+                return Measure {
+                    i: l + 1,
+                    left: left - m,
+                    n: n + m,
+                };
+            }
+        }
+    }
+    with_cost(j, left, n, m1)
+}
+
+// The next character, or characters.
+fn next(costs: &[u8; 256], s: &[u8], i: usize, left: usize, n: usize) -> Measure
+    requires { ⌜ (now costs ≡ byteCosts) × (i < length (now s)) × (left ≤ 63) × (n ≤ 1152921504606846976) ⌝ }
+    ensures { λ r. ⌜ MeasuredTurn (now (s .entry)) i left n (r .i) (r .left) (r .n) ⌝ }
+{
+    let b = s[i];
+    if b < 128 {
+        return ascii(costs, s, i, left, n);
+    }
+    let size = utf8::char_len(b);
+    if size == 2 {
+        if 2 <= s.len() - i {
+            return two_bytes(costs, s, i, left, n);
+        }
+    }
+    if size == 3 {
+        if 3 <= s.len() - i {
+            return three_bytes(costs, s, i, left, n);
+        }
+    }
+    any_char(costs, s, i, left, n)
+}
+
+pub(crate) fn row_len(costs: &[u8; 256], s: &[u8]) -> usize
+    requires { ⌜ (now costs ≡ byteCosts) × (length (now s) ≤ 4294967296) ⌝ }
+    ensures { λ r. ⌜ r ≡ length (row (now (s .entry))) ⌝ }
+{
+    if s.len() == 0 {
+        return 0;
+    }
+    let mut i = 0;
+    let mut left = 63;
+    let mut n = 13;
+    while i < s.len() {
+        let r = next(costs, s, i, left, n);
+        i = r.i;
+        left = r.left;
+        n = r.n;
+    }
+    n + 2
+}

@@ -1,0 +1,103 @@
+// Bytes in the spelling of a word.
+ghost use mathlib.Core.Path.{_≡_};
+ghost use Prim.Native.Nat.{_+_, _*_, _≤_, _<_, min};
+ghost use lib.ListN.{length, getD};
+ghost use Rattle.utf8.specs.Utf8.{charLen};
+ghost use Rattle.buffer.specs.Buffer.{Appended};
+ghost use Rattle.encoded_word.specs.Spelling.{hexDigit, escape, spellByte, spell};
+ghost use Rattle.encoded_word.specs.Stream.{byteCost, byteCosts, cost, alone};
+
+fn wide(b: u8) -> usize
+    ensures { λ r. ⌜ r ≡ b ⌝ }
+{
+    b as usize
+}
+
+// An uppercase hex digit, from the ranges 0 to 9 and A to F.
+fn hex_digit(d: u8) -> u8
+    requires { ⌜ d < 16 ⌝ }
+    ensures { λ r. ⌜ r ≡ hexDigit d ⌝ }
+{
+    if d < 10 { d + 48 } else { d + 55 }
+}
+
+// How many characters of a word a byte takes; costs is the table of that.
+pub(crate) fn byte_cost(costs: &[u8; 256], b: u8) -> usize
+    requires { ⌜ now costs ≡ byteCosts ⌝ }
+    ensures { λ r. ⌜ (r ≡ byteCost b) × (r ≤ 3) ⌝ }
+{
+    wide(costs[wide(b)])
+}
+
+// Where the character at a place ends, by its first byte and the end of the text.
+pub(crate) fn char_end(s: &[u8], i: usize) -> usize
+    requires { ⌜ i < length (now s) ⌝ }
+    ensures { λ r. ⌜ r ≡ min (i + charLen (getD (now (s .entry)) i 0)) (length (now (s .entry))) ⌝ }
+{
+    let size = utf8::char_len(s[i]);
+    if size < s.len() - i {
+        return i + size;
+    }
+    s.len()
+}
+
+// How many characters of a word the bytes of a character take.
+pub(crate) fn char_cost(costs: &[u8; 256], c: &[u8]) -> usize
+    requires { ⌜ (now costs ≡ byteCosts) × (length (now c) ≤ 8) ⌝ }
+    ensures { λ r. ⌜ r ≡ cost (now (c .entry)) ⌝ }
+{
+    let mut n = 0;
+    let mut i = 0;
+    while i < c.len() {
+        n += byte_cost(costs, c[i]);
+        i += 1;
+    }
+    n
+}
+
+// The one character that stands for a byte that takes one.
+fn alone_of(b: u8) -> u8
+    ensures { λ r. ⌜ r ≡ alone b ⌝ }
+{
+    if b == 32 { 95 } else { b }
+}
+
+// Writes `=` and two hex digits.
+pub(crate) fn put_escape(out: &mut [u8], at: usize, b: u8) -> usize
+    requires { ⌜ at + 3 ≤ length (now out) ⌝ }
+    ensures { λ r. ⌜ Appended (escape b) at (now (out .entry)) (now (out .exit)) r ⌝ }
+{
+    let second = at + 1;
+    let third = second + 1;
+    out[at] = 61;
+    out[second] = hex_digit(b / 16);
+    out[third] = hex_digit(b % 16);
+    third + 1
+}
+
+// Writes a byte that takes m characters.
+pub(crate) fn put_byte(out: &mut [u8], at: usize, b: u8, m: usize) -> usize
+    requires { ⌜ (m ≡ byteCost b) × (at + 3 ≤ length (now out)) ⌝ }
+    ensures { λ r. ⌜ Appended (spellByte b) at (now (out .entry)) (now (out .exit)) r ⌝ }
+{
+    if m == 1 {
+        out[at] = alone_of(b);
+        return at + 1;
+    }
+    put_escape(out, at, b)
+}
+
+// Writes the bytes of a character.
+pub(crate) fn put_char(costs: &[u8; 256], out: &mut [u8], at: usize, c: &[u8]) -> usize
+    requires { ⌜ (now costs ≡ byteCosts) × (at + 3 * length (now c) ≤ length (now out)) ⌝ }
+    ensures { λ r. ⌜ Appended (spell (now (c .entry))) at (now (out .entry)) (now (out .exit)) r ⌝ }
+{
+    let mut next = at;
+    let mut i = 0;
+    while i < c.len() {
+        let b = c[i];
+        next = put_byte(out, next, b, byte_cost(costs, b));
+        i += 1;
+    }
+    next
+}
