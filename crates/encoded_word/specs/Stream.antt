@@ -6,7 +6,7 @@ use Prim.Native.Nat.{ℕ, zero, suc, _+_, _-_, _*_, _≤_, _<_}
 use lib.Dec.{leb, eqb}
 use lib.ListN.{length, drop}
 use Rattle.utf8.specs.Utf8.{chars, charLen}
-use Rattle.buffer.specs.Buffer.{Appended}
+use Rattle.buffer.specs.Buffer.{Appended, Reached}
 use Rattle.encoded_word.specs.Spelling.{spellByte, spell}
 use Rattle.encoded_word.specs.Reading.{opening, closing}
 
@@ -69,3 +69,10 @@ pub record PutTurn (s : List ℕ) (i left : ℕ) (at : ℕ) (before after : List
   pub turned : Turned s i left i′ left′ text
   pub small : length text ≤ 39
   pub wrote : Appended text at before after at′
+
+-- Turns one after another from the start of a text on, written from the place `at` on.
+pub record Ran (s : List ℕ) (at : ℕ) (before after : List ℕ) (i left at′ : ℕ) : Type 0 where
+  pub within : i ≤ length s
+  pub roomy : left ≤ 63
+  pub short : at′ ≤ at + 18 * i
+  pub reached : Reached (onwardsAt s 0 63) (onwardsAt s i left) at before after at′

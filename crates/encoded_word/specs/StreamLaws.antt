@@ -9,18 +9,18 @@ use native.Mathlib.Omega.{arith}
 use lib.ListN.{length, take, drop, getD, length-append, length-take, length-drop, drop-of-length-le}
 use lib.Seq.{drop-cons}
 use lib.Dec.{T, leb, ltb, eqb, eqb→eq, leb→le, le→leb, lit≤, lt→ltb}
-use mir.Facts.{and-yes, yes-and, no-leb, leb-no}
-use borrow.Author.Tests.{le-leb, lt-leb, leb-true, ltb-true}
+use mir.Facts.{and-yes, yes-and, no-leb, leb-no, ltb-yes, ltb-no}
+use borrow.Author.Tests.{le-leb, lt-leb, leb-true, ltb-true, eqb-true}
 use Rattle.utf8.specs.Lists.{by-test, cond-yes, cond-no, all, joined, joined-append}
 use Rattle.utf8.specs.Byte.{to-within}
 use Rattle.utf8.specs.Utf8.{charLen, charsAfter, chars}
 use Rattle.buffer.specs.Buffer.{Wrote, Appended, Added, Reached, greatest}
-use Rattle.buffer.specs.BufferLaws.{overlay-front, wrote-from, appended-of, appended-then, length-appended, reached-start, reached-then, reached-last}
+use Rattle.buffer.specs.BufferLaws.{overlay-front, wrote-from, appended-from, appended-of, appended-then, length-appended, reached-start, reached-then, reached-last}
 use Rattle.utf8.specs.Utf8Laws.{char-len-some, char-len-le, chars-cons, chars-at, chars-end, chars-nil}
 use Rattle.encoded_word.specs.Cut.{cut}
 use Rattle.encoded_word.specs.CutLaws.{cut-more, cut-next}
 use Rattle.encoded_word.specs.Spelling.{bare, escape, spellByte, spell}
-use Rattle.encoded_word.specs.SpellingLaws.{spell-append, spell-bare, spell-space, spell-hex, spell-one, spell-at, spell-end, length-spell, length-spell-append, length-spell-byte, high, escapes, spell-high, length-escapes}
+use Rattle.encoded_word.specs.SpellingLaws.{spell-byte-some, spell-append, spell-bare, spell-space, spell-hex, spell-one, spell-at, spell-end, length-spell, length-spell-append, length-spell-byte, high, escapes, spell-high, length-escapes}
 use Rattle.encoded_word.specs.Reading.{opening, closing}
 use Rattle.encoded_word.specs.Row.{fitsRoom, runs, word, lines, rowIn, bounded}
 use Rattle.encoded_word.specs.Stream.{cost, start, gap, leftAfter, onwards, onwardsAt, byteCost, byteCosts, from, alone, Turned, MeasuredTurn, PutTurn}
@@ -230,6 +230,13 @@ module _ (b : ℕ) where
   pub byte-cost-le : byteCost b ≤ 3
   byte-cost-le = length-spell-byte b
 
+-- a byte that takes one character is ASCII
+alone-ascii : (b : ℕ) → b < 256 → byteCost b ≡ 1 → b < 128
+alone-ascii b h e =
+    by-test (ltb b 128) (λ t. ltb-yes t)
+    (λ t. let k : T (all high (b ∷ [])) = yes-and (high b) true (to-within 128 255 b (ltb-no t) (omega arith)) tt in
+    absurd (omega (arith, e, ap length (spell-one b), ap length (spell-high (b ∷ []) k))))
+
 from-at : (f : ℕ → ℕ) (k n j : ℕ) → j < n → getD (from f k n) j 0 ≡ f (k + j)
 unfolding from
 from-at f k zero j h = absurd (not-suc-le-zero h)
@@ -257,6 +264,10 @@ cost-two a b x y p q = omega (arith, p, cost-cons a (b ∷ []), cost-one b y q)
 pub cost-three : (a b c x y z : ℕ) → x ≡ byteCost a → y ≡ byteCost b → z ≡ byteCost c → x + y + z ≡ cost (a ∷ b ∷ c ∷ [])
 cost-three a b c x y z p q r = omega (arith, p, cost-cons a (b ∷ c ∷ []), cost-two b c y z q r)
 
+pub cost-four : (a b c d x y z w : ℕ) → x ≡ byteCost a → y ≡ byteCost b → z ≡ byteCost c → w ≡ byteCost d
+    → x + y + z + w ≡ cost (a ∷ b ∷ c ∷ d ∷ [])
+cost-four a b c d x y z w p q r t = omega (arith, p, cost-cons a (b ∷ c ∷ d ∷ []), cost-three b c d y z w q r t)
+
 pub cost-end : (c : List ℕ) (i : ℕ) → length c ≤ i → cost (drop i c) ≡ 0
 cost-end c i h = ap length (spell-end c i h)
 
@@ -274,9 +285,19 @@ both : (a b : Bool) → a && b ≡ true → (a ≡ true) × (b ≡ true)
 both true b e = (refl, e)
 both false b e = let z : _≡_ {A = ℕ} 0 1 = cc in absurd (omega arith)
 
--- two tests at once
+-- tests at once
 pub at-least : (n a b : ℕ) → leb n a && leb n b ≡ true → (n ≤ a) × (n ≤ b)
 at-least n a b e = let p = both (leb n a) (leb n b) e in (leb-true n a (p .0), leb-true n b (p .1))
+
+pub at-least-three : (n a b c : ℕ) → leb n a && leb n b && leb n c ≡ true → (n ≤ a) × (n ≤ b) × (n ≤ c)
+at-least-three n a b c e =
+    let p = both (leb n a && leb n b) (leb n c) e in
+    let q = at-least n a b (p .0) in
+    (q .0, q .1, leb-true n c (p .1))
+
+-- a length that is asked for, and that is left
+pub sized : (size n len i r : ℕ) → r ≡ size → eqb r n && leb n (len - i) ≡ true → 0 < n → (size ≡ n) × (i + n ≤ len)
+sized size n len i r k e h = let p = both (eqb r n) (leb n (len - i)) e in (sym k ∙ eqb-true r n (p .0), omega (arith, leb-true n (len - i) (p .1)))
 
 module _ (s : List ℕ) (i : ℕ) where
   -- the bytes of a character, however long
@@ -299,6 +320,11 @@ module _ (s : List ℕ) (i : ℕ) where
   three-bytes h =
       let size : i + 1 + 1 + 1 - i ≡ 3 = omega arith in
       rw (size, take-cons s i 2 (omega arith), take-cons s (i + 1) 1 (omega arith), take-cons s (i + 1 + 1) 0 (omega arith)) refl
+
+  pub four-bytes : i + 4 ≤ length s → take (i + 1 + 1 + 1 + 1 - i) (drop i s) ≡ getD s i 0 ∷ getD s (i + 1) 0 ∷ getD s (i + 1 + 1) 0 ∷ getD s (i + 1 + 1 + 1) 0 ∷ []
+  four-bytes h =
+      let size : i + 1 + 1 + 1 + 1 - i ≡ 4 = omega arith in
+      rw (size, take-cons s i 3 (omega arith), take-cons s (i + 1) 2 (omega arith), take-cons s (i + 1 + 1) 1 (omega arith), take-cons s (i + 1 + 1 + 1) 0 (omega arith)) refl
 
 -- ---- turns, measured
 
@@ -327,16 +353,13 @@ module _ (s : List ℕ) where
       rw (spell-one b, gap-here left (byteCost b) f, left-here left (byteCost b) 63 f) at
       (turn s i left h hl (i + 1) (b ∷ []) (omega (arith, ascii-len b k)) (one-byte s i h))
 
-  pub measured-four : (i left n m : ℕ) → 4 ≤ length s - i → left ≤ 63
-      → getD s i 0 < 128 → ltb (getD s (i + 1) 0) 128 && ltb (getD s (i + 1 + 1) 0) 128 && ltb (getD s (i + 1 + 1 + 1) 0) 128 ≡ true
+  turned-four : (i left m : ℕ) → 4 ≤ length s - i → left ≤ 63
+      → getD s i 0 < 128 → getD s (i + 1) 0 < 128 → getD s (i + 1 + 1) 0 < 128 → getD s (i + 1 + 1 + 1) 0 < 128
       → m ≡ byteCost (getD s i 0) + byteCost (getD s (i + 1) 0) + byteCost (getD s (i + 1 + 1) 0) + byteCost (getD s (i + 1 + 1 + 1) 0)
-      → m ≤ left → MeasuredTurn s i left n (i + 1 + 1 + 1 + 1) (left - m) (n + m)
-  measured-four i left n m h hl a bcd hm f =
-      let p = both (ltb (getD s (i + 1) 0) 128 && ltb (getD s (i + 1 + 1) 0) 128) (ltb (getD s (i + 1 + 1 + 1) 0) 128) bcd in
-      let q = both (ltb (getD s (i + 1) 0) 128) (ltb (getD s (i + 1 + 1) 0) 128) (p .0) in
-      let b = ltb-true (getD s (i + 1) 0) 128 (q .0) in
-      let c = ltb-true (getD s (i + 1 + 1) 0) 128 (q .1) in
-      let d = ltb-true (getD s (i + 1 + 1 + 1) 0) 128 (p .1) in
+      → m ≤ left
+      → Turned s i left (i + 1 + 1 + 1 + 1) (left - m)
+      ((spellByte (getD s i 0) ++ spellByte (getD s (i + 1) 0)) ++ (spellByte (getD s (i + 1 + 1) 0) ++ spellByte (getD s (i + 1 + 1 + 1) 0)))
+  turned-four i left m h hl a b c d hm f =
       let x = byteCost (getD s i 0) in
       let y = byteCost (getD s (i + 1) 0) in
       let z = byteCost (getD s (i + 1 + 1) 0) in
@@ -346,10 +369,52 @@ module _ (s : List ℕ) where
       let t3 = turn-here (i + 1 + 1) (left - x - y) (omega arith) (omega arith) c (omega arith) in
       let t4 = turn-here (i + 1 + 1 + 1) (left - x - y - z) (omega arith) (omega arith) d (omega arith) in
       let rest : left - x - y - z - w ≡ left - m = omega arith in
+      rw rest at (turned-then (turned-then t1 t2) (turned-then t3 t4))
+
+  pub measured-four : (i left n m : ℕ) → 4 ≤ length s - i → left ≤ 63 → getD s i 0 < 128
+      → ltb (getD s (i + 1) 0) 128 && ltb (getD s (i + 1 + 1) 0) 128 && ltb (getD s (i + 1 + 1 + 1) 0) 128 ≡ true
+      → m ≡ byteCost (getD s i 0) + byteCost (getD s (i + 1) 0) + byteCost (getD s (i + 1 + 1) 0) + byteCost (getD s (i + 1 + 1 + 1) 0)
+      → m ≤ left → MeasuredTurn s i left n (i + 1 + 1 + 1 + 1) (left - m) (n + m)
+  measured-four i left n m h hl a bcd hm f =
+      let p = both (ltb (getD s (i + 1) 0) 128 && ltb (getD s (i + 1 + 1) 0) 128) (ltb (getD s (i + 1 + 1 + 1) 0) 128) bcd in
+      let q = both (ltb (getD s (i + 1) 0) 128) (ltb (getD s (i + 1 + 1) 0) 128) (p .0) in
+      let b = ltb-true (getD s (i + 1) 0) 128 (q .0) in
+      let c = ltb-true (getD s (i + 1 + 1) 0) 128 (q .1) in
+      let d = ltb-true (getD s (i + 1 + 1 + 1) 0) 128 (p .1) in
       record {
         text = _;
-        turned = rw rest at (turned-then (turned-then t1 t2) (turned-then t3 t4));
+        turned = turned-four i left m h hl a b c d hm f;
         size = rw (length-append, length-append, length-append) (omega arith);
+      }
+
+  -- four that take one character each
+  pub put-alone : (i left at x y z w : ℕ) {before after : List ℕ} {next : ℕ} → leb 4 left && leb 4 (length s - i) ≡ true → left ≤ 63
+      → getD s i 0 < 256 → getD s (i + 1) 0 < 256 → getD s (i + 1 + 1) 0 < 256 → getD s (i + 1 + 1 + 1) 0 < 256
+      → x ≡ byteCost (getD s i 0) → y ≡ byteCost (getD s (i + 1) 0) → z ≡ byteCost (getD s (i + 1 + 1) 0) → w ≡ byteCost (getD s (i + 1 + 1 + 1) 0)
+      → x + y + z + w ≡ 4
+      → Appended (alone (getD s i 0) ∷ alone (getD s (i + 1) 0) ∷ alone (getD s (i + 1 + 1) 0) ∷ alone (getD s (i + 1 + 1 + 1) 0) ∷ []) at before after next
+      → PutTurn s i left at before after (i + 1 + 1 + 1 + 1) (left - 4) next
+  put-alone i left at x y z w room hl ka kb kc kd hx hy hz hw sum v =
+      let p = both (leb 4 left) (leb 4 (length s - i)) room in
+      let a = getD s i 0 in
+      let b = getD s (i + 1) 0 in
+      let c = getD s (i + 1 + 1) 0 in
+      let d = getD s (i + 1 + 1 + 1) 0 in
+      let sa = spell-byte-some a in
+      let sb = spell-byte-some b in
+      let sc = spell-byte-some c in
+      let sd = spell-byte-some d in
+      let ea : byteCost a ≡ 1 = omega arith in
+      let eb : byteCost b ≡ 1 = omega arith in
+      let ec : byteCost c ≡ 1 = omega arith in
+      let ed : byteCost d ≡ 1 = omega arith in
+      record {
+        text = alone a ∷ alone b ∷ alone c ∷ alone d ∷ [];
+        turned = rw (spelt-alone a ea, spelt-alone b eb, spelt-alone c ec, spelt-alone d ed) at
+            (turned-four i left 4 (leb-true 4 (length s - i) (p .1)) hl (alone-ascii a ka ea) (alone-ascii b kb eb) (alone-ascii c kc ec) (alone-ascii d kd ed)
+            (omega arith) (leb-true 4 left (p .0)));
+        small = lit≤ tt;
+        wrote = v;
       }
 
 -- ---- turns, written
@@ -385,6 +450,9 @@ high-two a b h k h′ k′ = to-high a (b ∷ []) h k (to-high b [] h′ k′ tt
 pub high-three : (a b d : ℕ) → 128 ≤ a → a < 256 → 128 ≤ b → b < 256 → 128 ≤ d → d < 256 → T (all high (a ∷ b ∷ d ∷ []))
 high-three a b d h k h′ k′ h″ k″ = to-high a (b ∷ d ∷ []) h k (high-two b d h′ k′ h″ k″)
 
+pub high-four : (a b c d : ℕ) → 128 ≤ a → a < 256 → 128 ≤ b → b < 256 → 128 ≤ c → c < 256 → 128 ≤ d → d < 256 → T (all high (a ∷ b ∷ c ∷ d ∷ []))
+high-four a b c d h k h′ k′ h″ k″ h‴ k‴ = to-high a (b ∷ c ∷ d ∷ []) h k (high-three b c d h′ k′ h″ k″ h‴ k‴)
+
 -- room that is left after a text
 pub room-left : {t before after : List ℕ} {at r : ℕ} (k n : ℕ) → Appended t at before after r → length t ≤ k → at + (k + n) ≤ length before → r + n ≤ length after
 room-left k n a h f = omega (arith, a .place, length-appended a, h, f)
@@ -394,15 +462,15 @@ pub put-on : {whole s before mid after : List ℕ} {at₀ at i left i′ left′
     → PutTurn s i left at mid after i′ left′ at′ → Reached whole (onwardsAt s i′ left′) at₀ before after at′
 put-on g t = reached-then (t .text) _ g (t .turned .joins) (t .wrote)
 
-pub length-start : length start ≡ 13
-unfolding start
-length-start = refl
-
--- a row: its first start, what a loop has written, the last closing
-pub row-ended : (s : List ℕ) (i left : ℕ) {before begun mid after : List ℕ} {a n r : ℕ} → 0 < length s → length s ≤ i
-    → Appended start 0 before begun a → Reached (onwardsAt s 0 63) (onwardsAt s i left) a begun mid n → Appended closing n mid after r
+-- the row of a text that has something: a start, and what a loop writes from there
+pub row-wrote : (s : List ℕ) (i left : ℕ) {before begun mid after : List ℕ} {a n r : ℕ} → 0 < length s
+    → Wrote start before begun a → Reached (onwardsAt s 0 63) (onwardsAt s i left) a begun mid n → Appended (onwardsAt s i left) n mid after r
     → Wrote (rowIn 63 s) before after r
-row-ended s i left some h b g e = wrote-from (rw (row-start s some) (appended-then b (reached-last g (rw (onwards-end s i left h) e))))
+row-wrote s i left some b g e = wrote-from (rw (row-start s some) (appended-then (appended-from b) (reached-last g e)))
+
+pub onwards-ended : (s : List ℕ) (i left : ℕ) {whole before mid after : List ℕ} {at n r : ℕ} → length s ≤ i
+    → Reached whole (onwardsAt s i left) at before mid n → Appended closing n mid after r → Appended whole at before after r
+onwards-ended s i left h g e = reached-last g (rw (onwards-end s i left h) e)
 
 -- a turn that is written into a piece of its own, and copied from there
 pub copied-on : {whole s before mid after piece piece′ : List ℕ} {at₀ at i left i′ left′ n r : ℕ} → Reached whole (onwardsAt s i left) at₀ before mid at
@@ -416,3 +484,7 @@ copied-on {mid = mid} {after = after} {piece = piece} {piece′ = piece′} {at 
 
 pub put-within : {s piece piece′ : List ℕ} {i left i′ left′ n : ℕ} → PutTurn s i left 0 piece piece′ i′ left′ n → length piece ≡ 39 → n ≤ length piece′
 put-within t size = omega (arith, t .wrote .place, t .small, length-appended (t .wrote), size)
+
+-- the test of the loop that writes
+pub looping : (i n at last : ℕ) → ltb i n && leb at last ≡ true → (i < n) × (at ≤ last)
+looping i n at last e = let p = both (ltb i n) (leb at last) e in (ltb-true i n (p .0), leb-true at last (p .1))

@@ -69,6 +69,21 @@ fn three_bytes(costs: &[u8; 256], s: &[u8], i: usize, left: usize, n: usize) -> 
     with_cost(k + 1, left, n, m)
 }
 
+// A character of four bytes.
+fn four_bytes(costs: &[u8; 256], s: &[u8], i: usize, left: usize, n: usize) -> Measure
+    requires { ⌜ (now costs ≡ byteCosts) × (i + 4 ≤ length (now s)) × (left ≤ 63) × (n ≤ 1152921504606846976) × (charLen (getD (now s) i 0) ≡ 4) ⌝ }
+    ensures { λ r. ⌜ MeasuredTurn (now (s .entry)) i left n (r .i) (r .left) (r .n) ⌝ }
+{
+    let j = i + 1;
+    let k = j + 1;
+    let l = k + 1;
+    let m = byte_cost(costs, s[i])
+        + byte_cost(costs, s[j])
+        + byte_cost(costs, s[k])
+        + byte_cost(costs, s[l]);
+    with_cost(l + 1, left, n, m)
+}
+
 // An ASCII character, or four where they fit the open word together.
 fn ascii(costs: &[u8; 256], s: &[u8], i: usize, left: usize, n: usize) -> Measure
     requires { ⌜ (now costs ≡ byteCosts) × (i < length (now s)) × (left ≤ 63) × (n ≤ 1152921504606846976) × (getD (now s) i 0 < 128) ⌝ }
@@ -103,15 +118,14 @@ fn next(costs: &[u8; 256], s: &[u8], i: usize, left: usize, n: usize) -> Measure
         return ascii(costs, s, i, left, n);
     }
     let size = utf8::char_len(b);
-    if size == 2 {
-        if 2 <= s.len() - i {
-            return two_bytes(costs, s, i, left, n);
-        }
+    if (size == 2) & (2 <= s.len() - i) {
+        return two_bytes(costs, s, i, left, n);
     }
-    if size == 3 {
-        if 3 <= s.len() - i {
-            return three_bytes(costs, s, i, left, n);
-        }
+    if (size == 3) & (3 <= s.len() - i) {
+        return three_bytes(costs, s, i, left, n);
+    }
+    if (size == 4) & (4 <= s.len() - i) {
+        return four_bytes(costs, s, i, left, n);
     }
     any_char(costs, s, i, left, n)
 }

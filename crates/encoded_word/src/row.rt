@@ -1,21 +1,22 @@
 // A text's row, written into an output buffer.
 ghost use mathlib.Core.Path.{_≡_};
+ghost use mathlib.Core.List.{[], _∷_};
 ghost use Prim.Native.Nat.{_+_, _*_, _≤_, _<_};
 ghost use lib.ListN.{length, getD};
 ghost use Rattle.utf8.specs.Utf8.{charLen};
-ghost use Rattle.buffer.specs.Buffer.{Wrote};
+ghost use Rattle.buffer.specs.Buffer.{Wrote, Appended};
 ghost use Rattle.encoded_word.specs.Row.{row};
-ghost use Rattle.encoded_word.specs.Stream.{byteCosts, PutTurn};
+ghost use Rattle.encoded_word.specs.Stream.{alone, byteCosts, onwardsAt, PutTurn, Ran};
 use crate::measure::row_len;
+use crate::spelling::alone_of;
 use crate::spelling::byte_cost;
 use crate::spelling::char_cost;
 use crate::spelling::char_end;
 use crate::spelling::put_byte;
 use crate::spelling::put_char;
 use crate::spelling::put_escape;
+use crate::spelling::put_escapes;
 use crate::word::make_room;
-use crate::word::put_closing;
-use crate::word::put_start;
 
 // A place in the text, the room that is left in the open word, and a place in the output.
 pub(crate) struct Spot {
@@ -41,18 +42,49 @@ fn put_any(costs: &[u8; 256], out: &mut [u8], at: usize, left: usize, s: &[u8], 
     }
 }
 
-// An ASCII character.
+// Four characters that stand for one byte each.
+fn put_alone(out: &mut [u8], at: usize, a: u8, b: u8, c: u8, d: u8) -> usize
+    requires { ⌜ at + 4 ≤ length (now out) ⌝ }
+    ensures { λ r. ⌜ Appended (alone a ∷ alone b ∷ alone c ∷ alone d ∷ []) at (now (out .entry)) (now (out .exit)) r ⌝ }
+{
+    let second = at + 1;
+    let third = second + 1;
+    let fourth = third + 1;
+    out[at] = alone_of(a);
+    out[second] = alone_of(b);
+    out[third] = alone_of(c);
+    out[fourth] = alone_of(d);
+    fourth + 1
+}
+
+// An ASCII character, or four that take one character each where the open word has room for them.
 fn put_ascii(costs: &[u8; 256], out: &mut [u8], at: usize, left: usize, s: &[u8], i: usize) -> Spot
     requires { ⌜ (now costs ≡ byteCosts) × (i < length (now s)) × (left ≤ 63) × (at + 39 ≤ length (now out)) × (getD (now s) i 0 < 128) ⌝ }
     ensures { λ r. ⌜ PutTurn (now (s .entry)) i left at (now (out .entry)) (now (out .exit)) (r .i) (r .left) (r .at) ⌝ }
 {
-    let b = s[i];
-    let m = byte_cost(costs, b);
+    let a = s[i];
+    let m = byte_cost(costs, a);
+    let j = i + 1;
+    if (4 <= left) & (4 <= s.len() - i) {
+        let k = j + 1;
+        let l = k + 1;
+        let b = s[j];
+        let c = s[k];
+        let d = s[l];
+        if m + byte_cost(costs, b) + byte_cost(costs, c) + byte_cost(costs, d) == 4 {
+            let after = put_alone(out, at, a, b, c, d);
+            return Spot {
+                i: l + 1,
+                left: left - 4,
+                at: after,
+            };
+        }
+    }
     let open = make_room(out, at, left, m);
     let here = open.at;
-    let after = put_byte(out, here, b, m);
+    let after = put_byte(out, here, a, m);
     Spot {
-        i: i + 1,
+        i: j,
         left: open.left,
         at: after,
     }
@@ -68,8 +100,7 @@ fn put_two(out: &mut [u8], at: usize, left: usize, s: &[u8], i: usize) -> Spot
     let c = s[j];
     let open = make_room(out, at, left, 6);
     let here = open.at;
-    let second = put_escape(out, here, b);
-    let after = put_escape(out, second, c);
+    let after = put_escapes(out, here, b, c);
     Spot {
         i: j + 1,
         left: open.left,
@@ -89,8 +120,7 @@ fn put_three(out: &mut [u8], at: usize, left: usize, s: &[u8], i: usize) -> Spot
     let d = s[k];
     let open = make_room(out, at, left, 9);
     let here = open.at;
-    let second = put_escape(out, here, b);
-    let third = put_escape(out, second, c);
+    let third = put_escapes(out, here, b, c);
     let after = put_escape(out, third, d);
     Spot {
         i: k + 1,
@@ -99,62 +129,104 @@ fn put_three(out: &mut [u8], at: usize, left: usize, s: &[u8], i: usize) -> Spot
     }
 }
 
-// The next character.
-fn put_next(costs: &[u8; 256], out: &mut [u8], at: usize, left: usize, s: &[u8], i: usize) -> Spot
-    requires { ⌜ (now costs ≡ byteCosts) × (i < length (now s)) × (left ≤ 63) × (at + 39 ≤ length (now out)) ⌝ }
+// A character of four bytes, none of them ASCII.
+fn put_four(out: &mut [u8], at: usize, left: usize, s: &[u8], i: usize) -> Spot
+    requires { ⌜ (i + 4 ≤ length (now s)) × (left ≤ 63) × (at + 39 ≤ length (now out)) × (charLen (getD (now s) i 0) ≡ 4) × (128 ≤ getD (now s) i 0) × (128 ≤ getD (now s) (i + 1) 0) × (128 ≤ getD (now s) (i + 1 + 1) 0) × (128 ≤ getD (now s) (i + 1 + 1 + 1) 0) ⌝ }
     ensures { λ r. ⌜ PutTurn (now (s .entry)) i left at (now (out .entry)) (now (out .exit)) (r .i) (r .left) (r .at) ⌝ }
 {
-    let b = s[i];
-    if b < 128 {
-        return put_ascii(costs, out, at, left, s, i);
+    let j = i + 1;
+    let k = j + 1;
+    let l = k + 1;
+    let a = s[i];
+    let b = s[j];
+    let c = s[k];
+    let d = s[l];
+    let open = make_room(out, at, left, 12);
+    let here = open.at;
+    let third = put_escapes(out, here, a, b);
+    let after = put_escapes(out, third, c, d);
+    Spot {
+        i: l + 1,
+        left: open.left,
+        at: after,
     }
-    let size = utf8::char_len(b);
-    if size == 2 {
-        if 2 <= s.len() - i {
-            if 128 <= s[i + 1] {
-                return put_two(out, at, left, s, i);
-            }
+}
+
+// A character that is not ASCII.
+fn put_high(costs: &[u8; 256], out: &mut [u8], at: usize, left: usize, s: &[u8], i: usize) -> Spot
+    requires { ⌜ (now costs ≡ byteCosts) × (i < length (now s)) × (left ≤ 63) × (at + 39 ≤ length (now out)) × (128 ≤ getD (now s) i 0) ⌝ }
+    ensures { λ r. ⌜ PutTurn (now (s .entry)) i left at (now (out .entry)) (now (out .exit)) (r .i) (r .left) (r .at) ⌝ }
+{
+    let size = utf8::char_len(s[i]);
+    let j = i + 1;
+    if (size == 2) & (2 <= s.len() - i) {
+        if 128 <= s[j] {
+            return put_two(out, at, left, s, i);
         }
     }
-    if size == 3 {
-        if 3 <= s.len() - i {
-            let j = i + 1;
-            if (128 <= s[j]) & (128 <= s[j + 1]) {
-                return put_three(out, at, left, s, i);
-            }
+    if (size == 3) & (3 <= s.len() - i) {
+        if (128 <= s[j]) & (128 <= s[j + 1]) {
+            return put_three(out, at, left, s, i);
+        }
+    }
+    if (size == 4) & (4 <= s.len() - i) {
+        let k = j + 1;
+        if (128 <= s[j]) & (128 <= s[k]) & (128 <= s[k + 1]) {
+            return put_four(out, at, left, s, i);
         }
     }
     put_any(costs, out, at, left, s, i)
 }
 
-// The row, into a buffer that has room for it without a look at its bytes.
-fn put_whole(costs: &[u8; 256], out: &mut [u8], s: &[u8]) -> usize
-    requires { ⌜ (now costs ≡ byteCosts) × (0 < length (now s)) × (18 * length (now s) + 54 ≤ length (now out)) ⌝ }
-    ensures { λ r. ⌜ Wrote (row (now (s .entry))) (now (out .entry)) (now (out .exit)) r ⌝ }
+// The next character, or characters.
+fn put_next(costs: &[u8; 256], out: &mut [u8], at: usize, left: usize, s: &[u8], i: usize) -> Spot
+    requires { ⌜ (now costs ≡ byteCosts) × (i < length (now s)) × (left ≤ 63) × (at + 39 ≤ length (now out)) ⌝ }
+    ensures { λ r. ⌜ PutTurn (now (s .entry)) i left at (now (out .entry)) (now (out .exit)) (r .i) (r .left) (r .at) ⌝ }
 {
-    let mut at = put_start(out, 0);
-    let mut left = 63;
-    let mut i = 0;
-    while i < s.len() {
-        let r = put_next(costs, out, at, left, s, i);
-        i = r.i;
-        left = r.left;
-        at = r.at;
+    if s[i] < 128 {
+        return put_ascii(costs, out, at, left, s, i);
     }
-    put_closing(out, at)
+    put_high(costs, out, at, left, s, i)
 }
 
-// The row, as far as it fits: each character is written beside the buffer, and then copied.
-fn put_clipped(costs: &[u8; 256], out: &mut [u8], s: &[u8]) -> usize
-    requires { ⌜ (now costs ≡ byteCosts) × (0 < length (now s)) × (length (now s) ≤ 4294967296) ⌝ }
-    ensures { λ r. ⌜ Wrote (row (now (s .entry))) (now (out .entry)) (now (out .exit)) r ⌝ }
+// Characters from the start of the text on, as long as the buffer has room for the next whatever it is.
+fn put_while_roomy(costs: &[u8; 256], out: &mut [u8], start: usize, s: &[u8]) -> Spot
+    requires { ⌜ now costs ≡ byteCosts ⌝ }
+    ensures { λ r. ⌜ Ran (now (s .entry)) start (now (out .entry)) (now (out .exit)) (r .i) (r .left) (r .at) ⌝ }
+{
+    let mut i = 0;
+    let mut left = 63;
+    let mut at = start;
+    if 39 <= out.len() {
+        let last = out.len() - 39;
+        while (i < s.len()) & (at <= last) {
+            let r = put_next(costs, out, at, left, s, i);
+            i = r.i;
+            left = r.left;
+            at = r.at;
+        }
+    }
+    Spot { i, left, at }
+}
+
+// The characters from i on, clipped: each is written beside the buffer, and then copied as far as it fits.
+fn put_clipped(
+    costs: &[u8; 256],
+    out: &mut [u8],
+    start: usize,
+    room: usize,
+    s: &[u8],
+    first: usize,
+) -> usize
+    requires { ⌜ (now costs ≡ byteCosts) × (length (now s) ≤ 4294967296) × (first ≤ length (now s)) × (room ≤ 63) × (start ≤ 13 + 18 * first) ⌝ }
+    ensures { λ r. ⌜ Appended (onwardsAt (now (s .entry)) first room) start (now (out .entry)) (now (out .exit)) r ⌝ }
 {
     let mut piece = [0u8; 39];
-    let mut at = buffer::add_slice(out, 0, b"\r\n =?UTF-8?Q?");
-    let mut left = 63;
-    let mut i = 0;
+    let mut at = start;
+    let mut left = room;
+    let mut i = first;
     while i < s.len() {
-        let r = put_next(costs, &mut piece, 0, left, s, i);
+        let r = put_any(costs, &mut piece, 0, left, s, i);
         let n = r.at;
         at = buffer::add_slice(out, at, &piece[..n]);
         i = r.i;
@@ -173,8 +245,10 @@ pub(crate) fn put_row(costs: &[u8; 256], out: &mut [u8], s: &[u8]) -> usize
     if s.len() == 0 {
         return 0;
     }
-    if 18 * s.len() + 54 <= out.len() {
-        return put_whole(costs, out, s);
-    }
-    put_clipped(costs, out, s)
+    let started = buffer::put_slice(out, b"\r\n =?UTF-8?Q?");
+    let r = put_while_roomy(costs, out, started, s);
+    let i = r.i;
+    let left = r.left;
+    let at = r.at;
+    put_clipped(costs, out, at, left, s, i)
 }

@@ -1,5 +1,6 @@
 // Bytes in the spelling of a word.
 ghost use mathlib.Core.Path.{_≡_};
+ghost use mathlib.Core.List.{_++_};
 ghost use Prim.Native.Nat.{_+_, _*_, _≤_, _<_, min};
 ghost use lib.ListN.{length, getD};
 ghost use Rattle.utf8.specs.Utf8.{charLen};
@@ -56,7 +57,7 @@ pub(crate) fn char_cost(costs: &[u8; 256], c: &[u8]) -> usize
 }
 
 // The one character that stands for a byte that takes one.
-fn alone_of(b: u8) -> u8
+pub(crate) fn alone_of(b: u8) -> u8
     ensures { λ r. ⌜ r ≡ alone b ⌝ }
 {
     if b == 32 { 95 } else { b }
@@ -73,6 +74,15 @@ pub(crate) fn put_escape(out: &mut [u8], at: usize, b: u8) -> usize
     out[second] = hex_digit(b / 16);
     out[third] = hex_digit(b % 16);
     third + 1
+}
+
+// The same of two bytes.
+pub(crate) fn put_escapes(out: &mut [u8], at: usize, a: u8, b: u8) -> usize
+    requires { ⌜ at + 6 ≤ length (now out) ⌝ }
+    ensures { λ r. ⌜ Appended (escape a ++ escape b) at (now (out .entry)) (now (out .exit)) r ⌝ }
+{
+    let second = put_escape(out, at, a);
+    put_escape(out, second, b)
 }
 
 // Writes a byte that takes m characters.

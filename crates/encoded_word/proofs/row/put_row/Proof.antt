@@ -1,57 +1,53 @@
+use native.Mathlib.Omega.{arith}
 use Rattle.buffer.specs.BufferLaws.{wrote-empty, wrote-nothing}
-use Rattle.encoded_word.specs.StreamLaws.{row-nil}
+use Rattle.encoded_word.specs.Stream.{start}
+use Rattle.encoded_word.specs.StreamLaws.{row-nil, row-wrote}
 use borrow.Author.Needs.{needs}
 use Rattle.encoded_word.proofs.row.put_row.Statement.{statement}
 use Rattle.encoded_word.proofs.row.put_row.Tie as tie
 use Rattle.encoded_word.proofs.row.put_row.Reads as reads
 use Rattle.encoded_word.proofs.row.put_row.Lts as lts
+use Rattle.buffer.proofs.put_slice.Reads as put-slice-reads
 use Rattle.encoded_word.proofs.measure.row_len.Reads as row-len-reads
 use Rattle.encoded_word.proofs.row.put_clipped.Reads as put-clipped-reads
-use Rattle.encoded_word.proofs.row.put_whole.Reads as put-whole-reads
+use Rattle.encoded_word.proofs.row.put_while_roomy.Reads as put-while-roomy-reads
 
--- src/row.rt:172:9
+-- src/row.rt:236:9
 row-len-requires : tie.Need-row-len-requires
 row-len-requires c κs = search needs
 
--- src/row.rt:172:9
+-- src/row.rt:236:9
 returns : tie.Need-returns
 returns c = wrote-empty (c .before .if1 .taken) (c .row-len .ensures)
 
--- src/row.rt:175:9
+-- src/row.rt:239:9
 returns-2 : tie.Need-returns-2
 returns-2 c = rw (row-nil _ (c .if2 .taken)) (wrote-nothing _)
 
--- src/row.rt:177:8
-mul-if3 : tie.Need-mul-if3
-mul-if3 c = search needs
+-- src/row.rt:241:42
+slice-aggregate-put-slice : tie.Need-slice-aggregate-put-slice
+slice-aggregate-put-slice c = search needs
 
--- src/row.rt:177:8
-add-if3 : tie.Need-add-if3
-add-if3 c = search needs
+-- src/row.rt:241:9
+put-slice-requires : tie.Need-put-slice-requires
+put-slice-requires c κs = search needs
 
--- src/row.rt:178:9
-put-whole-requires : tie.Need-put-whole-requires
-put-whole-requires c κs = search needs
+-- src/row.rt:242:9
+put-while-roomy-requires : tie.Need-put-while-roomy-requires
+put-while-roomy-requires c κs = search needs
 
--- src/row.rt:178:9
-same-length : tie.Need-same-length
-same-length c = search needs
-
--- src/row.rt:178:9
-returns-3 : tie.Need-returns-3
-returns-3 c = search needs
-
--- src/row.rt:180:5
+-- src/row.rt:246:5
 put-clipped-requires : tie.Need-put-clipped-requires
 put-clipped-requires c κs = search needs
 
--- src/row.rt:167:1
-same-length-2 : tie.Need-same-length-2
-same-length-2 c = search needs
+-- src/row.rt:231:1
+same-length : tie.Need-same-length
+same-length c = search needs
 
--- src/row.rt:167:1
-returns-4 : tie.Need-returns-4
-returns-4 c = search needs
+-- src/row.rt:231:1
+returns-3 : tie.Need-returns-3
+unfolding start
+returns-3 c = row-wrote _ (c .before .before .before .before .before .before .put-while-roomy .result .i) (c .before .before .before .before .before .before .put-while-roomy .result .left) (omega arith) (c .before .before .before .before .before .before .before .before .before .before .put-slice .ensures) (c .before .before .before .before .before .before .put-while-roomy .ensures .reached) (c .before .before .put-clipped .ensures)
 
 pub put-row-spec : {M : Type 1} → statement M
 put-row-spec =
@@ -60,11 +56,9 @@ put-row-spec =
     row-len-requires
     returns
     returns-2
-    mul-if3
-    add-if3
-    put-whole-requires
-    same-length
-    returns-3
+    slice-aggregate-put-slice
+    put-slice-requires
+    put-while-roomy-requires
     put-clipped-requires
-    same-length-2
-    returns-4)
+    same-length
+    returns-3)

@@ -1,67 +1,63 @@
-use Rattle.encoded_word.specs.StreamLaws.{put-high, three-bytes, high-three, length-gap, room-left}
 use lib.Dec.{lit≤}
 use Prim.Native.Nat.{_+_}
-use native.Mathlib.Omega.{arith}
-use mathlib.Core.List.{[], _∷_}
 use mathlib.Core.Path.{refl}
+use native.Mathlib.Omega.{arith}
 use Rattle.buffer.specs.BufferLaws.{appended-then}
+use Rattle.encoded_word.specs.StreamLaws.{put-high, three-bytes, high-three, length-gap, room-left}
 use borrow.Author.Needs.{needs}
 use Rattle.encoded_word.proofs.row.put_three.Statement.{statement}
 use Rattle.encoded_word.proofs.row.put_three.Tie as tie
 use Rattle.encoded_word.proofs.row.put_three.Reads as reads
 use Rattle.encoded_word.proofs.row.put_three.Lts as lts
 use Rattle.encoded_word.proofs.spelling.put_escape.Reads as put-escape-reads
+use Rattle.encoded_word.proofs.spelling.put_escapes.Reads as put-escapes-reads
 use Rattle.encoded_word.proofs.word.make_room.Reads as make-room-reads
 
--- src/row.rt:85:13
+-- src/row.rt:116:13
 add-j : tie.Need-add-j
 add-j c = search needs
 
--- src/row.rt:86:13
+-- src/row.rt:117:13
 add-k : tie.Need-add-k
 add-k c = search needs
 
--- src/row.rt:87:13
+-- src/row.rt:118:13
 shared-slice-read-b : tie.Need-shared-slice-read-b
 shared-slice-read-b c = search needs
 
--- src/row.rt:88:13
+-- src/row.rt:119:13
 shared-slice-read-c : tie.Need-shared-slice-read-c
 shared-slice-read-c c = search needs
 
--- src/row.rt:89:13
+-- src/row.rt:120:13
 shared-slice-read-d : tie.Need-shared-slice-read-d
 shared-slice-read-d c = search needs
 
--- src/row.rt:90:9
+-- src/row.rt:121:9
 make-room-requires : tie.Need-make-room-requires
 make-room-requires c κs = search needs
 
--- src/row.rt:92:9
+-- src/row.rt:123:9
+put-escapes-requires : tie.Need-put-escapes-requires
+put-escapes-requires c κs = room-left 15 6 (c .before .before .before .make-room .ensures .1) (length-gap _ _) (omega arith)
+
+-- src/row.rt:124:9
 put-escape-requires : tie.Need-put-escape-requires
-put-escape-requires c κs = room-left 15 3 (c .before .before .before .make-room .ensures .1) (length-gap _ _) (omega arith)
+put-escape-requires c κs = room-left 6 3 (c .before .before .before .put-escapes .ensures) (lit≤ tt) (room-left 15 9 (c .before .before .before .before .before .before .before .make-room .ensures .1) (length-gap _ _) (omega arith))
 
--- src/row.rt:93:9
-put-escape-requires-2 : tie.Need-put-escape-requires-2
-put-escape-requires-2 c κs = room-left 3 3 (c .before .before .before .put-escape .ensures) (lit≤ tt) (room-left 15 6 (c .before .before .before .before .before .before .before .make-room .ensures .1) (length-gap _ _) (omega arith))
+-- src/row.rt:126:12
+add-t25 : tie.Need-add-t25
+add-t25 c = search needs
 
--- src/row.rt:94:9
-put-escape-requires-3 : tie.Need-put-escape-requires-3
-put-escape-requires-3 c κs = room-left 3 3 (c .before .before .before .put-escape2 .ensures) (lit≤ tt) (room-left 3 6 (c .before .before .before .before .before .before .before .put-escape .ensures) (lit≤ tt) (room-left 15 9 (c .before .before .before .before .before .before .before .before .before .before .before .make-room .ensures .1) (length-gap _ _) (omega arith)))
-
--- src/row.rt:96:12
-add-t28 : tie.Need-add-t28
-add-t28 c = search needs
-
--- src/row.rt:81:1
+-- src/row.rt:112:1
 same-length : tie.Need-same-length
 same-length c = search needs
 
--- src/row.rt:81:1
+-- src/row.rt:112:1
 returns : tie.Need-returns
-returns c = let known = c .before .before .before .before .before .before .before .before .before .before .before .before .before .before .before .before .before .before .before .shared-slice-known .given in
-    let i = c .before .before .before .before .before .before .before .before .before .before .before .before .before .before .before .before .before .before .before .before .before .args .i in
-    put-high _ i _ _ (omega arith) (c .before .before .before .before .before .before .before .before .before .before .before .before .before .before .before .before .before .before .before .before .before .pre .1) _ (omega arith) (three-bytes _ _ (c .before .before .before .before .before .before .before .before .before .before .before .before .before .before .before .before .before .before .before .before .before .pre .0)) (high-three _ _ _ (c .before .before .before .before .before .before .before .before .before .before .before .before .before .before .before .before .before .before .before .before .before .pre .4) (omega (arith, known i)) (c .before .before .before .before .before .before .before .before .before .before .before .before .before .before .before .before .before .before .before .before .before .pre .5) (omega (arith, known (i + 1))) (c .before .before .before .before .before .before .before .before .before .before .before .before .before .before .before .before .before .before .before .before .before .pre .6) (omega (arith, known (i + 1 + 1)))) refl (c .before .before .before .before .before .before .before .before .before .before .before .before .before .before .make-room .ensures .0) (c .before .before .before .before .before .before .before .before .before .before .before .before .before .before .make-room .ensures .1) (appended-then (c .before .before .before .before .before .before .before .before .before .before .put-escape .ensures) (appended-then (c .before .before .before .before .before .before .put-escape2 .ensures) (c .before .before .put-escape3 .ensures)))
+returns c = let known = c .before .before .before .before .before .before .before .before .before .before .before .before .before .before .before .shared-slice-known .given in
+    let i = c .before .before .before .before .before .before .before .before .before .before .before .before .before .before .before .before .before .args .i in
+    put-high _ i _ _ (omega arith) (c .before .before .before .before .before .before .before .before .before .before .before .before .before .before .before .before .before .pre .1) _ (omega arith) (three-bytes _ _ (c .before .before .before .before .before .before .before .before .before .before .before .before .before .before .before .before .before .pre .0)) (high-three _ _ _ (c .before .before .before .before .before .before .before .before .before .before .before .before .before .before .before .before .before .pre .4) (omega (arith, known i)) (c .before .before .before .before .before .before .before .before .before .before .before .before .before .before .before .before .before .pre .5) (omega (arith, known (i + 1))) (c .before .before .before .before .before .before .before .before .before .before .before .before .before .before .before .before .before .pre .6) (omega (arith, known (i + 1 + 1)))) refl (c .before .before .before .before .before .before .before .before .before .before .make-room .ensures .0) (c .before .before .before .before .before .before .before .before .before .before .make-room .ensures .1) (appended-then (c .before .before .before .before .before .before .put-escapes .ensures) (c .before .before .put-escape .ensures))
 
 pub put-three-spec : {M : Type 1} → statement M
 put-three-spec =
@@ -73,9 +69,8 @@ put-three-spec =
     shared-slice-read-c
     shared-slice-read-d
     make-room-requires
+    put-escapes-requires
     put-escape-requires
-    put-escape-requires-2
-    put-escape-requires-3
-    add-t28
+    add-t25
     same-length
     returns)
