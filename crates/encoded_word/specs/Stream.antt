@@ -7,7 +7,7 @@ use lib.Dec.{leb, eqb}
 use lib.ListN.{length, drop}
 use Rattle.utf8.specs.Utf8.{chars, charLen}
 use Rattle.buffer.specs.Buffer.{Appended, Reached}
-use Rattle.encoded_word.specs.Spelling.{spellByte, spell}
+use Rattle.encoded_word.specs.Spelling.{hexDigit, spellByte, spell}
 use Rattle.encoded_word.specs.Reading.{opening, closing}
 
 -- how many characters of a word some bytes take, and a byte takes
@@ -37,10 +37,13 @@ onwards room left (c ∷ cs) = (gap left (cost c) ++ spell c) ++ onwards room (l
 abbrev pub onwardsAt : List ℕ → ℕ → ℕ → List ℕ
 onwardsAt s i left = onwards 63 left (chars (drop i s))
 
--- the table of byteCost
+-- the table of n values of a function, from k on
 unfoldable pub from : (ℕ → ℕ) → ℕ → ℕ → List ℕ
 from f k zero = []
 from f k (suc n) = f k ∷ from f (suc k) n
+
+unfoldable pub hexDigits : List ℕ
+hexDigits = from hexDigit 0 16
 
 unfoldable pub byteCosts : List ℕ
 byteCosts = from byteCost 0 256

@@ -19,11 +19,11 @@ use Rattle.buffer.specs.BufferLaws.{overlay-front, wrote-from, appended-from, a
 use Rattle.utf8.specs.Utf8Laws.{char-len-some, char-len-le, chars-cons, chars-at, chars-end, chars-nil}
 use Rattle.encoded_word.specs.Cut.{cut}
 use Rattle.encoded_word.specs.CutLaws.{cut-more, cut-next}
-use Rattle.encoded_word.specs.Spelling.{bare, escape, spellByte, spell}
+use Rattle.encoded_word.specs.Spelling.{bare, hexDigit, escape, spellByte, spell}
 use Rattle.encoded_word.specs.SpellingLaws.{spell-byte-some, spell-append, spell-bare, spell-space, spell-hex, spell-one, spell-at, spell-end, length-spell, length-spell-append, length-spell-byte, high, escapes, spell-high, length-escapes}
 use Rattle.encoded_word.specs.Reading.{opening, closing}
 use Rattle.encoded_word.specs.Row.{fitsRoom, runs, word, lines, rowIn, bounded}
-use Rattle.encoded_word.specs.Stream.{cost, start, gap, leftAfter, onwards, onwardsAt, byteCost, byteCosts, from, alone, Turned, MeasuredTurn, PutTurn}
+use Rattle.encoded_word.specs.Stream.{cost, start, gap, leftAfter, onwards, onwardsAt, byteCost, byteCosts, hexDigits, from, alone, Turned, MeasuredTurn, PutTurn}
 
 -- ---- the room in the open word
 
@@ -242,6 +242,10 @@ unfolding from
 from-at f k zero j h = absurd (not-suc-le-zero h)
 from-at f k (suc n) zero h = ap f (sym (add-zero k))
 from-at f k (suc n) (suc j) h = from-at f (suc k) n j (le-of-suc-le-suc h) ∙ ap f (suc-add k j ∙ sym (add-suc k j))
+
+pub hex-digits-at : (d : ℕ) → d < 16 → getD hexDigits d 0 ≡ hexDigit d
+unfolding hexDigits
+hex-digits-at d h = from-at hexDigit 0 16 d h ∙ ap hexDigit (zero-add d)
 
 pub byte-costs-at : (b : ℕ) → b < 256 → getD byteCosts b 0 ≡ byteCost b
 unfolding byteCosts

@@ -272,6 +272,9 @@ const BYTE_COSTS: [u8; 256] = [
     3,
 ];
 
+// The hex digits.
+const HEX_DIGITS: [u8; 16] = *b"0123456789ABCDEF";
+
 // Writes a text's row to the front of out, as far as it fits; answers the length of the whole row.
 pub fn write(out: &mut [u8], text: &[u8]) -> usize
     ensures { λ r. ⌜ Wrote (row (bounded (now (text .entry)))) (now (out .entry)) (now (out .exit)) r ⌝ }
@@ -279,7 +282,7 @@ pub fn write(out: &mut [u8], text: &[u8]) -> usize
     if LIMIT < text.len() {
         return 0;
     }
-    row::put_row(&BYTE_COSTS, out, text)
+    row::put_row(&BYTE_COSTS, &HEX_DIGITS, out, text)
 }
 
 // The length of a text's row.

@@ -6,7 +6,7 @@ ghost use lib.ListN.{length, getD};
 ghost use Rattle.utf8.specs.Utf8.{charLen};
 ghost use Rattle.buffer.specs.Buffer.{Wrote, Appended};
 ghost use Rattle.encoded_word.specs.Row.{row};
-ghost use Rattle.encoded_word.specs.Stream.{alone, byteCosts, onwardsAt, PutTurn, Ran};
+ghost use Rattle.encoded_word.specs.Stream.{alone, byteCosts, hexDigits, onwardsAt, PutTurn, Ran};
 use crate::measure::row_len;
 use crate::spelling::alone_of;
 use crate::spelling::byte_cost;
@@ -26,15 +26,23 @@ pub(crate) struct Spot {
 }
 
 // A character of any length, cut at the end of the text.
-fn put_any(costs: &[u8; 256], out: &mut [u8], at: usize, left: usize, s: &[u8], i: usize) -> Spot
-    requires { ⌜ (now costs ≡ byteCosts) × (i < length (now s)) × (left ≤ 63) × (at + 39 ≤ length (now out)) ⌝ }
+fn put_any(
+    costs: &[u8; 256],
+    hex: &[u8; 16],
+    out: &mut [u8],
+    at: usize,
+    left: usize,
+    s: &[u8],
+    i: usize,
+) -> Spot
+    requires { ⌜ (now costs ≡ byteCosts) × (i < length (now s)) × (left ≤ 63) × (at + 39 ≤ length (now out)) × (now hex ≡ hexDigits) ⌝ }
     ensures { λ r. ⌜ PutTurn (now (s .entry)) i left at (now (out .entry)) (now (out .exit)) (r .i) (r .left) (r .at) ⌝ }
 {
     let e = char_end(s, i);
     let m = char_cost(costs, &s[i..e]);
     let open = make_room(out, at, left, m);
     let here = open.at;
-    let after = put_char(costs, out, here, &s[i..e]);
+    let after = put_char(costs, hex, out, here, &s[i..e]);
     Spot {
         i: e,
         left: open.left,
@@ -58,8 +66,16 @@ fn put_alone(out: &mut [u8], at: usize, a: u8, b: u8, c: u8, d: u8) -> usize
 }
 
 // An ASCII character, or four that take one character each where the open word has room for them.
-fn put_ascii(costs: &[u8; 256], out: &mut [u8], at: usize, left: usize, s: &[u8], i: usize) -> Spot
-    requires { ⌜ (now costs ≡ byteCosts) × (i < length (now s)) × (left ≤ 63) × (at + 39 ≤ length (now out)) × (getD (now s) i 0 < 128) ⌝ }
+fn put_ascii(
+    costs: &[u8; 256],
+    hex: &[u8; 16],
+    out: &mut [u8],
+    at: usize,
+    left: usize,
+    s: &[u8],
+    i: usize,
+) -> Spot
+    requires { ⌜ (now costs ≡ byteCosts) × (i < length (now s)) × (left ≤ 63) × (at + 39 ≤ length (now out)) × (getD (now s) i 0 < 128) × (now hex ≡ hexDigits) ⌝ }
     ensures { λ r. ⌜ PutTurn (now (s .entry)) i left at (now (out .entry)) (now (out .exit)) (r .i) (r .left) (r .at) ⌝ }
 {
     let a = s[i];
@@ -73,16 +89,18 @@ fn put_ascii(costs: &[u8; 256], out: &mut [u8], at: usize, left: usize, s: &[u8]
         let d = s[l];
         if m + byte_cost(costs, b) + byte_cost(costs, c) + byte_cost(costs, d) == 4 {
             let after = put_alone(out, at, a, b, c, d);
+            let next = l + 1;
+            let rest = left - 4;
             return Spot {
-                i: l + 1,
-                left: left - 4,
+                i: next,
+                left: rest,
                 at: after,
             };
         }
     }
     let open = make_room(out, at, left, m);
     let here = open.at;
-    let after = put_byte(out, here, a, m);
+    let after = put_byte(hex, out, here, a, m);
     Spot {
         i: j,
         left: open.left,
@@ -91,8 +109,8 @@ fn put_ascii(costs: &[u8; 256], out: &mut [u8], at: usize, left: usize, s: &[u8]
 }
 
 // A character of two bytes, neither of them ASCII.
-fn put_two(out: &mut [u8], at: usize, left: usize, s: &[u8], i: usize) -> Spot
-    requires { ⌜ (i + 2 ≤ length (now s)) × (left ≤ 63) × (at + 39 ≤ length (now out)) × (charLen (getD (now s) i 0) ≡ 2) × (128 ≤ getD (now s) i 0) × (128 ≤ getD (now s) (i + 1) 0) ⌝ }
+fn put_two(hex: &[u8; 16], out: &mut [u8], at: usize, left: usize, s: &[u8], i: usize) -> Spot
+    requires { ⌜ (i + 2 ≤ length (now s)) × (left ≤ 63) × (at + 39 ≤ length (now out)) × (charLen (getD (now s) i 0) ≡ 2) × (128 ≤ getD (now s) i 0) × (128 ≤ getD (now s) (i + 1) 0) × (now hex ≡ hexDigits) ⌝ }
     ensures { λ r. ⌜ PutTurn (now (s .entry)) i left at (now (out .entry)) (now (out .exit)) (r .i) (r .left) (r .at) ⌝ }
 {
     let j = i + 1;
@@ -100,17 +118,18 @@ fn put_two(out: &mut [u8], at: usize, left: usize, s: &[u8], i: usize) -> Spot
     let c = s[j];
     let open = make_room(out, at, left, 6);
     let here = open.at;
-    let after = put_escapes(out, here, b, c);
+    let after = put_escapes(hex, out, here, b, c);
+    let next = j + 1;
     Spot {
-        i: j + 1,
+        i: next,
         left: open.left,
         at: after,
     }
 }
 
 // A character of three bytes, none of them ASCII.
-fn put_three(out: &mut [u8], at: usize, left: usize, s: &[u8], i: usize) -> Spot
-    requires { ⌜ (i + 3 ≤ length (now s)) × (left ≤ 63) × (at + 39 ≤ length (now out)) × (charLen (getD (now s) i 0) ≡ 3) × (128 ≤ getD (now s) i 0) × (128 ≤ getD (now s) (i + 1) 0) × (128 ≤ getD (now s) (i + 1 + 1) 0) ⌝ }
+fn put_three(hex: &[u8; 16], out: &mut [u8], at: usize, left: usize, s: &[u8], i: usize) -> Spot
+    requires { ⌜ (i + 3 ≤ length (now s)) × (left ≤ 63) × (at + 39 ≤ length (now out)) × (charLen (getD (now s) i 0) ≡ 3) × (128 ≤ getD (now s) i 0) × (128 ≤ getD (now s) (i + 1) 0) × (128 ≤ getD (now s) (i + 1 + 1) 0) × (now hex ≡ hexDigits) ⌝ }
     ensures { λ r. ⌜ PutTurn (now (s .entry)) i left at (now (out .entry)) (now (out .exit)) (r .i) (r .left) (r .at) ⌝ }
 {
     let j = i + 1;
@@ -120,18 +139,19 @@ fn put_three(out: &mut [u8], at: usize, left: usize, s: &[u8], i: usize) -> Spot
     let d = s[k];
     let open = make_room(out, at, left, 9);
     let here = open.at;
-    let third = put_escapes(out, here, b, c);
-    let after = put_escape(out, third, d);
+    let third = put_escapes(hex, out, here, b, c);
+    let after = put_escape(hex, out, third, d);
+    let next = k + 1;
     Spot {
-        i: k + 1,
+        i: next,
         left: open.left,
         at: after,
     }
 }
 
 // A character of four bytes, none of them ASCII.
-fn put_four(out: &mut [u8], at: usize, left: usize, s: &[u8], i: usize) -> Spot
-    requires { ⌜ (i + 4 ≤ length (now s)) × (left ≤ 63) × (at + 39 ≤ length (now out)) × (charLen (getD (now s) i 0) ≡ 4) × (128 ≤ getD (now s) i 0) × (128 ≤ getD (now s) (i + 1) 0) × (128 ≤ getD (now s) (i + 1 + 1) 0) × (128 ≤ getD (now s) (i + 1 + 1 + 1) 0) ⌝ }
+fn put_four(hex: &[u8; 16], out: &mut [u8], at: usize, left: usize, s: &[u8], i: usize) -> Spot
+    requires { ⌜ (i + 4 ≤ length (now s)) × (left ≤ 63) × (at + 39 ≤ length (now out)) × (charLen (getD (now s) i 0) ≡ 4) × (128 ≤ getD (now s) i 0) × (128 ≤ getD (now s) (i + 1) 0) × (128 ≤ getD (now s) (i + 1 + 1) 0) × (128 ≤ getD (now s) (i + 1 + 1 + 1) 0) × (now hex ≡ hexDigits) ⌝ }
     ensures { λ r. ⌜ PutTurn (now (s .entry)) i left at (now (out .entry)) (now (out .exit)) (r .i) (r .left) (r .at) ⌝ }
 {
     let j = i + 1;
@@ -143,55 +163,78 @@ fn put_four(out: &mut [u8], at: usize, left: usize, s: &[u8], i: usize) -> Spot
     let d = s[l];
     let open = make_room(out, at, left, 12);
     let here = open.at;
-    let third = put_escapes(out, here, a, b);
-    let after = put_escapes(out, third, c, d);
+    let third = put_escapes(hex, out, here, a, b);
+    let after = put_escapes(hex, out, third, c, d);
+    let next = l + 1;
     Spot {
-        i: l + 1,
+        i: next,
         left: open.left,
         at: after,
     }
 }
 
 // A character that is not ASCII.
-fn put_high(costs: &[u8; 256], out: &mut [u8], at: usize, left: usize, s: &[u8], i: usize) -> Spot
-    requires { ⌜ (now costs ≡ byteCosts) × (i < length (now s)) × (left ≤ 63) × (at + 39 ≤ length (now out)) × (128 ≤ getD (now s) i 0) ⌝ }
+fn put_high(
+    costs: &[u8; 256],
+    hex: &[u8; 16],
+    out: &mut [u8],
+    at: usize,
+    left: usize,
+    s: &[u8],
+    i: usize,
+) -> Spot
+    requires { ⌜ (now costs ≡ byteCosts) × (i < length (now s)) × (left ≤ 63) × (at + 39 ≤ length (now out)) × (128 ≤ getD (now s) i 0) × (now hex ≡ hexDigits) ⌝ }
     ensures { λ r. ⌜ PutTurn (now (s .entry)) i left at (now (out .entry)) (now (out .exit)) (r .i) (r .left) (r .at) ⌝ }
 {
     let size = utf8::char_len(s[i]);
     let j = i + 1;
     if (size == 2) & (2 <= s.len() - i) {
         if 128 <= s[j] {
-            return put_two(out, at, left, s, i);
+            return put_two(hex, out, at, left, s, i);
         }
     }
     if (size == 3) & (3 <= s.len() - i) {
         if (128 <= s[j]) & (128 <= s[j + 1]) {
-            return put_three(out, at, left, s, i);
+            return put_three(hex, out, at, left, s, i);
         }
     }
     if (size == 4) & (4 <= s.len() - i) {
         let k = j + 1;
         if (128 <= s[j]) & (128 <= s[k]) & (128 <= s[k + 1]) {
-            return put_four(out, at, left, s, i);
+            return put_four(hex, out, at, left, s, i);
         }
     }
-    put_any(costs, out, at, left, s, i)
+    put_any(costs, hex, out, at, left, s, i)
 }
 
 // The next character, or characters.
-fn put_next(costs: &[u8; 256], out: &mut [u8], at: usize, left: usize, s: &[u8], i: usize) -> Spot
-    requires { ⌜ (now costs ≡ byteCosts) × (i < length (now s)) × (left ≤ 63) × (at + 39 ≤ length (now out)) ⌝ }
+fn put_next(
+    costs: &[u8; 256],
+    hex: &[u8; 16],
+    out: &mut [u8],
+    at: usize,
+    left: usize,
+    s: &[u8],
+    i: usize,
+) -> Spot
+    requires { ⌜ (now costs ≡ byteCosts) × (i < length (now s)) × (left ≤ 63) × (at + 39 ≤ length (now out)) × (now hex ≡ hexDigits) ⌝ }
     ensures { λ r. ⌜ PutTurn (now (s .entry)) i left at (now (out .entry)) (now (out .exit)) (r .i) (r .left) (r .at) ⌝ }
 {
     if s[i] < 128 {
-        return put_ascii(costs, out, at, left, s, i);
+        return put_ascii(costs, hex, out, at, left, s, i);
     }
-    put_high(costs, out, at, left, s, i)
+    put_high(costs, hex, out, at, left, s, i)
 }
 
 // Characters from the start of the text on, as long as the buffer has room for the next whatever it is.
-fn put_while_roomy(costs: &[u8; 256], out: &mut [u8], start: usize, s: &[u8]) -> Spot
-    requires { ⌜ now costs ≡ byteCosts ⌝ }
+fn put_while_roomy(
+    costs: &[u8; 256],
+    hex: &[u8; 16],
+    out: &mut [u8],
+    start: usize,
+    s: &[u8],
+) -> Spot
+    requires { ⌜ (now costs ≡ byteCosts) × (now hex ≡ hexDigits) ⌝ }
     ensures { λ r. ⌜ Ran (now (s .entry)) start (now (out .entry)) (now (out .exit)) (r .i) (r .left) (r .at) ⌝ }
 {
     let mut i = 0;
@@ -200,7 +243,7 @@ fn put_while_roomy(costs: &[u8; 256], out: &mut [u8], start: usize, s: &[u8]) ->
     if 39 <= out.len() {
         let last = out.len() - 39;
         while (i < s.len()) & (at <= last) {
-            let r = put_next(costs, out, at, left, s, i);
+            let r = put_next(costs, hex, out, at, left, s, i);
             i = r.i;
             left = r.left;
             at = r.at;
@@ -212,13 +255,14 @@ fn put_while_roomy(costs: &[u8; 256], out: &mut [u8], start: usize, s: &[u8]) ->
 // The characters from i on, clipped: each is written beside the buffer, and then copied as far as it fits.
 fn put_clipped(
     costs: &[u8; 256],
+    hex: &[u8; 16],
     out: &mut [u8],
     start: usize,
     room: usize,
     s: &[u8],
     first: usize,
 ) -> usize
-    requires { ⌜ (now costs ≡ byteCosts) × (length (now s) ≤ 4294967296) × (first ≤ length (now s)) × (room ≤ 63) × (start ≤ 13 + 18 * first) ⌝ }
+    requires { ⌜ (now costs ≡ byteCosts) × (length (now s) ≤ 4294967296) × (first ≤ length (now s)) × (room ≤ 63) × (start ≤ 13 + 18 * first) × (now hex ≡ hexDigits) ⌝ }
     ensures { λ r. ⌜ Appended (onwardsAt (now (s .entry)) first room) start (now (out .entry)) (now (out .exit)) r ⌝ }
 {
     let mut piece = [0u8; 39];
@@ -226,7 +270,7 @@ fn put_clipped(
     let mut left = room;
     let mut i = first;
     while i < s.len() {
-        let r = put_any(costs, &mut piece, 0, left, s, i);
+        let r = put_any(costs, hex, &mut piece, 0, left, s, i);
         let n = r.at;
         at = buffer::add_slice(out, at, &piece[..n]);
         i = r.i;
@@ -235,8 +279,8 @@ fn put_clipped(
     buffer::add_slice(out, at, b"?=")
 }
 
-pub(crate) fn put_row(costs: &[u8; 256], out: &mut [u8], s: &[u8]) -> usize
-    requires { ⌜ (now costs ≡ byteCosts) × (length (now s) ≤ 4294967296) ⌝ }
+pub(crate) fn put_row(costs: &[u8; 256], hex: &[u8; 16], out: &mut [u8], s: &[u8]) -> usize
+    requires { ⌜ (now costs ≡ byteCosts) × (length (now s) ≤ 4294967296) × (now hex ≡ hexDigits) ⌝ }
     ensures { λ r. ⌜ Wrote (row (now (s .entry))) (now (out .entry)) (now (out .exit)) r ⌝ }
 {
     if out.len() == 0 {
@@ -246,9 +290,9 @@ pub(crate) fn put_row(costs: &[u8; 256], out: &mut [u8], s: &[u8]) -> usize
         return 0;
     }
     let started = buffer::put_slice(out, b"\r\n =?UTF-8?Q?");
-    let r = put_while_roomy(costs, out, started, s);
+    let r = put_while_roomy(costs, hex, out, started, s);
     let i = r.i;
     let left = r.left;
     let at = r.at;
-    put_clipped(costs, out, at, left, s, i)
+    put_clipped(costs, hex, out, at, left, s, i)
 }

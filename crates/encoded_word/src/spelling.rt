@@ -6,7 +6,7 @@ ghost use lib.ListN.{length, getD};
 ghost use Rattle.utf8.specs.Utf8.{charLen};
 ghost use Rattle.buffer.specs.Buffer.{Appended};
 ghost use Rattle.encoded_word.specs.Spelling.{hexDigit, escape, spellByte, spell};
-ghost use Rattle.encoded_word.specs.Stream.{byteCost, byteCosts, cost, alone};
+ghost use Rattle.encoded_word.specs.Stream.{byteCost, byteCosts, hexDigits, cost, alone};
 
 fn wide(b: u8) -> usize
     ensures { λ r. ⌜ r ≡ b ⌝ }
@@ -14,12 +14,12 @@ fn wide(b: u8) -> usize
     b as usize
 }
 
-// An uppercase hex digit, from the ranges 0 to 9 and A to F.
-fn hex_digit(d: u8) -> u8
-    requires { ⌜ d < 16 ⌝ }
+// An uppercase hex digit; hex is the table of them.
+fn hex_digit(hex: &[u8; 16], d: u8) -> u8
+    requires { ⌜ (d < 16) × (now hex ≡ hexDigits) ⌝ }
     ensures { λ r. ⌜ r ≡ hexDigit d ⌝ }
 {
-    if d < 10 { d + 48 } else { d + 55 }
+    hex[wide(d)]
 }
 
 // How many characters of a word a byte takes; costs is the table of that.
@@ -64,49 +64,55 @@ pub(crate) fn alone_of(b: u8) -> u8
 }
 
 // Writes `=` and two hex digits.
-pub(crate) fn put_escape(out: &mut [u8], at: usize, b: u8) -> usize
-    requires { ⌜ at + 3 ≤ length (now out) ⌝ }
+pub(crate) fn put_escape(hex: &[u8; 16], out: &mut [u8], at: usize, b: u8) -> usize
+    requires { ⌜ (at + 3 ≤ length (now out)) × (now hex ≡ hexDigits) ⌝ }
     ensures { λ r. ⌜ Appended (escape b) at (now (out .entry)) (now (out .exit)) r ⌝ }
 {
     let second = at + 1;
     let third = second + 1;
     out[at] = 61;
-    out[second] = hex_digit(b / 16);
-    out[third] = hex_digit(b % 16);
+    out[second] = hex_digit(hex, b / 16);
+    out[third] = hex_digit(hex, b % 16);
     third + 1
 }
 
 // The same of two bytes.
-pub(crate) fn put_escapes(out: &mut [u8], at: usize, a: u8, b: u8) -> usize
-    requires { ⌜ at + 6 ≤ length (now out) ⌝ }
+pub(crate) fn put_escapes(hex: &[u8; 16], out: &mut [u8], at: usize, a: u8, b: u8) -> usize
+    requires { ⌜ (at + 6 ≤ length (now out)) × (now hex ≡ hexDigits) ⌝ }
     ensures { λ r. ⌜ Appended (escape a ++ escape b) at (now (out .entry)) (now (out .exit)) r ⌝ }
 {
-    let second = put_escape(out, at, a);
-    put_escape(out, second, b)
+    let second = put_escape(hex, out, at, a);
+    put_escape(hex, out, second, b)
 }
 
 // Writes a byte that takes m characters.
-pub(crate) fn put_byte(out: &mut [u8], at: usize, b: u8, m: usize) -> usize
-    requires { ⌜ (m ≡ byteCost b) × (at + 3 ≤ length (now out)) ⌝ }
+pub(crate) fn put_byte(hex: &[u8; 16], out: &mut [u8], at: usize, b: u8, m: usize) -> usize
+    requires { ⌜ (m ≡ byteCost b) × (at + 3 ≤ length (now out)) × (now hex ≡ hexDigits) ⌝ }
     ensures { λ r. ⌜ Appended (spellByte b) at (now (out .entry)) (now (out .exit)) r ⌝ }
 {
     if m == 1 {
         out[at] = alone_of(b);
         return at + 1;
     }
-    put_escape(out, at, b)
+    put_escape(hex, out, at, b)
 }
 
 // Writes the bytes of a character.
-pub(crate) fn put_char(costs: &[u8; 256], out: &mut [u8], at: usize, c: &[u8]) -> usize
-    requires { ⌜ (now costs ≡ byteCosts) × (at + 3 * length (now c) ≤ length (now out)) ⌝ }
+pub(crate) fn put_char(
+    costs: &[u8; 256],
+    hex: &[u8; 16],
+    out: &mut [u8],
+    at: usize,
+    c: &[u8],
+) -> usize
+    requires { ⌜ (now costs ≡ byteCosts) × (at + 3 * length (now c) ≤ length (now out)) × (now hex ≡ hexDigits) ⌝ }
     ensures { λ r. ⌜ Appended (spell (now (c .entry))) at (now (out .entry)) (now (out .exit)) r ⌝ }
 {
     let mut next = at;
     let mut i = 0;
     while i < c.len() {
         let b = c[i];
-        next = put_byte(out, next, b, byte_cost(costs, b));
+        next = put_byte(hex, out, next, b, byte_cost(costs, b));
         i += 1;
     }
     next

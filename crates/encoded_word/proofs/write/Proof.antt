@@ -1,7 +1,7 @@
+use Rattle.encoded_word.specs.Stream.{from, byteCosts, hexDigits}
+use Rattle.encoded_word.specs.Spelling.{bare, hexDigit, spellByte}
 use mathlib.Core.Path.{refl}
 use Rattle.buffer.specs.BufferLaws.{wrote-nothing}
-use Rattle.encoded_word.specs.Stream.{from, byteCosts}
-use Rattle.encoded_word.specs.Spelling.{bare, spellByte}
 use Rattle.encoded_word.specs.StreamLaws.{row-long, bounded-short}
 use borrow.Author.Needs.{needs}
 use Rattle.encoded_word.proofs.write.Statement.{statement}
@@ -16,8 +16,8 @@ returns c = rw (row-long _ (c .if1 .taken)) (wrote-nothing _)
 
 -- src/lib.rt:34:5
 put-row-requires : tie.Need-put-row-requires
-unfolding byteCosts from spellByte bare
-put-row-requires c κs = (refl, c .before .before .if1 .left)
+unfolding byteCosts hexDigits hexDigit from spellByte bare
+put-row-requires c κs = (refl, c .before .before .before .if1 .left, refl)
 
 -- src/lib.rt:28:1
 same-length : tie.Need-same-length
@@ -25,7 +25,7 @@ same-length c = search needs
 
 -- src/lib.rt:28:1
 returns-2 : tie.Need-returns-2
-returns-2 c = rw (bounded-short _ (c .before .before .before .before .before .if1 .left)) (c .before .before .put-row .ensures)
+returns-2 c = rw (bounded-short _ (c .before .before .before .before .before .before .if1 .left)) (c .before .before .put-row .ensures)
 
 pub write-spec : {M : Type 1} → statement M
 write-spec = tie.close (tie.spec returns put-row-requires same-length returns-2)

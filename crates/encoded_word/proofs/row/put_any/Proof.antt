@@ -49,7 +49,7 @@ part-put-char-end c = search needs
 
 -- src/row.rt:36:9
 put-char-requires : tie.Need-put-char-requires
-put-char-requires c κs = (c .before .before .before .before .before .before .before .before .before .before .before .pre .0, omega (arith, char-size (c .before .before .before .before .before .before .before .before .before .before .before .args .s .now) (c .before .before .before .before .before .before .before .before .before .before .before .args .i) _ (c .before .before .before .before .before .before .before .before .char-end .ensures), room-left 15 24 (c .before .before .before .before .make-room .ensures .1) (length-gap (c .before .before .before .before .before .before .before .before .before .before .before .args .left) (c .before .before .before .before .before .before .char-cost .result)) (omega arith)))
+put-char-requires c κs = (c .before .before .before .before .before .before .before .before .before .before .before .pre .0, omega (arith, char-size (c .before .before .before .before .before .before .before .before .before .before .before .args .s .now) (c .before .before .before .before .before .before .before .before .before .before .before .args .i) _ (c .before .before .before .before .before .before .before .before .char-end .ensures), room-left 15 24 (c .before .before .before .before .make-room .ensures .1) (length-gap (c .before .before .before .before .before .before .before .before .before .before .before .args .left) (c .before .before .before .before .before .before .char-cost .result)) (omega arith)), c .before .before .before .before .before .before .before .before .before .before .before .pre .4)
 
 -- src/row.rt:28:1
 same-length : tie.Need-same-length

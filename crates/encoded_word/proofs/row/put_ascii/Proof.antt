@@ -78,12 +78,12 @@ put-alone-requires : tie.Need-put-alone-requires
 put-alone-requires c κs = search needs
 
 -- src/row.rt:77:20
-add-t39 : tie.Need-add-t39
-add-t39 c = search needs
+add-next : tie.Need-add-next
+add-next c = search needs
 
 -- src/row.rt:78:23
-sub-t40 : tie.Need-sub-t40
-sub-t40 c = at-least 4 (c .before .before .before .before .before .before .before .before .before .before .before .before .before .before .before .before .args .left) (length (c .before .before .before .before .before .before .before .before .before .before .before .before .before .before .before .before .args .s .now) - c .before .before .before .before .before .before .before .before .before .before .before .before .before .before .before .before .args .i) (c .before .before .before .before .before .before .before .before .before .before .before .if1 .taken) .0
+sub-rest : tie.Need-sub-rest
+sub-rest c = at-least 4 (c .before .before .before .before .before .before .before .before .before .before .before .before .before .before .before .before .args .left) (length (c .before .before .before .before .before .before .before .before .before .before .before .before .before .before .before .before .args .s .now) - c .before .before .before .before .before .before .before .before .before .before .before .before .before .before .before .before .args .i) (c .before .before .before .before .before .before .before .before .before .before .before .if1 .taken) .0
 
 -- src/row.rt:76:13
 same-length : tie.Need-same-length
@@ -101,7 +101,7 @@ make-room-requires c κs = search needs
 
 -- src/row.rt:85:9
 put-byte-requires : tie.Need-put-byte-requires
-put-byte-requires c κs = (c .before .before .before .before .before .before .byte-cost .ensures .0, room-left 15 3 (c .before .before .before .make-room .ensures .1) (length-gap _ _) (omega arith))
+put-byte-requires c κs = (c .before .before .before .before .before .before .byte-cost .ensures .0, room-left 15 3 (c .before .before .before .make-room .ensures .1) (length-gap _ _) (omega arith), c .before .before .before .before .before .before .before .before .before .before .pre .5)
 
 -- src/row.rt:61:1
 same-length-2 : tie.Need-same-length-2
@@ -131,8 +131,8 @@ put-ascii-spec =
     byte-cost-requires-4
     add-if2-3
     put-alone-requires
-    add-t39
-    sub-t40
+    add-next
+    sub-rest
     same-length
     returns
     make-room-requires

@@ -15,10 +15,10 @@ use Rattle.buffer.proofs.add_slice.Reads as add-slice-reads
 use Rattle.encoded_word.proofs.row.put_any.Reads as put-any-reads
 
 abbrev Inv-loop : tie.InvT-loop
-Inv-loop costs out₀ start room s first piece₀ at₀ left₀ i₀ t13 out piece at left i = (i ≤ length s) × (left ≤ 63) × (length piece ≡ 39) × (at ≤ 13 + 18 * i) × Reached (onwardsAt s first room) (onwardsAt s i left) start out₀ out at
+Inv-loop costs hex out₀ start room s first piece₀ at₀ left₀ i₀ t13 out piece at left i = (i ≤ length s) × (left ≤ 63) × (length piece ≡ 39) × (at ≤ 13 + 18 * i) × Reached (onwardsAt s first room) (onwardsAt s i left) start out₀ out at
 
 abbrev μ-loop : tie.MeasureT-loop
-μ-loop costs out₀ start room s first piece₀ at₀ left₀ i₀ t13 out piece at left i = length s - i
+μ-loop costs hex out₀ start room s first piece₀ at₀ left₀ i₀ t13 out piece at left i = length s - i
 
 -- src/row.rt:221:5
 loop-holds : tie.Need-loop-holds Inv-loop μ-loop
@@ -30,7 +30,7 @@ slice-aggregate-put-any c = sym (c .before .before .loop .inv .2)
 
 -- src/row.rt:222:13
 put-any-requires : tie.Need-put-any-requires Inv-loop μ-loop
-put-any-requires c κs = (c .before .before .before .before .before .pre .0, c .before .loop-test .taken, c .before .before .loop .inv .1, omega arith)
+put-any-requires c κs = (c .before .before .before .before .before .pre .0, c .before .loop-test .taken, c .before .before .loop .inv .1, omega arith, c .before .before .before .before .before .pre .5)
 
 -- src/row.rt:224:41
 array-share-prefix-piece : tie.Need-array-share-prefix-piece Inv-loop μ-loop

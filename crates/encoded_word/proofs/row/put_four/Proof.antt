@@ -46,15 +46,15 @@ make-room-requires c κs = search needs
 
 -- src/row.rt:146:9
 put-escapes-requires : tie.Need-put-escapes-requires
-put-escapes-requires c κs = room-left 15 6 (c .before .before .before .make-room .ensures .1) (length-gap _ _) (omega arith)
+put-escapes-requires c κs = (room-left 15 6 (c .before .before .before .make-room .ensures .1) (length-gap _ _) (omega arith), c .before .before .before .before .before .before .before .before .before .before .before .pre .8)
 
 -- src/row.rt:147:9
 put-escapes-requires-2 : tie.Need-put-escapes-requires-2
-put-escapes-requires-2 c κs = room-left 6 6 (c .before .before .before .put-escapes .ensures) (lit≤ tt) (room-left 15 12 (c .before .before .before .before .before .before .before .make-room .ensures .1) (length-gap _ _) (omega arith))
+put-escapes-requires-2 c κs = (room-left 6 6 (c .before .before .before .put-escapes .ensures) (lit≤ tt) (room-left 15 12 (c .before .before .before .before .before .before .before .make-room .ensures .1) (length-gap _ _) (omega arith)), c .before .before .before .before .before .before .before .before .before .before .before .before .before .before .before .pre .8)
 
 -- src/row.rt:149:12
-add-t28 : tie.Need-add-t28
-add-t28 c = search needs
+add-next : tie.Need-add-next
+add-next c = search needs
 
 -- src/row.rt:133:1
 same-length : tie.Need-same-length
@@ -80,6 +80,6 @@ put-four-spec =
     make-room-requires
     put-escapes-requires
     put-escapes-requires-2
-    add-t28
+    add-next
     same-length
     returns)

@@ -37,7 +37,7 @@ shared-slice-read-if2 c = let p = sized _ 2 (length (c .before .before .before .
 -- src/row.rt:164:13
 put-two-requires : tie.Need-put-two-requires
 put-two-requires c κs = let p = sized _ 2 (length (c .before .before .before .before .before .before .before .before .args .s .now)) (c .before .before .before .before .before .before .before .before .args .i) _ (c .before .before .before .before .char-len .ensures) (c .before .before .before .if1 .taken) (lit≤ tt) in
-    (p .1, c .before .before .before .before .before .before .before .before .pre .2, c .before .before .before .before .before .before .before .before .pre .3, p .0, c .before .before .before .before .before .before .before .before .pre .4, c .before .if2 .taken)
+    (p .1, c .before .before .before .before .before .before .before .before .pre .2, c .before .before .before .before .before .before .before .before .pre .3, p .0, c .before .before .before .before .before .before .before .before .pre .4, c .before .if2 .taken, c .before .before .before .before .before .before .before .before .pre .5)
 
 -- src/row.rt:164:13
 same-length : tie.Need-same-length
@@ -67,7 +67,7 @@ shared-slice-read-if4-2 c = let p = sized _ 3 (length (c .before .before .before
 put-three-requires : tie.Need-put-three-requires
 put-three-requires c κs = let p = sized _ 3 (length (c .before .before .before .before .before .before .before .before .before .before .args .s .now)) (c .before .before .before .before .before .before .before .before .before .before .args .i) _ (c .before .before .before .before .before .before .char-len .ensures) (c .before .before .before .before .if3 .taken) (lit≤ tt) in
     let q = at-least 128 (getD (c .before .before .before .before .before .before .before .before .before .before .args .s .now) (c .before .before .before .before .before .before .before .before .before .before .args .i + 1) 0) (getD (c .before .before .before .before .before .before .before .before .before .before .args .s .now) (c .before .before .before .before .before .before .before .before .before .before .args .i + 1 + 1) 0) (c .before .if4 .taken) in
-    (p .1, c .before .before .before .before .before .before .before .before .before .before .pre .2, c .before .before .before .before .before .before .before .before .before .before .pre .3, p .0, c .before .before .before .before .before .before .before .before .before .before .pre .4, q .0, q .1)
+    (p .1, c .before .before .before .before .before .before .before .before .before .before .pre .2, c .before .before .before .before .before .before .before .before .before .before .pre .3, p .0, c .before .before .before .before .before .before .before .before .before .before .pre .4, q .0, q .1, c .before .before .before .before .before .before .before .before .before .before .pre .5)
 
 -- src/row.rt:169:13
 same-length-2 : tie.Need-same-length-2
@@ -105,7 +105,7 @@ shared-slice-read-if6-3 c = let p = sized _ 4 (length (c .before .before .before
 put-four-requires : tie.Need-put-four-requires
 put-four-requires c κs = let p = sized _ 4 (length (c .before .before .before .before .before .before .before .before .before .before .before .before .args .s .now)) (c .before .before .before .before .before .before .before .before .before .before .before .before .args .i) _ (c .before .before .before .before .before .before .before .before .char-len .ensures) (c .before .before .before .before .before .if5 .taken) (lit≤ tt) in
     let q = at-least-three 128 (getD (c .before .before .before .before .before .before .before .before .before .before .before .before .args .s .now) (c .before .before .before .before .before .before .before .before .before .before .before .before .args .i + 1) 0) (getD (c .before .before .before .before .before .before .before .before .before .before .before .before .args .s .now) (c .before .before .before .before .before .before .before .before .before .before .before .before .args .i + 1 + 1) 0) (getD (c .before .before .before .before .before .before .before .before .before .before .before .before .args .s .now) (c .before .before .before .before .before .before .before .before .before .before .before .before .args .i + 1 + 1 + 1) 0) (c .before .if6 .taken) in
-    (p .1, c .before .before .before .before .before .before .before .before .before .before .before .before .pre .2, c .before .before .before .before .before .before .before .before .before .before .before .before .pre .3, p .0, c .before .before .before .before .before .before .before .before .before .before .before .before .pre .4, q .0, q .1, q .2)
+    (p .1, c .before .before .before .before .before .before .before .before .before .before .before .before .pre .2, c .before .before .before .before .before .before .before .before .before .before .before .before .pre .3, p .0, c .before .before .before .before .before .before .before .before .before .before .before .before .pre .4, q .0, q .1, q .2, c .before .before .before .before .before .before .before .before .before .before .before .before .pre .5)
 
 -- src/row.rt:175:13
 same-length-3 : tie.Need-same-length-3

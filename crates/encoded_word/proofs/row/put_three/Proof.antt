@@ -39,15 +39,15 @@ make-room-requires c κs = search needs
 
 -- src/row.rt:123:9
 put-escapes-requires : tie.Need-put-escapes-requires
-put-escapes-requires c κs = room-left 15 6 (c .before .before .before .make-room .ensures .1) (length-gap _ _) (omega arith)
+put-escapes-requires c κs = (room-left 15 6 (c .before .before .before .make-room .ensures .1) (length-gap _ _) (omega arith), c .before .before .before .before .before .before .before .before .before .before .pre .7)
 
 -- src/row.rt:124:9
 put-escape-requires : tie.Need-put-escape-requires
-put-escape-requires c κs = room-left 6 3 (c .before .before .before .put-escapes .ensures) (lit≤ tt) (room-left 15 9 (c .before .before .before .before .before .before .before .make-room .ensures .1) (length-gap _ _) (omega arith))
+put-escape-requires c κs = (room-left 6 3 (c .before .before .before .put-escapes .ensures) (lit≤ tt) (room-left 15 9 (c .before .before .before .before .before .before .before .make-room .ensures .1) (length-gap _ _) (omega arith)), c .before .before .before .before .before .before .before .before .before .before .before .before .before .before .pre .7)
 
 -- src/row.rt:126:12
-add-t25 : tie.Need-add-t25
-add-t25 c = search needs
+add-next : tie.Need-add-next
+add-next c = search needs
 
 -- src/row.rt:112:1
 same-length : tie.Need-same-length
@@ -71,6 +71,6 @@ put-three-spec =
     make-room-requires
     put-escapes-requires
     put-escape-requires
-    add-t25
+    add-next
     same-length
     returns)

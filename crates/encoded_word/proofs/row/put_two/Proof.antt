@@ -28,11 +28,11 @@ make-room-requires c κs = search needs
 
 -- src/row.rt:103:9
 put-escapes-requires : tie.Need-put-escapes-requires
-put-escapes-requires c κs = room-left 15 6 (c .before .before .before .make-room .ensures .1) (length-gap _ _) (omega arith)
+put-escapes-requires c κs = (room-left 15 6 (c .before .before .before .make-room .ensures .1) (length-gap _ _) (omega arith), c .before .before .before .before .before .before .before .before .before .pre .6)
 
 -- src/row.rt:105:12
-add-t19 : tie.Need-add-t19
-add-t19 c = search needs
+add-next : tie.Need-add-next
+add-next c = search needs
 
 -- src/row.rt:94:1
 same-length : tie.Need-same-length
@@ -53,6 +53,6 @@ put-two-spec =
     shared-slice-read-c
     make-room-requires
     put-escapes-requires
-    add-t19
+    add-next
     same-length
     returns)

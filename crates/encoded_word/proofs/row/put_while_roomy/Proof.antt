@@ -14,10 +14,10 @@ use Rattle.encoded_word.proofs.row.put_while_roomy.Lts as lts
 use Rattle.encoded_word.proofs.row.put_next.Reads as put-next-reads
 
 abbrev Inv-loop : tie.InvT-loop
-Inv-loop costs out₀ start s i₀ left₀ at₀ last out i left at = (i ≤ length s) × (left ≤ 63) × (length out ≡ length out₀) × (at ≤ start + 18 * i) × Reached (onwardsAt s 0 63) (onwardsAt s i left) start out₀ out at
+Inv-loop costs hex out₀ start s i₀ left₀ at₀ last out i left at = (i ≤ length s) × (left ≤ 63) × (length out ≡ length out₀) × (at ≤ start + 18 * i) × Reached (onwardsAt s 0 63) (onwardsAt s i left) start out₀ out at
 
 abbrev μ-loop : tie.MeasureT-loop
-μ-loop costs out₀ start s i₀ left₀ at₀ last out i left at = length s - i
+μ-loop costs hex out₀ start s i₀ left₀ at₀ last out i left at = length s - i
 
 -- src/row.rt:201:20
 sub-last : tie.Need-sub-last Inv-loop μ-loop
@@ -30,7 +30,7 @@ loop-holds c = (omega arith, omega arith, refl, omega arith, reached-start _ _ _
 -- src/row.rt:203:17
 put-next-requires : tie.Need-put-next-requires Inv-loop μ-loop
 put-next-requires c κs = let p = looping (c .before .before .loop .i) (length (c .before .before .before .before .before .before .args .s .now)) (c .before .before .loop .at) (length (c .before .before .before .before .before .before .args .out .now) - 39) (c .before .loop-test .taken) in
-    (c .before .before .before .before .before .before .pre, p .0, c .before .before .loop .inv .1, omega arith)
+    (c .before .before .before .before .before .before .pre .0, p .0, c .before .before .loop .inv .1, omega arith, c .before .before .before .before .before .before .pre .1)
 
 -- src/row.rt:202:9
 loop-less : tie.Need-loop-less Inv-loop μ-loop

@@ -1,28 +1,23 @@
-use borrow.Author.Tests.{lt-ltb, le-ltb}
-use Rattle.encoded_word.specs.Spelling.{hexDigit}
+use mathlib.Core.Path.{_∙_}
+use Rattle.encoded_word.specs.StreamLaws.{hex-digits-at}
 use borrow.Author.Needs.{needs}
 use Rattle.encoded_word.proofs.spelling.hex_digit.Statement.{statement}
 use Rattle.encoded_word.proofs.spelling.hex_digit.Tie as tie
 use Rattle.encoded_word.proofs.spelling.hex_digit.Reads as reads
 use Rattle.encoded_word.proofs.spelling.hex_digit.Lts as lts
+use Rattle.encoded_word.proofs.spelling.wide.Reads as wide-reads
 
--- src/spelling.rt:20:17
-add-result : tie.Need-add-result
-add-result c = search needs
+-- src/spelling.rt:22:9
+wide-requires : tie.Need-wide-requires
+wide-requires c κs = search needs
 
--- src/spelling.rt:20:33
-add-result-2 : tie.Need-add-result-2
-add-result-2 c = search needs
+-- src/spelling.rt:22:5
+element-copy-out-result : tie.Need-element-copy-out-result
+element-copy-out-result c = search needs
 
--- src/spelling.rt:16:1
+-- src/spelling.rt:18:1
 returns : tie.Need-returns
-unfolding hexDigit
-returns c = simp (lt-ltb _ _ (c .if1 .taken))
-
--- src/spelling.rt:16:1
-returns-2 : tie.Need-returns-2
-unfolding hexDigit
-returns-2 c = simp (le-ltb _ _ (c .if1 .left))
+returns c = rw (c .before .before .pre .1, c .before .wide .ensures) (hex-digits-at _ (c .before .before .pre .0))
 
 pub hex-digit-spec : {M : Type 1} → statement M
-hex-digit-spec = tie.close (tie.spec add-result add-result-2 returns returns-2)
+hex-digit-spec = tie.close (tie.spec wide-requires element-copy-out-result returns)

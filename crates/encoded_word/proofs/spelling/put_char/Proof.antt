@@ -16,10 +16,10 @@ use Rattle.encoded_word.proofs.spelling.byte_cost.Reads as byte-cost-re
 use Rattle.encoded_word.proofs.spelling.put_byte.Reads as put-byte-reads
 
 abbrev Inv-loop : tie.InvT-loop
-Inv-loop costs out₀ at c next₀ i₀ out next i = (i ≤ length c) × (length out ≡ length out₀) × (next ≤ at + 3 * i) × Reached (spell c) (spell (drop i c)) at out₀ out next
+Inv-loop costs hex out₀ at c next₀ i₀ out next i = (i ≤ length c) × (length out ≡ length out₀) × (next ≤ at + 3 * i) × Reached (spell c) (spell (drop i c)) at out₀ out next
 
 abbrev μ-loop : tie.MeasureT-loop
-μ-loop costs out₀ at c next₀ i₀ out next i = length c - i
+μ-loop costs hex out₀ at c next₀ i₀ out next i = length c - i
 
 -- src/spelling.rt:84:5
 loop-holds : tie.Need-loop-holds Inv-loop μ-loop
@@ -35,7 +35,7 @@ byte-cost-requires c κs = c .before .before .before .before .before .before .pr
 
 -- src/spelling.rt:86:9
 put-byte-requires : tie.Need-put-byte-requires Inv-loop μ-loop
-put-byte-requires c κs = (c .byte-cost .ensures .0, omega arith)
+put-byte-requires c κs = (c .byte-cost .ensures .0, omega arith, c .before .before .before .before .before .before .before .pre .2)
 
 -- src/spelling.rt:87:9
 add-i : tie.Need-add-i Inv-loop μ-loop
