@@ -10,6 +10,10 @@ use Rattle.utf8.specs.Byte.{within}
 unfoldable pub bare : ℕ → Bool
 bare b = within 65 90 b || within 97 122 b || within 48 57 b || eqb b 33 || eqb b 42 || eqb b 43 || eqb b 45 || eqb b 47
 
+-- a byte that is not ASCII
+abbrev pub high : ℕ → Bool
+high b = within 128 255 b
+
 -- an uppercase hex digit: 0 to 9, A to F
 unfoldable pub hexDigit : ℕ → ℕ
 hexDigit d = cond (ltb d 10) (d + 48) (d + 55)

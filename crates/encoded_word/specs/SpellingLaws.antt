@@ -11,7 +11,7 @@ use lib.Dec.{T, leb, eqb, eqb→eq, lit≤, ltb→lt}
 use mir.Facts.{and-yes, yes-leb, no-eqb}
 use Rattle.utf8.specs.Lists.{by-test, cond-yes, cond-no, all, joined, joined-append}
 use Rattle.utf8.specs.Byte.{within, within-low, within-high, below, implies}
-use Rattle.encoded_word.specs.Spelling.{bare, hexDigit, escape, spellByte, spell}
+use Rattle.encoded_word.specs.Spelling.{bare, hexDigit, high, escape, spellByte, spell}
 
 pub spell-bare : (b : ℕ) → T (bare b) → spellByte b ≡ b ∷ []
 unfolding spellByte
@@ -67,9 +67,6 @@ unfolding spell
 spell-end s j h = rw (drop-of-length-le s {i = j} h) refl
 
 -- ---- bytes that are not ASCII
-
-abbrev pub high : ℕ → Bool
-high b = within 128 255 b
 
 abbrev pub escapes : List ℕ → List ℕ
 escapes [] = []

@@ -3,11 +3,12 @@ use mathlib.Core.Path.{_≡_}
 use mathlib.Core.Bool.{Bool, cond}
 use mathlib.Core.List.{List, [], _∷_, _++_}
 use Prim.Native.Nat.{ℕ, zero, suc, _+_, _-_, _*_, _≤_, _<_}
-use lib.Dec.{leb, eqb}
-use lib.ListN.{length, drop}
+use lib.Dec.{T, leb, eqb}
+use lib.ListN.{length, take, drop, getD}
+use Rattle.utf8.specs.Lists.{all}
 use Rattle.utf8.specs.Utf8.{chars, charLen}
 use Rattle.buffer.specs.Buffer.{Appended, Reached}
-use Rattle.encoded_word.specs.Spelling.{hexDigit, spellByte, spell}
+use Rattle.encoded_word.specs.Spelling.{high, hexDigit, spellByte, spell}
 use Rattle.encoded_word.specs.Reading.{opening, closing}
 
 -- how many characters of a word some bytes take, and a byte takes
@@ -51,6 +52,12 @@ byteCosts = from byteCost 0 256
 -- the one character that stands for a byte that takes one
 unfoldable pub alone : ℕ → ℕ
 alone b = cond (eqb b 32) 95 b
+
+-- The character at place i is whole, has r bytes, and none of them is ASCII; or r is 0.
+pub record HighChar (s : List ℕ) (i r : ℕ) : Type 0 where
+  pub size : 0 < r → charLen (getD s i 0) ≡ r
+  pub fits : 0 < r → i + r ≤ length s
+  pub bytes : 0 < r → T (all high (take r (drop i s)))
 
 -- A turn of a loop over the characters of a text: from place i with room for `left`, to place i′ with room for `left′`.
 pub record Turned (s : List ℕ) (i left i′ left′ : ℕ) (text : List ℕ) : Type 0 where

@@ -19,11 +19,11 @@ use Rattle.buffer.specs.BufferLaws.{overlay-front, wrote-from, appended-from, a
 use Rattle.utf8.specs.Utf8Laws.{char-len-some, char-len-le, chars-cons, chars-at, chars-end, chars-nil}
 use Rattle.encoded_word.specs.Cut.{cut}
 use Rattle.encoded_word.specs.CutLaws.{cut-more, cut-next}
-use Rattle.encoded_word.specs.Spelling.{bare, hexDigit, escape, spellByte, spell}
-use Rattle.encoded_word.specs.SpellingLaws.{spell-byte-some, spell-append, spell-bare, spell-space, spell-hex, spell-one, spell-at, spell-end, length-spell, length-spell-append, length-spell-byte, high, escapes, spell-high, length-escapes}
+use Rattle.encoded_word.specs.Spelling.{bare, high, hexDigit, escape, spellByte, spell}
+use Rattle.encoded_word.specs.SpellingLaws.{spell-byte-some, spell-append, spell-bare, spell-space, spell-hex, spell-one, spell-at, spell-end, length-spell, length-spell-append, length-spell-byte, escapes, spell-high, length-escapes}
 use Rattle.encoded_word.specs.Reading.{opening, closing}
 use Rattle.encoded_word.specs.Row.{fitsRoom, runs, word, lines, rowIn, bounded}
-use Rattle.encoded_word.specs.Stream.{cost, start, gap, leftAfter, onwards, onwardsAt, byteCost, byteCosts, hexDigits, from, alone, Turned, MeasuredTurn, PutTurn}
+use Rattle.encoded_word.specs.Stream.{cost, start, gap, leftAfter, onwards, onwardsAt, byteCost, byteCosts, hexDigits, from, alone, HighChar, Turned, MeasuredTurn, PutTurn}
 
 -- ---- the room in the open word
 
@@ -262,16 +262,6 @@ pub cost-one : (a m : ℕ) → m ≡ byteCost a → m ≡ cost (a ∷ [])
 unfolding spell
 cost-one a m e = omega (arith, e, cost-cons a [])
 
-pub cost-two : (a b x y : ℕ) → x ≡ byteCost a → y ≡ byteCost b → x + y ≡ cost (a ∷ b ∷ [])
-cost-two a b x y p q = omega (arith, p, cost-cons a (b ∷ []), cost-one b y q)
-
-pub cost-three : (a b c x y z : ℕ) → x ≡ byteCost a → y ≡ byteCost b → z ≡ byteCost c → x + y + z ≡ cost (a ∷ b ∷ c ∷ [])
-cost-three a b c x y z p q r = omega (arith, p, cost-cons a (b ∷ c ∷ []), cost-two b c y z q r)
-
-pub cost-four : (a b c d x y z w : ℕ) → x ≡ byteCost a → y ≡ byteCost b → z ≡ byteCost c → w ≡ byteCost d
-    → x + y + z + w ≡ cost (a ∷ b ∷ c ∷ d ∷ [])
-cost-four a b c d x y z w p q r t = omega (arith, p, cost-cons a (b ∷ c ∷ d ∷ []), cost-three b c d y z w q r t)
-
 pub cost-end : (c : List ℕ) (i : ℕ) → length c ≤ i → cost (drop i c) ≡ 0
 cost-end c i h = ap length (spell-end c i h)
 
@@ -315,20 +305,38 @@ module _ (s : List ℕ) (i : ℕ) where
   pub one-byte : i < length s → take (i + 1 - i) (drop i s) ≡ getD s i 0 ∷ []
   one-byte h = let size : i + 1 - i ≡ 1 = omega arith in rw size (take-cons s i 0 h)
 
-  pub two-bytes : i + 2 ≤ length s → take (i + 1 + 1 - i) (drop i s) ≡ getD s i 0 ∷ getD s (i + 1) 0 ∷ []
-  two-bytes h =
-      let size : i + 1 + 1 - i ≡ 2 = omega arith in
-      rw (size, take-cons s i 1 (omega arith), take-cons s (i + 1) 0 (omega arith)) refl
+  pub two-bytes : i + 2 ≤ length s → take 2 (drop i s) ≡ getD s i 0 ∷ getD s (i + 1) 0 ∷ []
+  two-bytes h = rw (take-cons s i 1 (omega arith), take-cons s (i + 1) 0 (omega arith)) refl
 
-  pub three-bytes : i + 3 ≤ length s → take (i + 1 + 1 + 1 - i) (drop i s) ≡ getD s i 0 ∷ getD s (i + 1) 0 ∷ getD s (i + 1 + 1) 0 ∷ []
-  three-bytes h =
-      let size : i + 1 + 1 + 1 - i ≡ 3 = omega arith in
-      rw (size, take-cons s i 2 (omega arith), take-cons s (i + 1) 1 (omega arith), take-cons s (i + 1 + 1) 0 (omega arith)) refl
+  pub three-bytes : i + 3 ≤ length s → take 3 (drop i s) ≡ getD s i 0 ∷ getD s (i + 1) 0 ∷ getD s (i + 1 + 1) 0 ∷ []
+  three-bytes h = rw (take-cons s i 2 (omega arith), take-cons s (i + 1) 1 (omega arith), take-cons s (i + 1 + 1) 0 (omega arith)) refl
 
-  pub four-bytes : i + 4 ≤ length s → take (i + 1 + 1 + 1 + 1 - i) (drop i s) ≡ getD s i 0 ∷ getD s (i + 1) 0 ∷ getD s (i + 1 + 1) 0 ∷ getD s (i + 1 + 1 + 1) 0 ∷ []
+  pub four-bytes : i + 4 ≤ length s → take 4 (drop i s) ≡ getD s i 0 ∷ getD s (i + 1) 0 ∷ getD s (i + 1 + 1) 0 ∷ getD s (i + 1 + 1 + 1) 0 ∷ []
   four-bytes h =
-      let size : i + 1 + 1 + 1 + 1 - i ≡ 4 = omega arith in
-      rw (size, take-cons s i 3 (omega arith), take-cons s (i + 1) 2 (omega arith), take-cons s (i + 1 + 1) 1 (omega arith), take-cons s (i + 1 + 1 + 1) 0 (omega arith)) refl
+      rw (take-cons s i 3 (omega arith), take-cons s (i + 1) 2 (omega arith), take-cons s (i + 1 + 1) 1 (omega arith), take-cons s (i + 1 + 1 + 1) 0 (omega arith)) refl
+
+-- bytes that are not ASCII take three characters each
+high-cost : (c : List ℕ) → T (all high c) → 3 * length c ≡ cost c
+high-cost c t = sym (ap length (spell-high c t) ∙ length-escapes c)
+
+to-high : (b : ℕ) (l : List ℕ) → 128 ≤ b → b < 256 → T (all high l) → T (all high (b ∷ l))
+to-high b l h k t = yes-and (high b) (all high l) (to-within 128 255 b h (omega arith)) t
+
+pub high-two : (a b : ℕ) → 128 ≤ a → a < 256 → 128 ≤ b → b < 256 → T (all high (a ∷ b ∷ []))
+high-two a b h k h′ k′ = to-high a (b ∷ []) h k (to-high b [] h′ k′ tt)
+
+pub high-three : (a b d : ℕ) → 128 ≤ a → a < 256 → 128 ≤ b → b < 256 → 128 ≤ d → d < 256 → T (all high (a ∷ b ∷ d ∷ []))
+high-three a b d h k h′ k′ h″ k″ = to-high a (b ∷ d ∷ []) h k (high-two b d h′ k′ h″ k″)
+
+pub high-four : (a b c d : ℕ) → 128 ≤ a → a < 256 → 128 ≤ b → b < 256 → 128 ≤ c → c < 256 → 128 ≤ d → d < 256 → T (all high (a ∷ b ∷ c ∷ d ∷ []))
+high-four a b c d h k h′ k′ h″ k″ h‴ k‴ = to-high a (b ∷ c ∷ d ∷ []) h k (high-three b c d h′ k′ h″ k″ h‴ k‴)
+
+-- a character found by its size: what was tested, and its bytes
+pub high-char : (s : List ℕ) (i r : ℕ) (c : List ℕ) → (charLen (getD s i 0) ≡ r) × (i + r ≤ length s) → take r (drop i s) ≡ c → T (all high c) → HighChar s i r
+high-char s i r c p e t = record { size = λ h. p .0; fits = λ h. p .1; bytes = λ h. rw e t }
+
+pub no-high-char : (s : List ℕ) (i : ℕ) → HighChar s i 0
+no-high-char s i = record { size = λ h. absurd (not-suc-le-zero h); fits = λ h. absurd (not-suc-le-zero h); bytes = λ h. absurd (not-suc-le-zero h) }
 
 -- ---- turns, measured
 
@@ -341,6 +349,22 @@ module _ (s : List ℕ) (i left n : ℕ) (h : i < length s) (hl : left ≤ 63) w
     turned = rw (r .0, r .1, hm) (turn s i left h hl e c he hc);
     size = rw (r .2, hm, length-append) refl;
   }
+
+-- the same where the character is whole and no byte of it is ASCII
+module _ (s : List ℕ) (i left r : ℕ) (hl : left ≤ 63) (hr : 0 < r) (k : HighChar s i r) where
+  whole-end : i + r ≡ min (i + charLen (getD s i 0)) (length s)
+  whole-end = omega (arith, k .size hr, k .fits hr)
+
+  whole-take : take (i + r - i) (drop i s) ≡ take r (drop i s)
+  whole-take = let size : i + r - i ≡ r = omega arith in rw size refl
+
+  whole-length : length (take r (drop i s)) ≡ r
+  whole-length = rw length-take (omega (arith, length-drop i s, k .fits hr))
+
+  pub measured-high : {n next left′ n′ : ℕ} → (next ≡ i + r) × (left′ ≡ leftAfter 63 left (3 * r)) × (n′ ≡ n + (length (gap left (3 * r)) + 3 * r)) → MeasuredTurn s i left n next left′ n′
+  measured-high {n} {next} {left′} {n′} e =
+      let size : 3 * r ≡ cost (take r (drop i s)) = ap (λ (m : ℕ). 3 * m) (sym whole-length) ∙ high-cost (take r (drop i s)) (k .bytes hr) in
+      measured s i left n (omega (arith, k .fits hr)) hl (i + r) (3 * r) next left′ n′ (take r (drop i s)) whole-end whole-take size e
 
 -- the length so far and the length that is left make up the whole
 pub measured-on : {s : List ℕ} {i left n i′ left′ n′ : ℕ} (whole : ℕ) → MeasuredTurn s i left n i′ left′ n′
@@ -437,25 +461,15 @@ put-turn s i left at h hl {e = e} {m = m} c t he hc ht hm l v w =
       wrote = appended-then v w;
     }
 
--- the same where no byte of the character is ASCII
-pub put-high : (s : List ℕ) (i left at : ℕ) → i < length s → left ≤ 63 → {before mid after : List ℕ} {e a next left′ m : ℕ} (c : List ℕ)
-    → e ≡ min (i + charLen (getD s i 0)) (length s) → take (e - i) (drop i s) ≡ c → T (all high c) → m ≡ 3 * length c
-    → left′ ≡ leftAfter 63 left m → Appended (gap left m) at before mid a → Appended (escapes c) a mid after next
-    → PutTurn s i left at before after e left′ next
-put-high s i left at h hl c he hc t hm l v w =
-    put-turn s i left at h hl c (escapes c) he hc (spell-high c t) (hm ∙ sym (ap length (spell-high c t) ∙ length-escapes c)) l v w
-
-to-high : (b : ℕ) (l : List ℕ) → 128 ≤ b → b < 256 → T (all high l) → T (all high (b ∷ l))
-to-high b l h k t = yes-and (high b) (all high l) (to-within 128 255 b h (omega arith)) t
-
-pub high-two : (a b : ℕ) → 128 ≤ a → a < 256 → 128 ≤ b → b < 256 → T (all high (a ∷ b ∷ []))
-high-two a b h k h′ k′ = to-high a (b ∷ []) h k (to-high b [] h′ k′ tt)
-
-pub high-three : (a b d : ℕ) → 128 ≤ a → a < 256 → 128 ≤ b → b < 256 → 128 ≤ d → d < 256 → T (all high (a ∷ b ∷ d ∷ []))
-high-three a b d h k h′ k′ h″ k″ = to-high a (b ∷ d ∷ []) h k (high-two b d h′ k′ h″ k″)
-
-pub high-four : (a b c d : ℕ) → 128 ≤ a → a < 256 → 128 ≤ b → b < 256 → 128 ≤ c → c < 256 → 128 ≤ d → d < 256 → T (all high (a ∷ b ∷ c ∷ d ∷ []))
-high-four a b c d h k h′ k′ h″ k″ h‴ k‴ = to-high a (b ∷ c ∷ d ∷ []) h k (high-three b c d h′ k′ h″ k″ h‴ k‴)
+-- the same where the character is whole and no byte of it is ASCII
+pub put-high : (s : List ℕ) (i left at r : ℕ) → left ≤ 63 → 0 < r → HighChar s i r → {before mid after : List ℕ} {a next left′ m : ℕ} (c : List ℕ)
+    → take r (drop i s) ≡ c → m ≡ 3 * r → left′ ≡ leftAfter 63 left m → Appended (gap left m) at before mid a → Appended (escapes c) a mid after next
+    → PutTurn s i left at before after (i + r) left′ next
+put-high s i left at r hl hr k c hc hm l v w =
+    let bytes : T (all high c) = rw (← hc) (k .bytes hr) in
+    let size : length c ≡ r = rw (← hc) (whole-length s i left r hl hr k) in
+    put-turn s i left at (omega (arith, k .fits hr)) hl c (escapes c) (whole-end s i left r hl hr k) (whole-take s i left r hl hr k ∙ hc)
+    (spell-high c bytes) (hm ∙ ap (λ (m : ℕ). 3 * m) (sym size) ∙ high-cost c bytes) l v w
 
 -- room that is left after a text
 pub room-left : {t before after : List ℕ} {at r : ℕ} (k n : ℕ) → Appended t at before after r → length t ≤ k → at + (k + n) ≤ length before → r + n ≤ length after

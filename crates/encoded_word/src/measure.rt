@@ -2,12 +2,12 @@
 ghost use mathlib.Core.Path.{_≡_};
 ghost use Prim.Native.Nat.{_+_, _*_, _≤_, _<_};
 ghost use lib.ListN.{length, getD};
-ghost use Rattle.utf8.specs.Utf8.{charLen};
 ghost use Rattle.encoded_word.specs.Row.{row};
 ghost use Rattle.encoded_word.specs.Stream.{byteCosts, gap, leftAfter, MeasuredTurn};
 use crate::spelling::byte_cost;
 use crate::spelling::char_cost;
 use crate::spelling::char_end;
+use crate::spelling::high_size;
 
 // A place in the text, the room that is left in the open word, and the length so far.
 pub(crate) struct Measure {
@@ -44,44 +44,22 @@ fn any_char(costs: &[u8; 256], s: &[u8], i: usize, left: usize, n: usize) -> Mea
     with_cost(e, left, n, char_cost(costs, &s[i..e]))
 }
 
-// A character of two bytes.
-fn two_bytes(costs: &[u8; 256], s: &[u8], i: usize, left: usize, n: usize) -> Measure
-    requires { ⌜ (now costs ≡ byteCosts) × (i + 2 ≤ length (now s)) × (left ≤ 63) × (n ≤ 1152921504606846976) × (charLen (getD (now s) i 0) ≡ 2) ⌝ }
+// A character that is not ASCII.
+fn high(costs: &[u8; 256], s: &[u8], i: usize, left: usize, n: usize) -> Measure
+    requires { ⌜ (now costs ≡ byteCosts) × (i < length (now s)) × (left ≤ 63) × (n ≤ 1152921504606846976) × (128 ≤ getD (now s) i 0) ⌝ }
     ensures { λ r. ⌜ MeasuredTurn (now (s .entry)) i left n (r .i) (r .left) (r .n) ⌝ }
 {
-    let j = i + 1;
-    with_cost(
-        j + 1,
-        left,
-        n,
-        byte_cost(costs, s[i]) + byte_cost(costs, s[j]),
-    )
-}
-
-// A character of three bytes.
-fn three_bytes(costs: &[u8; 256], s: &[u8], i: usize, left: usize, n: usize) -> Measure
-    requires { ⌜ (now costs ≡ byteCosts) × (i + 3 ≤ length (now s)) × (left ≤ 63) × (n ≤ 1152921504606846976) × (charLen (getD (now s) i 0) ≡ 3) ⌝ }
-    ensures { λ r. ⌜ MeasuredTurn (now (s .entry)) i left n (r .i) (r .left) (r .n) ⌝ }
-{
-    let j = i + 1;
-    let k = j + 1;
-    let m = byte_cost(costs, s[i]) + byte_cost(costs, s[j]) + byte_cost(costs, s[k]);
-    with_cost(k + 1, left, n, m)
-}
-
-// A character of four bytes.
-fn four_bytes(costs: &[u8; 256], s: &[u8], i: usize, left: usize, n: usize) -> Measure
-    requires { ⌜ (now costs ≡ byteCosts) × (i + 4 ≤ length (now s)) × (left ≤ 63) × (n ≤ 1152921504606846976) × (charLen (getD (now s) i 0) ≡ 4) ⌝ }
-    ensures { λ r. ⌜ MeasuredTurn (now (s .entry)) i left n (r .i) (r .left) (r .n) ⌝ }
-{
-    let j = i + 1;
-    let k = j + 1;
-    let l = k + 1;
-    let m = byte_cost(costs, s[i])
-        + byte_cost(costs, s[j])
-        + byte_cost(costs, s[k])
-        + byte_cost(costs, s[l]);
-    with_cost(l + 1, left, n, m)
+    let size = high_size(s, i);
+    if size == 2 {
+        return with_cost(i + 2, left, n, 6);
+    }
+    if size == 3 {
+        return with_cost(i + 3, left, n, 9);
+    }
+    if size == 4 {
+        return with_cost(i + 4, left, n, 12);
+    }
+    any_char(costs, s, i, left, n)
 }
 
 // An ASCII character, or four where they fit the open word together.
@@ -113,21 +91,10 @@ fn next(costs: &[u8; 256], s: &[u8], i: usize, left: usize, n: usize) -> Measure
     requires { ⌜ (now costs ≡ byteCosts) × (i < length (now s)) × (left ≤ 63) × (n ≤ 1152921504606846976) ⌝ }
     ensures { λ r. ⌜ MeasuredTurn (now (s .entry)) i left n (r .i) (r .left) (r .n) ⌝ }
 {
-    let b = s[i];
-    if b < 128 {
+    if s[i] < 128 {
         return ascii(costs, s, i, left, n);
     }
-    let size = utf8::char_len(b);
-    if (size == 2) & (2 <= s.len() - i) {
-        return two_bytes(costs, s, i, left, n);
-    }
-    if (size == 3) & (3 <= s.len() - i) {
-        return three_bytes(costs, s, i, left, n);
-    }
-    if (size == 4) & (4 <= s.len() - i) {
-        return four_bytes(costs, s, i, left, n);
-    }
-    any_char(costs, s, i, left, n)
+    high(costs, s, i, left, n)
 }
 
 pub(crate) fn row_len(costs: &[u8; 256], s: &[u8]) -> usize

@@ -3,15 +3,15 @@ ghost use mathlib.Core.Path.{_≡_};
 ghost use mathlib.Core.List.{[], _∷_};
 ghost use Prim.Native.Nat.{_+_, _*_, _≤_, _<_};
 ghost use lib.ListN.{length, getD};
-ghost use Rattle.utf8.specs.Utf8.{charLen};
 ghost use Rattle.buffer.specs.Buffer.{Wrote, Appended};
 ghost use Rattle.encoded_word.specs.Row.{row};
-ghost use Rattle.encoded_word.specs.Stream.{alone, byteCosts, hexDigits, onwardsAt, PutTurn, Ran};
+ghost use Rattle.encoded_word.specs.Stream.{alone, byteCosts, hexDigits, onwardsAt, HighChar, PutTurn, Ran};
 use crate::measure::row_len;
 use crate::spelling::alone_of;
 use crate::spelling::byte_cost;
 use crate::spelling::char_cost;
 use crate::spelling::char_end;
+use crate::spelling::high_size;
 use crate::spelling::put_byte;
 use crate::spelling::put_char;
 use crate::spelling::put_escape;
@@ -108,18 +108,18 @@ fn put_ascii(
     }
 }
 
-// A character of two bytes, neither of them ASCII.
+// A character of two bytes, none of them ASCII.
 fn put_two(hex: &[u8; 16], out: &mut [u8], at: usize, left: usize, s: &[u8], i: usize) -> Spot
-    requires { ⌜ (i + 2 ≤ length (now s)) × (left ≤ 63) × (at + 39 ≤ length (now out)) × (charLen (getD (now s) i 0) ≡ 2) × (128 ≤ getD (now s) i 0) × (128 ≤ getD (now s) (i + 1) 0) × (now hex ≡ hexDigits) ⌝ }
+    requires { ⌜ (i + 2 ≤ length (now s)) × (left ≤ 63) × (at + 39 ≤ length (now out)) × HighChar (now s) i 2 × (now hex ≡ hexDigits) ⌝ }
     ensures { λ r. ⌜ PutTurn (now (s .entry)) i left at (now (out .entry)) (now (out .exit)) (r .i) (r .left) (r .at) ⌝ }
 {
     let j = i + 1;
-    let b = s[i];
-    let c = s[j];
+    let a = s[i];
+    let b = s[j];
     let open = make_room(out, at, left, 6);
     let here = open.at;
-    let after = put_escapes(hex, out, here, b, c);
-    let next = j + 1;
+    let after = put_escapes(hex, out, here, a, b);
+    let next = i + 2;
     Spot {
         i: next,
         left: open.left,
@@ -129,19 +129,19 @@ fn put_two(hex: &[u8; 16], out: &mut [u8], at: usize, left: usize, s: &[u8], i: 
 
 // A character of three bytes, none of them ASCII.
 fn put_three(hex: &[u8; 16], out: &mut [u8], at: usize, left: usize, s: &[u8], i: usize) -> Spot
-    requires { ⌜ (i + 3 ≤ length (now s)) × (left ≤ 63) × (at + 39 ≤ length (now out)) × (charLen (getD (now s) i 0) ≡ 3) × (128 ≤ getD (now s) i 0) × (128 ≤ getD (now s) (i + 1) 0) × (128 ≤ getD (now s) (i + 1 + 1) 0) × (now hex ≡ hexDigits) ⌝ }
+    requires { ⌜ (i + 3 ≤ length (now s)) × (left ≤ 63) × (at + 39 ≤ length (now out)) × HighChar (now s) i 3 × (now hex ≡ hexDigits) ⌝ }
     ensures { λ r. ⌜ PutTurn (now (s .entry)) i left at (now (out .entry)) (now (out .exit)) (r .i) (r .left) (r .at) ⌝ }
 {
     let j = i + 1;
     let k = j + 1;
-    let b = s[i];
-    let c = s[j];
-    let d = s[k];
+    let a = s[i];
+    let b = s[j];
+    let c = s[k];
     let open = make_room(out, at, left, 9);
     let here = open.at;
-    let third = put_escapes(hex, out, here, b, c);
-    let after = put_escape(hex, out, third, d);
-    let next = k + 1;
+    let third = put_escapes(hex, out, here, a, b);
+    let after = put_escape(hex, out, third, c);
+    let next = i + 3;
     Spot {
         i: next,
         left: open.left,
@@ -151,7 +151,7 @@ fn put_three(hex: &[u8; 16], out: &mut [u8], at: usize, left: usize, s: &[u8], i
 
 // A character of four bytes, none of them ASCII.
 fn put_four(hex: &[u8; 16], out: &mut [u8], at: usize, left: usize, s: &[u8], i: usize) -> Spot
-    requires { ⌜ (i + 4 ≤ length (now s)) × (left ≤ 63) × (at + 39 ≤ length (now out)) × (charLen (getD (now s) i 0) ≡ 4) × (128 ≤ getD (now s) i 0) × (128 ≤ getD (now s) (i + 1) 0) × (128 ≤ getD (now s) (i + 1 + 1) 0) × (128 ≤ getD (now s) (i + 1 + 1 + 1) 0) × (now hex ≡ hexDigits) ⌝ }
+    requires { ⌜ (i + 4 ≤ length (now s)) × (left ≤ 63) × (at + 39 ≤ length (now out)) × HighChar (now s) i 4 × (now hex ≡ hexDigits) ⌝ }
     ensures { λ r. ⌜ PutTurn (now (s .entry)) i left at (now (out .entry)) (now (out .exit)) (r .i) (r .left) (r .at) ⌝ }
 {
     let j = i + 1;
@@ -165,7 +165,7 @@ fn put_four(hex: &[u8; 16], out: &mut [u8], at: usize, left: usize, s: &[u8], i:
     let here = open.at;
     let third = put_escapes(hex, out, here, a, b);
     let after = put_escapes(hex, out, third, c, d);
-    let next = l + 1;
+    let next = i + 4;
     Spot {
         i: next,
         left: open.left,
@@ -186,23 +186,15 @@ fn put_high(
     requires { ⌜ (now costs ≡ byteCosts) × (i < length (now s)) × (left ≤ 63) × (at + 39 ≤ length (now out)) × (128 ≤ getD (now s) i 0) × (now hex ≡ hexDigits) ⌝ }
     ensures { λ r. ⌜ PutTurn (now (s .entry)) i left at (now (out .entry)) (now (out .exit)) (r .i) (r .left) (r .at) ⌝ }
 {
-    let size = utf8::char_len(s[i]);
-    let j = i + 1;
-    if (size == 2) & (2 <= s.len() - i) {
-        if 128 <= s[j] {
-            return put_two(hex, out, at, left, s, i);
-        }
+    let size = high_size(s, i);
+    if size == 2 {
+        return put_two(hex, out, at, left, s, i);
     }
-    if (size == 3) & (3 <= s.len() - i) {
-        if (128 <= s[j]) & (128 <= s[j + 1]) {
-            return put_three(hex, out, at, left, s, i);
-        }
+    if size == 3 {
+        return put_three(hex, out, at, left, s, i);
     }
-    if (size == 4) & (4 <= s.len() - i) {
-        let k = j + 1;
-        if (128 <= s[j]) & (128 <= s[k]) & (128 <= s[k + 1]) {
-            return put_four(hex, out, at, left, s, i);
-        }
+    if size == 4 {
+        return put_four(hex, out, at, left, s, i);
     }
     put_any(costs, hex, out, at, left, s, i)
 }

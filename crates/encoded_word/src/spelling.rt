@@ -6,7 +6,7 @@ ghost use lib.ListN.{length, getD};
 ghost use Rattle.utf8.specs.Utf8.{charLen};
 ghost use Rattle.buffer.specs.Buffer.{Appended};
 ghost use Rattle.encoded_word.specs.Spelling.{hexDigit, escape, spellByte, spell};
-ghost use Rattle.encoded_word.specs.Stream.{byteCost, byteCosts, hexDigits, cost, alone};
+ghost use Rattle.encoded_word.specs.Stream.{byteCost, byteCosts, hexDigits, cost, alone, HighChar};
 
 fn wide(b: u8) -> usize
     ensures { λ r. ⌜ r ≡ b ⌝ }
@@ -40,6 +40,32 @@ pub(crate) fn char_end(s: &[u8], i: usize) -> usize
         return i + size;
     }
     s.len()
+}
+
+// The length of the character at a place, where the text holds it whole and none of its bytes is ASCII; else 0.
+pub(crate) fn high_size(s: &[u8], i: usize) -> usize
+    requires { ⌜ (i < length (now s)) × (128 ≤ getD (now s) i 0) ⌝ }
+    ensures { λ r. ⌜ HighChar (now (s .entry)) i r ⌝ }
+{
+    let size = utf8::char_len(s[i]);
+    let j = i + 1;
+    if (size == 2) & (2 <= s.len() - i) {
+        if 128 <= s[j] {
+            return 2;
+        }
+    }
+    if (size == 3) & (3 <= s.len() - i) {
+        if (128 <= s[j]) & (128 <= s[j + 1]) {
+            return 3;
+        }
+    }
+    if (size == 4) & (4 <= s.len() - i) {
+        let k = j + 1;
+        if (128 <= s[j]) & (128 <= s[k]) & (128 <= s[k + 1]) {
+            return 4;
+        }
+    }
+    0
 }
 
 // How many characters of a word the bytes of a character take.
