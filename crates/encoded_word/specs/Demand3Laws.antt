@@ -17,7 +17,7 @@ use Rattle.encoded_word.specs.CutLaws.{cut-joined, cut-fits, cut-some, f
 use Rattle.encoded_word.specs.Spelling.{spellByte, spell}
 use Rattle.encoded_word.specs.SpellingLaws.{length-spell, length-spell-joined}
 use Rattle.encoded_word.specs.Reading.{Word, added, standing, wordBytes, wordsOf, textOf, opening, closing}
-use Rattle.encoded_word.specs.ReadingLaws.{ours, words-of-lines}
+use Rattle.encoded_word.specs.ReadingLaws.{ours, ours-standing, words-of-lines}
 use Rattle.encoded_word.specs.Row.{fitsRoom, runs, rowIn}
 use Rattle.encoded_word.specs.Demand3.{InSpelling, Proper, AllProper, StandsIn, Stands}
 
@@ -104,11 +104,6 @@ words-fewest room ws h =
 ours-added : (bytes : List ℕ) → added (ours bytes) ≡ bytes
 ours-added [] = refl
 ours-added (b ∷ bytes) = ap (λ (x : List ℕ). b ∷ x) (ours-added bytes)
-
-ours-standing : (bytes : List ℕ) → standing (ours bytes) ≡ spell bytes
-unfolding spell
-ours-standing [] = refl
-ours-standing (b ∷ bytes) = ap (λ (x : List ℕ). spellByte b ++ x) (ours-standing bytes)
 
 ours-spelt : (bytes : List ℕ) → InSpelling (ours bytes)
 ours-spelt [] = tt
