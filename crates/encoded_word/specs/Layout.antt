@@ -10,7 +10,7 @@ use Prim.Native.Nat.{ℕ, _+_, _*_, _≤_}
 use Rattle.encoded_word.specs.Reading.{Word, wordBytes, hexValue}
 
 -- These bytes of a word add this byte: "`_` adds byte 32. `=` with two hex digits in any case adds that byte. [..] Any other
--- byte 33 to 126 except `?` and `=` adds itself." 95 is `_`, 61 is `=`, 63 is `?`.
+-- byte 33 to 126 except `?` and `=` adds itself.", so not `_` either. 95 is `_`, 61 is `=`, 63 is `?`.
 pub data Adds : List ℕ → ℕ → Type 0 where
   underscore : Adds (95 ∷ []) 32
   hex : {first second high low : ℕ} → hexValue first ≡ some high → hexValue second ≡ some low
@@ -23,7 +23,7 @@ AllAdd [] = Unit {0}
 AllAdd (a ∷ w) = Adds (a .0) (a .1) × AllAdd w
 
 -- A row, or what is left of one straight after the `?=` of a word (true) or not (false), and its words: "CRLF and spaces add
--- nothing. `=?UTF-8?Q?` opens a word; straight after the `?=` of another it is a fault."
+-- nothing. `=?UTF-8?Q?` opens a word; straight after the `?=` of another it is a fault." 32 is the space, 13 10 is CRLF.
 pub data LaidAfter : Bool → List ℕ → List Word → Type 0 where
   empty : {straight : Bool} → LaidAfter straight [] []
   space : {straight : Bool} {row : List ℕ} {ws : List Word} → LaidAfter false row ws → LaidAfter straight (32 ∷ row) ws

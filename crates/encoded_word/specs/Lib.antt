@@ -11,3 +11,5 @@ pub mod ReadingLaws
 pub mod Demand3Laws
 pub mod Stream
 pub mod StreamLaws
+pub mod ReadingCases
+pub mod Cases

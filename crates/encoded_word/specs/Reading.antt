@@ -63,7 +63,7 @@ stepBetween straight ws b =
     (cond (eqb b 13) (afterCr ws)
     (cond (eqb b 61 && not straight) (opens (drop 1 opening) ws) fault))
 
--- the next byte of `=?UTF-8?Q?`, and nothing else; the first line is never reached
+-- The next byte of `=?UTF-8?Q?`, and nothing else. `stepOpens []` is never reached: after the last byte the word is open.
 abbrev pub stepOpens : List ℕ → List Word → ℕ → State
 stepOpens [] ws b = fault
 stepOpens (x ∷ []) ws b = cond (eqb b x) (inWord ws []) fault

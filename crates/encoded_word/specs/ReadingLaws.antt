@@ -12,7 +12,7 @@ use Rattle.utf8.specs.Lists.{by-test, all}
 use Rattle.utf8.specs.Byte.{below, implies, isByte, within, within-low, within-high}
 use Rattle.encoded_word.specs.Spelling.{bare, hexDigit, spellByte, spell}
 use Rattle.encoded_word.specs.SpellingLaws.{spell-bare, spell-space, spell-hex}
-use Rattle.encoded_word.specs.Reading.{Word, standing, hexValue, wordsOf}
+use Rattle.encoded_word.specs.Reading.{Word, standing, hexValue, wordsOf, textOf, readsAs}
 use Rattle.encoded_word.specs.Layout.{Adds, AllAdd, LaidAfter}
 use Rattle.encoded_word.specs.Layout.LaidAfter.{empty, space, crlf}
 use Rattle.encoded_word.specs.LayoutLaws.{laid-reads}
@@ -78,3 +78,11 @@ lines-laid straight (l ∷ ls) h =
 -- The words that we write are read back, each as it was.
 pub words-of-lines : (ls : List (List ℕ)) → T (all (all isByte) ls) → wordsOf (lines ls) ≡ some (map ours ls)
 words-of-lines ls h = laid-reads (lines-laid false ls h)
+
+-- a row with these words reads back as what they add
+pub reads-as : (row : List ℕ) (ws : List Word) → wordsOf row ≡ some ws → readsAs row ≡ some (textOf ws)
+unfolding readsAs
+reads-as row ws e = rw e
+
+pub words-text : (row : List ℕ) (ws : List Word) (text : List ℕ) → wordsOf row ≡ some ws → readsAs row ≡ some text → textOf ws ≡ text
+words-text row ws text e r = let s = reads-as row ws e in cc
