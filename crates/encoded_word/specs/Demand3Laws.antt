@@ -1,13 +1,13 @@
 -- Demand 3 holds of every text of UTF-8 and its row. Proved once over the room of a word. Assumes nothing.
 use mathlib.Core.Path.{_≡_, refl, sym, ap, _∙_}
-use mathlib.Core.Bool.{Bool, _&&_}
+use mathlib.Core.Bool.{Bool}
 use mathlib.Core.List.{List, [], _∷_, _++_, append-nil, map, nil≢cons, List·Memᴰ, List·Memᴰ·head, List·Memᴰ·tail}
 use mathlib.Core.Option.{some}
-use Prim.Native.Nat.{ℕ, zero, suc, _+_, _*_, _≤_, _<_}
+use Prim.Native.Nat.{ℕ, suc, _+_, _≤_, _<_}
 use native.Mathlib.Omega.{arith}
 use lib.ListN.{length, length-append, length-map}
 use lib.Dec.{T, leb→le, le→leb, lit≤}
-use mir.Facts.{and-yes, yes-and}
+use mir.Facts.{and-yes}
 use Rattle.utf8.specs.Lists.{all, all-append, all-joined, nonempty, joined, joined-append, joined-map}
 use Rattle.utf8.specs.Byte.{isByte}
 use Rattle.utf8.specs.Utf8.{isChar, chars, utf8}
@@ -16,10 +16,10 @@ use Rattle.encoded_word.specs.Cut.{AllFit}
 use Rattle.encoded_word.specs.CutLaws.{cut-joined, cut-fits, cut-some, fewest}
 use Rattle.encoded_word.specs.Spelling.{spellByte, spell}
 use Rattle.encoded_word.specs.SpellingLaws.{spell-byte-some, length-spell, length-spell-append, length-spell-joined}
-use Rattle.encoded_word.specs.Reading.{Word, added, standing, wordBytes, wordsOf, readsAs, textOf, opening, closing}
+use Rattle.encoded_word.specs.Reading.{Word, added, standing, wordBytes, wordsOf, textOf, opening, closing}
 use Rattle.encoded_word.specs.ReadingLaws.{ours, ours-standing, words-of-lines, reads-as, words-text}
 use Rattle.encoded_word.specs.Row.{fitsRoom, runs, word, rowIn, row}
-use Rattle.encoded_word.specs.Demand3.{InSpelling, Proper, AllProper, Demand3In, Demand3}
+use Rattle.encoded_word.specs.Demand3.{InSpelling, AllProper, Demand3In, Demand3}
 
 -- a word is its opening and closing, 12 characters, and what stands between
 length-word : (w : Word) → length (wordBytes w) ≡ length (standing w) + 12

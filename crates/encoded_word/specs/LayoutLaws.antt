@@ -1,5 +1,5 @@
 -- A row reads as some words exactly when it is laid out so. Assumes nothing.
-use mathlib.Core.Path.{_≡_, refl, sym, ap, _∙_}
+use mathlib.Core.Path.{_≡_, refl, sym, _∙_}
 use mathlib.Core.Bool.{Bool, true, false, not, cond, _&&_}
 use mathlib.Core.List.{List, [], _∷_, _++_, append-assoc, append-nil}
 use mathlib.Core.Option.{Option, none, some}
@@ -10,9 +10,9 @@ use lib.ListN.{drop}
 use mir.Facts.{and-yes, no-eqb, eqb-no}
 use Rattle.utf8.specs.Lists.{cond-yes, cond-no}
 use Rattle.utf8.specs.Byte.{within, within-low, within-high, to-within}
-use Rattle.encoded_word.specs.Reading.{Word, standing, wordBytes, opening, closing, State, Role, role, hexValue, stepBetween, stepOpens, stepInWord, stepDigit, stepSecond, step, reading, finish, wordsOf}
+use Rattle.encoded_word.specs.Reading.{Word, standing, wordBytes, opening, closing, State, role, hexValue, stepBetween, stepOpens, stepInWord, stepDigit, stepSecond, step, reading, finish, wordsOf}
 use Rattle.encoded_word.specs.Reading.State.{fault, between, afterCr, opens, inWord, afterEquals, afterDigit, closes}
-use Rattle.encoded_word.specs.Reading.Role.{underscore, equals, question, itself, other}
+use Rattle.encoded_word.specs.Reading.Role.{itself}
 use Rattle.encoded_word.specs.Layout.{Adds, AllAdd, LaidAfter, Laid}
 use Rattle.encoded_word.specs.Layout.LaidAfter.{empty, space, crlf, word}
 

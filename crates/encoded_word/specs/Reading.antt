@@ -1,6 +1,5 @@
 -- "Reading a row back": "A row is read from its bytes alone, front to back. The reading starts between words, with nothing
 -- added." Layout.antt says the same as a grammar, and LayoutLaws.antt proves that both say the same. Assumes nothing.
-use mathlib.Core.Path.{_≡_}
 use mathlib.Core.Bool.{Bool, true, false, not, cond, _&&_}
 use mathlib.Core.List.{List, [], _∷_, _++_, map}
 use mathlib.Core.Option.{Option, none, some, Option·map}
