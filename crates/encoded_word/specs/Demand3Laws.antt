@@ -183,6 +183,7 @@ run-some [] n t = absurd n
 run-some (c ∷ run) n t =
     omega (arith, length-spell-append c (joined run), spell-some c (and-yes (isChar c) (all isChar run) t .0))
 
+-- what holds of all holds of a member
 all-mem : {A : Type 0} (f : A → Bool) {xs : List A} {x : A} → T (all f xs) → List·Memᴰ x xs → T (f x)
 all-mem f h (List·Memᴰ·head {x} {xs} e) = rw e (and-yes (f x) (all f xs) h .0)
 all-mem f h (List·Memᴰ·tail {x} {xs} m) = all-mem f (and-yes (f x) (all f xs) h .1) m

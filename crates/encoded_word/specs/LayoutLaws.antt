@@ -60,7 +60,7 @@ unfolding reading step
 laid-finish vs empty = rw append-nil
 laid-finish vs (space l) = laid-finish vs l
 laid-finish vs (crlf l) = laid-finish vs l
-laid-finish vs (word {row} {w} {ws} h l) =
+laid-finish vs (word {row} {w} h l) =
     rw (read-word vs w row h, laid-finish (vs ++ (w ∷ [])) l, append-assoc) refl
 
 -- a row laid out so reads as its words
@@ -81,18 +81,18 @@ record Left (straight : Bool) (vs : List Word) (row : List ℕ) (ws : List Word)
   laid : LaidAfter straight row more
   are : ws ≡ vs ++ more
 
--- what is left in a word that has added `w`, after the bytes `d` of its next addition or its closing
-record LeftIn (vs : List Word) (w : Word) (d row : List ℕ) (ws : List Word) : Type 0 where
+-- what is left in a word that has added `w`, from its next addition or its closing on
+record LeftIn (vs : List Word) (w : Word) (row : List ℕ) (ws : List Word) : Type 0 where
   more : Word
   add : AllAdd more
   rest : List ℕ
   left : Left true (vs ++ ((w ++ more) ∷ [])) rest ws
-  is : d ++ row ≡ standing more ++ (closing ++ rest)
+  is : row ≡ standing more ++ (closing ++ rest)
 
 -- what is left in an opening with the bytes `more` of it to come
 record LeftOpening (vs : List Word) (more row : List ℕ) (ws : List Word) : Type 0 where
   rest : List ℕ
-  left : LeftIn vs [] [] rest ws
+  left : LeftIn vs [] rest ws
   is : row ≡ more ++ rest
 
 -- what is left of a row that reads as `ws`, by the state
@@ -101,21 +101,20 @@ Rest fault row ws = ⊥
 Rest (between straight vs) row ws = Left straight vs row ws
 Rest (afterCr vs) row ws = (straight : Bool) → Left straight vs (13 ∷ row) ws
 Rest (opens more vs) row ws = LeftOpening vs more row ws
-Rest (inWord vs w) row ws = LeftIn vs w [] row ws
-Rest (afterEquals vs w) row ws = LeftIn vs w (61 ∷ []) row ws
-Rest (afterDigit vs w first high) row ws = hexValue first ≡ some high → LeftIn vs w (61 ∷ first ∷ []) row ws
-Rest (closes vs w) row ws = LeftIn vs w (63 ∷ []) row ws
+Rest (inWord vs w) row ws = LeftIn vs w row ws
+Rest (afterEquals vs w) row ws = LeftIn vs w (61 ∷ row) ws
+Rest (afterDigit vs w first high) row ws = hexValue first ≡ some high → LeftIn vs w (61 ∷ first ∷ row) ws
+Rest (closes vs w) row ws = LeftIn vs w (63 ∷ row) ws
 
 module _ (row : List ℕ) (ws : List Word) where
   -- an addition before what is left
-  back-adds : (vs : List Word) (w : Word) (d b : List ℕ) (x : ℕ) → Adds (d ++ b) x → LeftIn vs (w ++ ((d ++ b, x) ∷ [])) [] row ws
-      → LeftIn vs w d (b ++ row) ws
-  back-adds vs w d b x a l = record {
-    more = (d ++ b, x) ∷ l .more;
+  back-adds : (vs : List Word) (w : Word) (s : List ℕ) (x : ℕ) → Adds s x → LeftIn vs (w ++ ((s, x) ∷ [])) row ws → LeftIn vs w (s ++ row) ws
+  back-adds vs w s x a l = record {
+    more = (s, x) ∷ l .more;
     add = (a, l .add);
     rest = l .rest;
     left = rw append-assoc at (l .left);
-    is = sym (append-assoc d b row) ∙ rw (l .is) (sym (append-assoc (d ++ b) (standing (l .more)) (closing ++ l .rest)));
+    is = rw (l .is) (sym (append-assoc s (standing (l .more)) (closing ++ l .rest)));
   }
 
   back-opening : (straight : Bool) (vs : List Word) → T (not straight) → LeftOpening vs (drop 1 opening) row ws → Left straight vs (61 ∷ row) ws
@@ -143,31 +142,28 @@ module _ (row : List ℕ) (ws : List Word) where
       by-cond (λ s. Rest s row ws) (eqb b x) _ _ r
       (λ t o. record { rest = o .rest; left = o .left; is = rw (eqb→eq b x t, o .is) refl }) (λ t n. absurd n)
 
-  back-in-word : (vs : List Word) (w : Word) (b : ℕ) → Rest (stepInWord (role b) vs w b) row ws → LeftIn vs w [] (b ∷ row) ws
+  back-in-word : (vs : List Word) (w : Word) (b : ℕ) → Rest (stepInWord (role b) vs w b) row ws → LeftIn vs w (b ∷ row) ws
   unfolding role
   back-in-word vs w b r =
       by-cond (λ k. Rest (stepInWord k vs w b) row ws) (eqb b 95) _ _ r
-      (λ t l. back-adds vs w [] (b ∷ []) 32 (rw (eqb→eq b 95 t) Adds.underscore) l)
-      (λ t r. by-cond (λ k. Rest (stepInWord k vs w b) row ws) (eqb b 61) _ _ r (λ u l. rw (eqb→eq b 61 u) (again l))
-      (λ u r. by-cond (λ k. Rest (stepInWord k vs w b) row ws) (eqb b 63) _ _ r (λ v l. rw (eqb→eq b 63 v) (again l))
+      (λ t l. back-adds vs w (b ∷ []) 32 (rw (eqb→eq b 95 t) Adds.underscore) l)
+      (λ t r. by-cond (λ k. Rest (stepInWord k vs w b) row ws) (eqb b 61) _ _ r (λ u l. rw (eqb→eq b 61 u) l)
+      (λ u r. by-cond (λ k. Rest (stepInWord k vs w b) row ws) (eqb b 63) _ _ r (λ v l. rw (eqb→eq b 63 v) l)
       (λ v r. by-cond (λ k. Rest (stepInWord k vs w b) row ws) (within 33 126 b) _ _ r
-      (λ z l. back-adds vs w [] (b ∷ []) b
+      (λ z l. back-adds vs w (b ∷ []) b
       (Adds.itself (within-low 33 126 b z) (within-high 33 126 b z) (eqb-no {a = b} {b = 63} v) (eqb-no {a = b} {b = 61} u) (eqb-no {a = b} {b = 95} t)) l)
       (λ z n. absurd n))))
-    where
-      again : {d : List ℕ} → LeftIn vs w d row ws → LeftIn vs w [] (d ++ row) ws
-      again l = record { more = l .more; add = l .add; rest = l .rest; left = l .left; is = l .is }
 
   back-first : (o : Option ℕ) (vs : List Word) (w : Word) (b : ℕ) → hexValue b ≡ o → Rest (stepDigit o vs w b) row ws
-      → LeftIn vs w (61 ∷ []) (b ∷ row) ws
+      → LeftIn vs w (61 ∷ b ∷ row) ws
   back-first none vs w b e r = absurd r
-  back-first (some high) vs w b e r = let l = r e in record { more = l .more; add = l .add; rest = l .rest; left = l .left; is = l .is }
+  back-first (some high) vs w b e r = r e
 
   back-second : (o : Option ℕ) (vs : List Word) (w : Word) (first high b : ℕ) → hexValue b ≡ o → hexValue first ≡ some high
-      → Rest (stepSecond o vs w first high b) row ws → LeftIn vs w (61 ∷ first ∷ []) (b ∷ row) ws
+      → Rest (stepSecond o vs w first high b) row ws → LeftIn vs w (61 ∷ first ∷ b ∷ row) ws
   back-second none vs w first high b e f r = absurd r
   back-second (some low) vs w first high b e f r =
-      back-adds vs w (61 ∷ first ∷ []) (b ∷ []) (high * 16 + low) (Adds.hex f e) r
+      back-adds vs w (61 ∷ first ∷ b ∷ []) (high * 16 + low) (Adds.hex f e) r
 
   -- from what is left after a byte to what is left before it
   back-step : (s : State) (b : ℕ) → Rest (step s b) row ws → Rest s (b ∷ row) ws

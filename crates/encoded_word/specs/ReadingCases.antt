@@ -58,13 +58,21 @@ cases =
     -- spaces and CRLF before and after; CR at the end
     ∷ reads (13 ∷ 10 ∷ 32 ∷ a ++ (32 ∷ 13 ∷ 10 ∷ [])) (97 ∷ [])
     ∷ faults (a ++ (13 ∷ []))
-    -- `=C3=A9`, `=c3=a9`; `=c`, `=4`, `=`, `=4g`
+    -- `=C3=A9`, `=c3=a9`, `=Ff`; `=c`, `=4`, `=`
     ∷ reads (encoded (61 ∷ 67 ∷ 51 ∷ 61 ∷ 65 ∷ 57 ∷ [])) (195 ∷ 169 ∷ [])
     ∷ reads (encoded (61 ∷ 99 ∷ 51 ∷ 61 ∷ 97 ∷ 57 ∷ [])) (195 ∷ 169 ∷ [])
+    ∷ reads (encoded (61 ∷ 70 ∷ 102 ∷ [])) (255 ∷ [])
     ∷ faults (encoded (61 ∷ 99 ∷ []))
     ∷ faults (encoded (61 ∷ 52 ∷ []))
     ∷ faults (encoded (61 ∷ []))
-    ∷ faults (encoded (61 ∷ 52 ∷ 103 ∷ []))
+    -- bytes beside the hex digits: `=/0`, `=:0`, `=@0`, `=G0`, `` =`0 ``, `=g0`, `=0g`
+    ∷ faults (encoded (61 ∷ 47 ∷ 48 ∷ []))
+    ∷ faults (encoded (61 ∷ 58 ∷ 48 ∷ []))
+    ∷ faults (encoded (61 ∷ 64 ∷ 48 ∷ []))
+    ∷ faults (encoded (61 ∷ 71 ∷ 48 ∷ []))
+    ∷ faults (encoded (61 ∷ 96 ∷ 48 ∷ []))
+    ∷ faults (encoded (61 ∷ 103 ∷ 48 ∷ []))
+    ∷ faults (encoded (61 ∷ 48 ∷ 103 ∷ []))
     -- a word that adds nothing; `_`; bytes 33 and 126; 127, 128, a space, a TAB, CR
     ∷ reads (encoded []) []
     ∷ reads (encoded (95 ∷ [])) (32 ∷ [])
