@@ -1,13 +1,13 @@
 -- Demand 3 holds of every text of UTF-8 and its row. Proved once over the room of a word. Assumes nothing.
 use mathlib.Core.Path.{_≡_, refl, sym, ap, _∙_}
-use mathlib.Core.Bool.{Bool, _&&_}
-use mathlib.Core.List.{List, [], _∷_, _++_, append-nil, map, nil≢cons}
+use mathlib.Core.Bool.{Bool}
+use mathlib.Core.List.{List, [], _∷_, _++_, append-nil, map, nil≢cons, List·Memᴰ, List·Memᴰ·head, List·Memᴰ·tail}
 use mathlib.Core.Option.{some}
-use Prim.Native.Nat.{ℕ, zero, suc, _+_, _*_, _≤_, _<_}
+use Prim.Native.Nat.{ℕ, suc, _+_, _≤_, _<_}
 use native.Mathlib.Omega.{arith}
 use lib.ListN.{length, length-append, length-map}
 use lib.Dec.{T, leb→le, le→leb, lit≤}
-use mir.Facts.{and-yes, yes-and}
+use mir.Facts.{and-yes}
 use Rattle.utf8.specs.Lists.{all, all-append, all-joined, nonempty, joined, joined-append, joined-map}
 use Rattle.utf8.specs.Byte.{isByte}
 use Rattle.utf8.specs.Utf8.{isChar, chars, utf8}
@@ -15,11 +15,11 @@ use Rattle.utf8.specs.Utf8Laws.{chars-joined, chars-of, utf8-of, utf8-bytes, ch
 use Rattle.encoded_word.specs.Cut.{AllFit}
 use Rattle.encoded_word.specs.CutLaws.{cut-joined, cut-fits, cut-some, fewest}
 use Rattle.encoded_word.specs.Spelling.{spellByte, spell}
-use Rattle.encoded_word.specs.SpellingLaws.{length-spell, length-spell-joined}
+use Rattle.encoded_word.specs.SpellingLaws.{spell-byte-some, length-spell, length-spell-append, length-spell-joined}
 use Rattle.encoded_word.specs.Reading.{Word, added, standing, wordBytes, wordsOf, textOf, opening, closing}
-use Rattle.encoded_word.specs.ReadingLaws.{ours, words-of-lines}
-use Rattle.encoded_word.specs.Row.{fitsRoom, runs, rowIn}
-use Rattle.encoded_word.specs.Demand3.{InSpelling, Proper, AllProper, StandsIn, Stands}
+use Rattle.encoded_word.specs.ReadingLaws.{ours, ours-standing, words-of-lines, reads-as, words-text}
+use Rattle.encoded_word.specs.Row.{fitsRoom, runs, word, rowIn, row}
+use Rattle.encoded_word.specs.Demand3.{InSpelling, AllProper, Demand3In, Demand3}
 
 -- a word is its opening and closing, 12 characters, and what stands between
 length-word : (w : Word) → length (wordBytes w) ≡ length (standing w) + 12
@@ -48,7 +48,7 @@ unfolding runs
 runs-some room [] = tt
 runs-some room (c ∷ cs) = cut-some (fitsRoom room) 0 (c ∷ []) cs tt
 
--- a room of 12 holds every character
+-- a room of 12 holds every character, 4 bytes of 3 characters each
 char-fits : (room : ℕ) → 12 ≤ room → (k : ℕ) (c : List ℕ) → T (isChar c) → T (fitsRoom room k (c ∷ []))
 char-fits room h k c t = rw append-nil (le→leb (length (spell c)) room (omega (arith, length-spell c, char-length c t)))
 
@@ -68,47 +68,43 @@ runs-fewest room (c ∷ cs) (h ∷ hs) f e = fewest (fitsRoom room) (fits-part r
 
 -- ---- the runs of characters that any proper words hold
 
-abbrev held : List Word → List (List (List ℕ))
-held [] = []
-held (w ∷ ws) = chars (added w) ∷ held ws
+-- the characters of each word
+abbrev runsOf : List Word → List (List (List ℕ))
+runsOf [] = []
+runsOf (w ∷ ws) = chars (added w) ∷ runsOf ws
 
 module _ (room : ℕ) where
-  held-fit : (k : ℕ) (ws : List Word) → AllProper (room + 12) ws → AllFit (fitsRoom room) k (held ws)
-  held-fit k [] h = tt
-  held-fit k (w ∷ ws) h = (
+  runs-of-fit : (k : ℕ) (ws : List Word) → AllProper (room + 12) ws → AllFit (fitsRoom room) k (runsOf ws)
+  runs-of-fit k [] h = tt
+  runs-of-fit k (w ∷ ws) h = (
     le→leb (length (spell (joined (chars (added w))))) room
         (rw (chars-joined (added w), ← (spelt-standing w (h .0 .spelt))) (omega (arith, length-word w, h .0 .short))),
-    held-fit (suc k) ws (h .1),
+    runs-of-fit (suc k) ws (h .1),
   )
 
-  held-chars : (ws : List Word) → AllProper (room + 12) ws → T (all isChar (joined (held ws)))
+  runs-of-chars : (ws : List Word) → AllProper (room + 12) ws → T (all isChar (joined (runsOf ws)))
   unfolding utf8
-  held-chars [] h = tt
-  held-chars (w ∷ ws) h = all-append isChar (chars (added w)) (joined (held ws)) (h .0 .whole) (held-chars ws (h .1))
+  runs-of-chars [] h = tt
+  runs-of-chars (w ∷ ws) h = all-append isChar (chars (added w)) (joined (runsOf ws)) (h .0 .whole) (runs-of-chars ws (h .1))
 
-held-text : (ws : List Word) → joined (joined (held ws)) ≡ textOf ws
-held-text [] = refl
-held-text (w ∷ ws) = rw (joined-append (chars (added w)) (joined (held ws)), chars-joined (added w), held-text ws) refl
+runs-of-text : (ws : List Word) → joined (joined (runsOf ws)) ≡ textOf ws
+runs-of-text [] = refl
+runs-of-text (w ∷ ws) = rw (joined-append (chars (added w)) (joined (runsOf ws)), chars-joined (added w), runs-of-text ws) refl
 
-length-held : (ws : List Word) → length (held ws) ≡ length ws
-length-held [] = refl
-length-held (w ∷ ws) = ap suc (length-held ws)
+length-runs-of : (ws : List Word) → length (runsOf ws) ≡ length ws
+length-runs-of [] = refl
+length-runs-of (w ∷ ws) = ap suc (length-runs-of ws)
 
 words-fewest : (room : ℕ) (ws : List Word) → AllProper (room + 12) ws → length (runs room (chars (textOf ws))) ≤ length ws
 words-fewest room ws h =
-    let same : chars (textOf ws) ≡ joined (held ws) = ap chars (sym (held-text ws)) ∙ chars-of (joined (held ws)) (held-chars room ws h) in
-    rw (same, ← (length-held ws)) (runs-fewest room (joined (held ws)) (held ws) (held-fit room 0 ws h) refl)
+    let same : chars (textOf ws) ≡ joined (runsOf ws) = ap chars (sym (runs-of-text ws)) ∙ chars-of (joined (runsOf ws)) (runs-of-chars room ws h) in
+    rw (same, ← (length-runs-of ws)) (runs-fewest room (joined (runsOf ws)) (runsOf ws) (runs-of-fit room 0 ws h) refl)
 
 -- ---- our words
 
 ours-added : (bytes : List ℕ) → added (ours bytes) ≡ bytes
 ours-added [] = refl
 ours-added (b ∷ bytes) = ap (λ (x : List ℕ). b ∷ x) (ours-added bytes)
-
-ours-standing : (bytes : List ℕ) → standing (ours bytes) ≡ spell bytes
-unfolding spell
-ours-standing [] = refl
-ours-standing (b ∷ bytes) = ap (λ (x : List ℕ). spellByte b ++ x) (ours-standing bytes)
 
 ours-spelt : (bytes : List ℕ) → InSpelling (ours bytes)
 ours-spelt [] = tt
@@ -160,16 +156,62 @@ unfolding rowWords
 row-fewest room text ws e h =
     rw (length-map (map joined (runs room (chars text))) ours, length-map (runs room (chars text)) joined, ← e) (words-fewest room ws h)
 
--- Demand 3, over the room.
-pub stands-in : (room : ℕ) (text : List ℕ) → 12 ≤ room → T (utf8 text) → StandsIn (room + 12) text (rowIn room text)
-stands-in room text h u = record {
+-- Demand 3, over the room. A room of 12 holds every character, 4 bytes of 3 characters each; the other 12 are the opening and
+-- the closing of a word.
+pub demand-3-in : (room : ℕ) (text : List ℕ) → 12 ≤ room → T (utf8 text) → Demand3In (room + 12) text (rowIn room text)
+demand-3-in room text h u = record {
+  reads = reads-as (rowIn room text) (rowWords room text) (row-reads room text u) ∙ ap some (row-text room text);
   words = rowWords room text;
-  reads = row-reads room text u;
-  back = row-text room text;
+  has = row-reads room text u;
   proper = row-proper room text h u;
-  fewest = λ other ws r e p. row-fewest room text ws e p;
+  fewest = λ other ws r e p. row-fewest room text ws (words-text other ws text e r) p;
 }
 
 -- Demand 3.
-pub stands : (text : List ℕ) → T (utf8 text) → Stands text (rowIn 63 text)
-stands text u = stands-in 63 text (lit≤ tt) u
+pub demand-3 : (text : List ℕ) → T (utf8 text) → Demand3 text (row text)
+demand-3 text u = demand-3-in 63 text (lit≤ tt) u
+
+-- ---- the length of a word, and of its line
+
+spell-some : (c : List ℕ) → T (isChar c) → 0 < length (spell c)
+unfolding spell isChar
+spell-some [] t = absurd t
+spell-some (b ∷ l) t = omega (arith, length-append (spellByte b) (spell l), spell-byte-some b)
+
+run-some : (run : List (List ℕ)) → T (nonempty run) → T (all isChar run) → 1 ≤ length (spell (joined run))
+run-some [] n t = absurd n
+run-some (c ∷ run) n t =
+    omega (arith, length-spell-append c (joined run), spell-some c (and-yes (isChar c) (all isChar run) t .0))
+
+-- what holds of all holds of a member
+all-mem : {A : Type 0} (f : A → Bool) {xs : List A} {x : A} → T (all f xs) → List·Memᴰ x xs → T (f x)
+all-mem f h (List·Memᴰ·head {x} {xs} e) = rw e (and-yes (f x) (all f xs) h .0)
+all-mem f h (List·Memᴰ·tail {x} {xs} m) = all-mem f (and-yes (f x) (all f xs) h .1) m
+
+fit-mem : (room k : ℕ) {rs : List (List (List ℕ))} {run : List (List ℕ)} → AllFit (fitsRoom room) k rs → List·Memᴰ run rs
+    → length (spell (joined run)) ≤ room
+fit-mem room k f (List·Memᴰ·head {x} {xs} e) = rw e (leb→le (length (spell (joined x))) room (f .0))
+fit-mem room k f (List·Memᴰ·tail {x} {xs} m) = fit-mem room (suc k) (f .1) m
+
+-- "1 to 63 characters": what each word of a row has between its opening and its closing
+pub run-length : (room : ℕ) (text : List ℕ) → 12 ≤ room → T (utf8 text) → (run : List (List ℕ)) → List·Memᴰ run (runs room (chars text))
+    → (1 ≤ length (spell (joined run))) × (length (spell (joined run)) ≤ room)
+unfolding utf8
+run-length room text h u run m = (
+  run-some run (all-mem nonempty (runs-some room (chars text)) m)
+      (all-mem (all isChar) (all-joined isChar (runs room (chars text)) (rw (runs-joined room (chars text)) u)) m),
+  fit-mem room 0 (runs-fit room h (chars text) u) m,
+)
+
+-- a line, its space and its word; 13 are the space, the opening and the closing
+pub line-length-in : (room : ℕ) (text : List ℕ) → 12 ≤ room → T (utf8 text) → (run : List (List ℕ)) → List·Memᴰ run (runs room (chars text))
+    → length (32 ∷ word (joined run)) ≤ room + 13
+unfolding word
+line-length-in room text h u run m =
+    rw (length-append opening (spell (joined run) ++ closing), length-append (spell (joined run)) closing)
+    (omega (arith, run-length room text h u run m .1))
+
+-- "so such a line has at most 76 characters"
+pub line-length : (text : List ℕ) → T (utf8 text) → (run : List (List ℕ)) → List·Memᴰ run (runs 63 (chars text))
+    → length (32 ∷ word (joined run)) ≤ 76
+line-length text u run m = line-length-in 63 text (lit≤ tt) u run m

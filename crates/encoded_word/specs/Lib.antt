@@ -3,10 +3,13 @@ pub mod CutLaws
 pub mod Spelling
 pub mod SpellingLaws
 pub mod Reading
+pub mod Layout
+pub mod LayoutLaws
 pub mod Row
 pub mod Demand3
 pub mod ReadingLaws
-pub mod Layout
 pub mod Demand3Laws
 pub mod Stream
 pub mod StreamLaws
+pub mod ReadingCases
+pub mod Cases

@@ -1,18 +1,19 @@
 -- "Reading a row back": "A row is read from its bytes alone, front to back. The reading starts between words, with nothing
--- added." Assumes nothing.
-use mathlib.Core.Path.{_≡_}
+-- added." Layout.antt says the same as a grammar, and LayoutLaws.antt proves that both say the same. Assumes nothing.
 use mathlib.Core.Bool.{Bool, true, false, not, cond, _&&_}
 use mathlib.Core.List.{List, [], _∷_, _++_, map}
 use mathlib.Core.Option.{Option, none, some, Option·map}
 use Prim.Native.Nat.{ℕ, _+_, _-_, _*_}
 use lib.Dec.{eqb}
+use lib.ListN.{drop}
 use Rattle.utf8.specs.Byte.{within}
 use Rattle.utf8.specs.Lists.{joined}
 
--- a byte that a word adds, after the bytes that stand there for it
+-- the bytes that stand in a word for one byte that it adds, and that byte
 abbrev pub Addition : Type 0
 Addition = List ℕ × ℕ
 
+-- what a word adds, in order
 abbrev pub Word : Type 0
 Word = List Addition
 
@@ -24,79 +25,87 @@ opening = 61 ∷ 63 ∷ 85 ∷ 84 ∷ 70 ∷ 45 ∷ 56 ∷ 63 ∷ 81 ∷ 63 ∷ 
 abbrev pub closing : List ℕ
 closing = 63 ∷ 61 ∷ []
 
--- Where the reading stands, with the words closed so far and, in a word, what it has added so far.
-pub data Place : Type 0 where
-  fault : Place
+-- The state of the reading, with the words closed so far and, in a word, what it has added so far. A row without a fault
+-- closes every word that it opens, so the words closed at its end are those that it opens.
+pub data State : Type 0 where
+  fault : State
   -- between words; true straight after the `?=` of a word
-  between : Bool → List Word → Place
+  between : Bool → List Word → State
   -- after a CR between words
-  afterCr : List Word → Place
+  afterCr : List Word → State
   -- inside `=?UTF-8?Q?`, with these bytes of it to come
-  opens : List ℕ → List Word → Place
-  inWord : List Word → Word → Place
+  opens : List ℕ → List Word → State
+  inWord : List Word → Word → State
   -- in a word after `=`; and after `=` and a digit, with the digit and its value
-  afterEquals : List Word → Word → Place
-  afterDigit : List Word → Word → ℕ → ℕ → Place
+  afterEquals : List Word → Word → State
+  afterDigit : List Word → Word → ℕ → ℕ → State
   -- in a word after `?`
-  closes : List Word → Word → Place
+  closes : List Word → Word → State
 
 -- what a byte is in a word
-pub data Kind : Type 0 where
-  underscore equals question itself other : Kind
+pub data Role : Type 0 where
+  underscore equals question itself other : Role
 
-unfoldable pub kind : ℕ → Kind
-kind b = cond (eqb b 95) underscore (cond (eqb b 61) equals (cond (eqb b 63) question (cond (within 33 126 b) itself other)))
+-- 95 is `_`, 61 is `=`, 63 is `?`
+unfoldable pub role : ℕ → Role
+role b = cond (eqb b 95) underscore (cond (eqb b 61) equals (cond (eqb b 63) question (cond (within 33 126 b) itself other)))
 
--- the value of a hex digit in any case
+-- the value of a hex digit in any case: 0 to 9, A to F, a to f
 unfoldable pub hexValue : ℕ → Option ℕ
 hexValue b = cond (within 48 57 b) (some (b - 48)) (cond (within 65 70 b) (some (b - 55)) (cond (within 97 102 b) (some (b - 87)) none))
 
 -- "Between words: CRLF and spaces add nothing. `=?UTF-8?Q?` opens a word; straight after the `?=` of another it is a fault."
-abbrev pub stepBetween : Bool → List Word → ℕ → Place
+-- 32 is the space, 13 is CR, 61 is `=`.
+abbrev pub stepBetween : Bool → List Word → ℕ → State
 stepBetween straight ws b =
     cond (eqb b 32) (between false ws)
     (cond (eqb b 13) (afterCr ws)
-    (cond (eqb b 61 && not straight) (opens (63 ∷ 85 ∷ 84 ∷ 70 ∷ 45 ∷ 56 ∷ 63 ∷ 81 ∷ 63 ∷ []) ws) fault))
+    (cond (eqb b 61 && not straight) (opens (drop 1 opening) ws) fault))
 
-abbrev pub stepOpens : List ℕ → List Word → ℕ → Place
+-- The next byte of `=?UTF-8?Q?`, and nothing else. `stepOpens []` is never reached: after the last byte the word is open.
+abbrev pub stepOpens : List ℕ → List Word → ℕ → State
 stepOpens [] ws b = fault
 stepOpens (x ∷ []) ws b = cond (eqb b x) (inWord ws []) fault
 stepOpens (x ∷ y ∷ more) ws b = cond (eqb b x) (opens (y ∷ more) ws) fault
 
 -- "In a word: `_` adds byte 32. `=` with two hex digits in any case adds that byte. `?=` closes the word. Any other byte 33 to
 -- 126 except `?` and `=` adds itself."
-abbrev pub stepInWord : Kind → List Word → Word → ℕ → Place
+abbrev pub stepInWord : Role → List Word → Word → ℕ → State
 stepInWord underscore ws w b = inWord ws (w ++ ((b ∷ [], 32) ∷ []))
 stepInWord equals ws w b = afterEquals ws w
 stepInWord question ws w b = closes ws w
 stepInWord itself ws w b = inWord ws (w ++ ((b ∷ [], b) ∷ []))
 stepInWord other ws w b = fault
 
-abbrev pub stepDigit : Option ℕ → List Word → Word → ℕ → Place
+-- after `=`: the first hex digit, with its value
+abbrev pub stepDigit : Option ℕ → List Word → Word → ℕ → State
 stepDigit none ws w b = fault
 stepDigit (some high) ws w b = afterDigit ws w b high
 
-abbrev pub stepSecond : Option ℕ → List Word → Word → ℕ → ℕ → ℕ → Place
+-- after `=` (61) and a hex digit: the second, and the byte is added
+abbrev pub stepSecond : Option ℕ → List Word → Word → ℕ → ℕ → ℕ → State
 stepSecond none ws w first high b = fault
 stepSecond (some low) ws w first high b = inWord ws (w ++ ((61 ∷ first ∷ b ∷ [], high * 16 + low) ∷ []))
 
--- "Anything else is a fault"
-unfoldable pub step : Place → ℕ → Place
+-- One byte read. "Anything else is a fault": also a byte other than LF (10) after CR, and other than `=` (61) after the `?` of
+-- a word.
+unfoldable pub step : State → ℕ → State
 step fault b = fault
 step (between straight ws) b = stepBetween straight ws b
 step (afterCr ws) b = cond (eqb b 10) (between false ws) fault
 step (opens more ws) b = stepOpens more ws b
-step (inWord ws w) b = stepInWord (kind b) ws w b
+step (inWord ws w) b = stepInWord (role b) ws w b
 step (afterEquals ws w) b = stepDigit (hexValue b) ws w b
 step (afterDigit ws w first high) b = stepSecond (hexValue b) ws w first high b
 step (closes ws w) b = cond (eqb b 61) (between true (ws ++ (w ∷ []))) fault
 
-unfoldable pub reading : Place → List ℕ → Place
-reading p [] = p
-reading p (b ∷ row) = reading (step p b) row
+-- the bytes of a row read one after another
+unfoldable pub reading : State → List ℕ → State
+reading s [] = s
+reading s (b ∷ row) = reading (step s b) row
 
--- ", and so is an end inside a word." A CR at the end is no CRLF, and a fault too.
-abbrev pub finish : Place → Option (List Word)
+-- The words at the end: "and so is an end inside a word", also inside `=?UTF-8?Q?`. A CR at the end is no CRLF, and a fault too.
+abbrev pub finish : State → Option (List Word)
 finish fault = none
 finish (between straight ws) = some ws
 finish (afterCr ws) = none
@@ -110,11 +119,12 @@ finish (closes ws w) = none
 unfoldable pub wordsOf : List ℕ → Option (List Word)
 wordsOf row = finish (reading (between false []) row)
 
--- the bytes that a word adds, and those that stand in it for them
+-- the bytes that a word adds
 abbrev pub added : Word → List ℕ
 added [] = []
 added (a ∷ w) = a .1 ∷ added w
 
+-- the bytes that stand in a word for those that it adds
 abbrev pub standing : Word → List ℕ
 standing [] = []
 standing (a ∷ w) = a .0 ++ standing w

@@ -1,47 +1,30 @@
 -- What we write reads back: a byte in our spelling, a word, words each on a line of its own. Assumes nothing.
-use mathlib.Core.Path.{_≡_, refl, sym, ap, _∙_}
-use mathlib.Core.Bool.{Bool, true, false, not, cond, _||_}
-use mathlib.Core.List.{List, [], _∷_, _++_, append-assoc, append-nil, map}
+use mathlib.Core.Path.{_≡_, refl, ap}
+use mathlib.Core.Bool.{Bool, true, false, not, _||_}
+use mathlib.Core.List.{List, [], _∷_, _++_, map}
 use mathlib.Core.Option.{Option, none, some}
-use Prim.Native.Nat.{ℕ, _+_, _*_, _/_, _%_, _≤_, _<_}
+use Prim.Native.Nat.{ℕ, _/_, _%_, _<_}
 use native.Mathlib.Nat.{div-add-mod'}
 use native.Mathlib.Omega.{arith}
 use lib.Dec.{T, eqb, eqb→eq, ltb→lt}
 use mir.Facts.{and-yes}
 use Rattle.utf8.specs.Lists.{by-test, all}
-use Rattle.utf8.specs.Byte.{below, implies, isByte}
+use Rattle.utf8.specs.Byte.{below, implies, isByte, within, within-low, within-high}
 use Rattle.encoded_word.specs.Spelling.{bare, hexDigit, spellByte, spell}
 use Rattle.encoded_word.specs.SpellingLaws.{spell-bare, spell-space, spell-hex}
-use Rattle.encoded_word.specs.Reading.{Word, opening, closing, Place, Kind, kind, hexValue, step, reading, finish, wordsOf}
-use Rattle.encoded_word.specs.Reading.Place.{between, inWord}
-use Rattle.encoded_word.specs.Reading.Kind.{underscore, equals, question, itself, other}
+use Rattle.encoded_word.specs.Reading.{Word, standing, hexValue, wordsOf, textOf, readsAs}
+use Rattle.encoded_word.specs.Layout.{Adds, AllAdd, LaidAfter}
+use Rattle.encoded_word.specs.Layout.LaidAfter.{empty, space, crlf}
+use Rattle.encoded_word.specs.LayoutLaws.{laid-reads}
 use Rattle.encoded_word.specs.Row.{word, lines}
-
-reading-append : (p : Place) (a b : List ℕ) → reading p (a ++ b) ≡ reading (reading p a) b
-unfolding reading
-reading-append p [] b = refl
-reading-append p (x ∷ a) b = reading-append (step p x) a b
 
 -- ---- a byte
 
-isItself : Kind → Bool
-isItself underscore = false
-isItself equals = false
-isItself question = false
-isItself itself = true
-isItself other = false
-
-is-itself : (k : Kind) → T (isItself k) → k ≡ itself
-unfolding isItself
-is-itself underscore t = absurd t
-is-itself equals t = absurd t
-is-itself question t = absurd t
-is-itself itself t = refl
-is-itself other t = absurd t
-
-bare-itself : (b : ℕ) → b < 256 → T (bare b) → kind b ≡ itself
-unfolding isItself kind bare
-bare-itself b h t = is-itself (kind b) (implies (bare b) (isItself (kind b)) (below (λ k. not (bare k) || isItself (kind k)) 256 tt b h) t)
+bare-adds : (b : ℕ) → b < 256 → T (bare b) → Adds (b ∷ []) b
+unfolding bare
+bare-adds b h t =
+    let w = implies (bare b) (within 33 126 b) (below (λ k. not (bare k) || within 33 126 k) 256 tt b h) t in
+    Adds.itself (within-low 33 126 b w) (within-high 33 126 b w) (λ e. rw e at t) (λ e. rw e at t) (λ e. rw e at t)
 
 isValue : Option ℕ → ℕ → Bool
 isValue none n = false
@@ -57,14 +40,15 @@ pub hex-back : (d : ℕ) → d < 16 → hexValue (hexDigit d) ≡ some d
 unfolding isValue hexValue hexDigit
 hex-back d h = is-value _ d (below (λ k. isValue (hexValue (hexDigit k)) k) 16 tt d h)
 
-read-byte : (ws : List Word) (w : Word) (b : ℕ) → b < 256 → reading (inWord ws w) (spellByte b) ≡ inWord ws (w ++ ((spellByte b, b) ∷ []))
-unfolding reading step kind
-read-byte ws w b h =
+-- our spelling of a byte adds it
+spelling-adds : (b : ℕ) → b < 256 → Adds (spellByte b) b
+spelling-adds b h =
     by-test (bare b)
-    (λ t. rw (spell-bare b t, bare-itself b h t) refl)
+    (λ t. rw (spell-bare b t) (bare-adds b h t))
     (λ t. by-test (eqb b 32)
-    (λ u. rw (eqb→eq b 32 u, spell-space) refl)
-    (λ u. rw (spell-hex b t u, hex-back (b / 16) (omega arith), hex-back (b % 16) (omega arith), div-add-mod' b 16) refl))
+    (λ u. rw (eqb→eq b 32 u, spell-space) Adds.underscore)
+    (λ u. rw (spell-hex b t u)
+    (rw (div-add-mod' b 16) at (Adds.hex (hex-back (b / 16) (omega arith)) (hex-back (b % 16) (omega arith))))))
 
 -- ---- words
 
@@ -73,37 +57,32 @@ abbrev pub ours : List ℕ → Word
 ours [] = []
 ours (b ∷ bytes) = (spellByte b, b) ∷ ours bytes
 
-read-spell : (ws : List Word) (w : Word) (bytes : List ℕ) → T (all isByte bytes) → reading (inWord ws w) (spell bytes) ≡ inWord ws (w ++ ours bytes)
-unfolding reading spell
-read-spell ws w [] h = rw append-nil
-read-spell ws w (b ∷ bytes) h =
+ours-add : (bytes : List ℕ) → T (all isByte bytes) → AllAdd (ours bytes)
+ours-add [] h = tt
+ours-add (b ∷ bytes) h =
     let both = and-yes (isByte b) (all isByte bytes) h in
-    rw (
-      reading-append (inWord ws w) (spellByte b) (spell bytes),
-      read-byte ws w b (ltb→lt b 256 (both .0)),
-      read-spell ws (w ++ ((spellByte b, b) ∷ [])) bytes (both .1),
-      append-assoc,
-    ) refl
+    (spelling-adds b (ltb→lt b 256 (both .0)), ours-add bytes (both .1))
 
-read-word : (straight : Bool) (ws : List Word) (bytes : List ℕ) → T (all isByte bytes)
-    → reading (between straight ws) (13 ∷ 10 ∷ 32 ∷ word bytes) ≡ between true (ws ++ (ours bytes ∷ []))
-unfolding reading step word kind
-read-word straight ws bytes h = rw (reading-append (inWord ws []) (spell bytes) closing, read-spell ws [] bytes h) refl
+pub ours-standing : (bytes : List ℕ) → standing (ours bytes) ≡ spell bytes
+unfolding spell
+ours-standing [] = refl
+ours-standing (b ∷ bytes) = ap (λ (x : List ℕ). spellByte b ++ x) (ours-standing bytes)
 
-read-lines : (straight : Bool) (ws : List Word) (ls : List (List ℕ)) → T (all (all isByte) ls)
-    → finish (reading (between straight ws) (lines ls)) ≡ some (ws ++ map ours ls)
-unfolding reading lines
-read-lines straight ws [] h = rw append-nil
-read-lines straight ws (l ∷ ls) h =
+lines-laid : (straight : Bool) (ls : List (List ℕ)) → T (all (all isByte) ls) → LaidAfter straight (lines ls) (map ours ls)
+unfolding lines word
+lines-laid straight [] h = empty
+lines-laid straight (l ∷ ls) h =
     let both = and-yes (all isByte l) (all (all isByte) ls) h in
-    rw (
-      reading-append (between straight ws) (13 ∷ 10 ∷ 32 ∷ word l) (lines ls),
-      read-word straight ws l (both .0),
-      read-lines true (ws ++ (ours l ∷ [])) ls (both .1),
-      append-assoc,
-    ) refl
+    crlf (space (rw (ours-standing l) at (LaidAfter.word {w = ours l} (ours-add l (both .0)) (lines-laid true ls (both .1)))))
 
 -- The words that we write are read back, each as it was.
 pub words-of-lines : (ls : List (List ℕ)) → T (all (all isByte) ls) → wordsOf (lines ls) ≡ some (map ours ls)
-unfolding wordsOf
-words-of-lines ls h = read-lines false [] ls h
+words-of-lines ls h = laid-reads (lines-laid false ls h)
+
+-- a row with these words reads back as what they add
+pub reads-as : (row : List ℕ) (ws : List Word) → wordsOf row ≡ some ws → readsAs row ≡ some (textOf ws)
+unfolding readsAs
+reads-as row ws e = rw e
+
+pub words-text : (row : List ℕ) (ws : List Word) (text : List ℕ) → wordsOf row ≡ some ws → readsAs row ≡ some text → textOf ws ≡ text
+words-text row ws text e r = let s = reads-as row ws e in cc

@@ -10,7 +10,7 @@ use Rattle.encoded_word.specs.Cut.{cut}
 use Rattle.encoded_word.specs.Spelling.{spell}
 use Rattle.encoded_word.specs.Reading.{opening, closing}
 
--- characters that a word of this room holds
+-- whether a word with this room holds these characters; every word has the same room, so k is not used
 abbrev pub fitsRoom : ℕ → ℕ → List (List ℕ) → Bool
 fitsRoom room k run = leb (length (spell (joined run))) room
 
@@ -19,18 +19,20 @@ unfoldable pub runs : ℕ → List (List ℕ) → List (List (List ℕ))
 runs room [] = []
 runs room (c ∷ cs) = cut (fitsRoom room) 0 (c ∷ []) cs
 
--- "A word is `=?UTF-8?Q?`, 1 to 63 characters, `?=`."
+-- "A word is `=?UTF-8?Q?`, 1 to 63 characters, `?=`.": `=?UTF-8?Q?`, the bytes in our spelling, `?=`
 unfoldable pub word : List ℕ → List ℕ
 word bytes = opening ++ (spell bytes ++ closing)
 
--- "Every word has a line of its own: CRLF and one space come before it"
+-- "Every word has a line of its own: CRLF and one space come before it". 13 is CR, 10 is LF, 32 is the space.
 unfoldable pub lines : List (List ℕ) → List ℕ
 lines [] = []
 lines (bytes ∷ more) = (13 ∷ 10 ∷ 32 ∷ word bytes) ++ lines more
 
+-- the row of a text in words of 1 to so many characters
 unfoldable pub rowIn : ℕ → List ℕ → List ℕ
 rowIn room text = lines (map joined (runs room (chars text)))
 
+-- the row of a text, in words of "1 to 63 characters"
 abbrev pub row : List ℕ → List ℕ
 row text = rowIn 63 text
 

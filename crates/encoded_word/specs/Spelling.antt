@@ -6,7 +6,7 @@ use Prim.Native.Nat.{ℕ, _+_, _/_, _%_}
 use lib.Dec.{eqb, ltb}
 use Rattle.utf8.specs.Byte.{within}
 
--- letters, digits and !*+-/
+-- the bytes that stand for themselves: letters, digits and !*+-/
 unfoldable pub bare : ℕ → Bool
 bare b = within 65 90 b || within 97 122 b || within 48 57 b || eqb b 33 || eqb b 42 || eqb b 43 || eqb b 45 || eqb b 47
 
@@ -18,13 +18,15 @@ high b = within 128 255 b
 unfoldable pub hexDigit : ℕ → ℕ
 hexDigit d = cond (ltb d 10) (d + 48) (d + 55)
 
--- `=` and two hex digits
+-- `=` (61) and two uppercase hex digits
 abbrev pub escape : ℕ → List ℕ
 escape b = 61 ∷ hexDigit (b / 16) ∷ hexDigit (b % 16) ∷ []
 
+-- how a byte is written: itself, or `_` (95) for a space (32), or `=` and two digits
 unfoldable pub spellByte : ℕ → List ℕ
 spellByte b = cond (bare b) (b ∷ []) (cond (eqb b 32) (95 ∷ []) (escape b))
 
+-- how bytes are written, one after another
 unfoldable pub spell : List ℕ → List ℕ
 spell [] = []
 spell (b ∷ bytes) = spellByte b ++ spell bytes
