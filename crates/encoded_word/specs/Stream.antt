@@ -8,7 +8,7 @@ use lib.ListN.{length, take, drop, getD}
 use Rattle.utf8.specs.Lists.{all}
 use Rattle.utf8.specs.Utf8.{chars, charLen}
 use Rattle.buffer.specs.Buffer.{Appended, Reached}
-use Rattle.encoded_word.specs.Spelling.{high, hexDigit, spellByte, spell}
+use Rattle.encoded_word.specs.Spelling.{bare, high, hexDigit, spellByte, spell}
 use Rattle.encoded_word.specs.Reading.{opening, closing}
 
 -- how many characters of a word some bytes take, and a byte takes
@@ -46,12 +46,12 @@ from f k (suc n) = f k ∷ from f (suc k) n
 unfoldable pub hexDigits : List ℕ
 hexDigits = from hexDigit 0 16
 
-unfoldable pub byteCosts : List ℕ
-byteCosts = from byteCost 0 256
+-- the first character of a byte's spelling: its only one, or the `=` of an escape
+unfoldable pub firstChar : ℕ → ℕ
+firstChar b = cond (bare b) b (cond (eqb b 32) 95 61)
 
--- the one character that stands for a byte that takes one
-unfoldable pub alone : ℕ → ℕ
-alone b = cond (eqb b 32) 95 b
+unfoldable pub firstChars : List ℕ
+firstChars = from firstChar 0 256
 
 -- The character at place i is whole, has r bytes, and none of them is ASCII; or r is 0.
 pub record HighChar (s : List ℕ) (i r : ℕ) : Type 0 where

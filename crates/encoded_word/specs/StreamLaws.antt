@@ -10,7 +10,7 @@ use lib.ListN.{length, take, drop, getD, length-append, length-take, length-drop
 use lib.Seq.{drop-cons}
 use lib.Dec.{T, leb, ltb, eqb, eqb→eq, leb→le, le→leb, lit≤, lt→ltb}
 use mir.Facts.{and-yes, yes-and, no-leb, leb-no, ltb-yes, ltb-no}
-use borrow.Author.Tests.{le-leb, lt-leb, leb-true, ltb-true, eqb-true}
+use borrow.Author.Tests.{le-leb, lt-leb, leb-true, ltb-true, eqb-true, eqb-false, not-true}
 use Rattle.utf8.specs.Lists.{by-test, cond-yes, cond-no, all, joined, joined-append}
 use Rattle.utf8.specs.Byte.{to-within}
 use Rattle.utf8.specs.Utf8.{charLen, charsAfter, chars}
@@ -20,10 +20,10 @@ use Rattle.utf8.specs.Utf8Laws.{char-len-some, char-len-le, chars-cons, chars-a
 use Rattle.encoded_word.specs.Cut.{cut}
 use Rattle.encoded_word.specs.CutLaws.{cut-more, cut-next}
 use Rattle.encoded_word.specs.Spelling.{bare, high, hexDigit, escape, spellByte, spell}
-use Rattle.encoded_word.specs.SpellingLaws.{spell-byte-some, spell-append, spell-bare, spell-space, spell-hex, spell-one, spell-at, spell-end, length-spell, length-spell-append, length-spell-byte, escapes, spell-high, length-escapes}
+use Rattle.encoded_word.specs.SpellingLaws.{spell-append, spell-bare, spell-space, spell-hex, spell-one, spell-at, spell-end, length-spell, escapes, spell-high, length-escapes}
 use Rattle.encoded_word.specs.Reading.{opening, closing}
 use Rattle.encoded_word.specs.Row.{fitsRoom, runs, word, lines, rowIn, bounded}
-use Rattle.encoded_word.specs.Stream.{cost, start, gap, leftAfter, onwards, onwardsAt, byteCost, byteCosts, hexDigits, from, alone, HighChar, Turned, MeasuredTurn, PutTurn}
+use Rattle.encoded_word.specs.Stream.{cost, start, gap, leftAfter, onwards, onwardsAt, byteCost, firstChar, firstChars, hexDigits, from, HighChar, Turned, MeasuredTurn, PutTurn}
 
 -- ---- the room in the open word
 
@@ -207,28 +207,32 @@ turned-then {s} {i} {left} {j} {mid} {k} {last} {xs} {ys} t u = record {
   joins = t .joins ∙ rw (u .joins, append-assoc);
 }
 
--- ---- a byte's spelling, by how many characters it takes
+-- ---- a byte's spelling, by its first character
 
 module _ (b : ℕ) where
-  three : byteCost b ≡ 1 → length (escape b) ≡ 1 → ⊥
-  three e k = omega (arith, k)
+  pub spelt-escape : firstChar b ≡ 61 → spellByte b ≡ escape b
+  unfolding firstChar bare
+  spelt-escape e =
+      by-test (bare b)
+      (λ t. let same : b ≡ 61 = sym (cond-yes (bare b) b _ t) ∙ e in absurd (rw same at t))
+      (λ t. by-test (eqb b 32)
+      (λ u. let same : _≡_ {A = ℕ} 95 61 = sym (cond-no (bare b) b _ t ∙ cond-yes (eqb b 32) 95 61 u) ∙ e in absurd (omega arith))
+      (λ u. spell-hex b t u))
 
-  pub spelt-alone : byteCost b ≡ 1 → spellByte b ≡ alone b ∷ []
-  unfolding alone bare
-  spelt-alone e =
-      by-test (eqb b 32) (λ t. rw (eqb→eq b 32 t, spell-space) refl)
-      (λ t. by-test (bare b)
-      (λ u. rw (spell-bare b u, cond-no (eqb b 32) 95 b t) refl)
-      (λ u. absurd (three e (sym (ap length (spell-hex b u t)) ∙ e))))
+  pub spelt-alone : (firstChar b ≡ 61 → ⊥) → spellByte b ≡ firstChar b ∷ []
+  unfolding firstChar bare
+  spelt-alone n =
+      by-test (bare b)
+      (λ t. spell-bare b t ∙ ap (λ (c : ℕ). c ∷ []) (sym (cond-yes (bare b) b _ t)))
+      (λ t. by-test (eqb b 32)
+      (λ u. rw (eqb→eq b 32 u, spell-space) refl)
+      (λ u. absurd (n (cond-no (bare b) b _ t ∙ cond-no (eqb b 32) 95 61 u))))
 
-  pub spelt-escape : (byteCost b ≡ 1 → ⊥) → spellByte b ≡ escape b
-  unfolding bare
-  spelt-escape n =
-      by-test (eqb b 32) (λ t. absurd (n (rw (eqb→eq b 32 t, spell-space) refl)))
-      (λ t. by-test (bare b) (λ u. absurd (n (ap length (spell-bare b u)))) (λ u. spell-hex b u t))
+  pub cost-escape : firstChar b ≡ 61 → byteCost b ≡ 3
+  cost-escape e = ap length (spelt-escape e)
 
-  pub byte-cost-le : byteCost b ≤ 3
-  byte-cost-le = length-spell-byte b
+  pub cost-alone : (firstChar b ≡ 61 → ⊥) → byteCost b ≡ 1
+  cost-alone n = ap length (spelt-alone n)
 
 -- a byte that takes one character is ASCII
 alone-ascii : (b : ℕ) → b < 256 → byteCost b ≡ 1 → b < 128
@@ -247,9 +251,9 @@ pub hex-digits-at : (d : ℕ) → d < 16 → getD hexDigits d 0 ≡ hexDigit d
 unfolding hexDigits
 hex-digits-at d h = from-at hexDigit 0 16 d h ∙ ap hexDigit (zero-add d)
 
-pub byte-costs-at : (b : ℕ) → b < 256 → getD byteCosts b 0 ≡ byteCost b
-unfolding byteCosts
-byte-costs-at b h = from-at byteCost 0 256 b h ∙ ap byteCost (zero-add b)
+pub first-chars-at : (b : ℕ) → b < 256 → getD firstChars b 0 ≡ firstChar b
+unfolding firstChars
+first-chars-at b h = from-at firstChar 0 256 b h ∙ ap firstChar (zero-add b)
 
 pub cost-at : (c : List ℕ) (i : ℕ) → i < length c → cost (drop i c) ≡ byteCost (getD c i 0) + cost (drop (i + 1) c)
 cost-at c i h = ap length (spell-at c i h) ∙ length-append (spellByte (getD c i 0)) (spell (drop (i + 1) c))
@@ -415,35 +419,41 @@ module _ (s : List ℕ) where
         size = rw (length-append, length-append, length-append) (omega arith);
       }
 
-  -- four that take one character each
+  -- four that take one character each, by the first characters x, y, z and w of their spellings
   pub put-alone : (i left at x y z w : ℕ) {before after : List ℕ} {next : ℕ} → leb 4 left && leb 4 (length s - i) ≡ true → left ≤ 63
       → getD s i 0 < 256 → getD s (i + 1) 0 < 256 → getD s (i + 1 + 1) 0 < 256 → getD s (i + 1 + 1 + 1) 0 < 256
-      → x ≡ byteCost (getD s i 0) → y ≡ byteCost (getD s (i + 1) 0) → z ≡ byteCost (getD s (i + 1 + 1) 0) → w ≡ byteCost (getD s (i + 1 + 1 + 1) 0)
-      → x + y + z + w ≡ 4
-      → Appended (alone (getD s i 0) ∷ alone (getD s (i + 1) 0) ∷ alone (getD s (i + 1 + 1) 0) ∷ alone (getD s (i + 1 + 1 + 1) 0) ∷ []) at before after next
+      → x ≡ firstChar (getD s i 0) → y ≡ firstChar (getD s (i + 1) 0) → z ≡ firstChar (getD s (i + 1 + 1) 0) → w ≡ firstChar (getD s (i + 1 + 1 + 1) 0)
+      → not (eqb x 61) && not (eqb y 61) && not (eqb z 61) && not (eqb w 61) ≡ true
+      → Appended (x ∷ y ∷ z ∷ w ∷ []) at before after next
       → PutTurn s i left at before after (i + 1 + 1 + 1 + 1) (left - 4) next
-  put-alone i left at x y z w room hl ka kb kc kd hx hy hz hw sum v =
+  put-alone i left at x y z w room hl ka kb kc kd hx hy hz hw none v =
       let p = both (leb 4 left) (leb 4 (length s - i)) room in
       let a = getD s i 0 in
       let b = getD s (i + 1) 0 in
       let c = getD s (i + 1 + 1) 0 in
       let d = getD s (i + 1 + 1 + 1) 0 in
-      let sa = spell-byte-some a in
-      let sb = spell-byte-some b in
-      let sc = spell-byte-some c in
-      let sd = spell-byte-some d in
-      let ea : byteCost a ≡ 1 = omega arith in
-      let eb : byteCost b ≡ 1 = omega arith in
-      let ec : byteCost c ≡ 1 = omega arith in
-      let ed : byteCost d ≡ 1 = omega arith in
+      let n1 = both (not (eqb x 61) && not (eqb y 61) && not (eqb z 61)) (not (eqb w 61)) none in
+      let n2 = both (not (eqb x 61) && not (eqb y 61)) (not (eqb z 61)) (n1 .0) in
+      let n3 = both (not (eqb x 61)) (not (eqb y 61)) (n2 .0) in
+      let na = other x a hx (n3 .0) in
+      let nb = other y b hy (n3 .1) in
+      let nc = other z c hz (n2 .1) in
+      let nd = other w d hw (n1 .1) in
+      let ea = cost-alone a na in
+      let eb = cost-alone b nb in
+      let ec = cost-alone c nc in
+      let ed = cost-alone d nd in
       record {
-        text = alone a ∷ alone b ∷ alone c ∷ alone d ∷ [];
-        turned = rw (spelt-alone a ea, spelt-alone b eb, spelt-alone c ec, spelt-alone d ed) at
+        text = x ∷ y ∷ z ∷ w ∷ [];
+        turned = rw (hx, hy, hz, hw) (rw (spelt-alone a na, spelt-alone b nb, spelt-alone c nc, spelt-alone d nd) at
             (turned-four i left 4 (leb-true 4 (length s - i) (p .1)) hl (alone-ascii a ka ea) (alone-ascii b kb eb) (alone-ascii c kc ec) (alone-ascii d kd ed)
-            (omega arith) (leb-true 4 left (p .0)));
+            (omega arith) (leb-true 4 left (p .0))));
         small = lit≤ tt;
         wrote = v;
       }
+    where
+      other : (x a : ℕ) → x ≡ firstChar a → not (eqb x 61) ≡ true → firstChar a ≡ 61 → ⊥
+      other x a h e k = eqb-false x 61 (not-true (eqb x 61) e) (h ∙ k)
 
 -- ---- turns, written
 

@@ -3,7 +3,7 @@ ghost use mathlib.Core.Path.{_≡_};
 ghost use Prim.Native.Nat.{_+_, _*_, _≤_, _<_};
 ghost use lib.ListN.{length, getD};
 ghost use Rattle.encoded_word.specs.Row.{row};
-ghost use Rattle.encoded_word.specs.Stream.{byteCosts, gap, leftAfter, MeasuredTurn};
+ghost use Rattle.encoded_word.specs.Stream.{firstChars, gap, leftAfter, MeasuredTurn};
 use crate::spelling::byte_cost;
 use crate::spelling::char_cost;
 use crate::spelling::char_end;
@@ -36,17 +36,17 @@ fn with_cost(i: usize, left: usize, n: usize, m: usize) -> Measure
 }
 
 // A character of any length, cut at the end of the text.
-fn any_char(costs: &[u8; 256], s: &[u8], i: usize, left: usize, n: usize) -> Measure
-    requires { ⌜ (now costs ≡ byteCosts) × (i < length (now s)) × (left ≤ 63) × (n ≤ 1152921504606846976) ⌝ }
+fn any_char(first: &[u8; 256], s: &[u8], i: usize, left: usize, n: usize) -> Measure
+    requires { ⌜ (now first ≡ firstChars) × (i < length (now s)) × (left ≤ 63) × (n ≤ 1152921504606846976) ⌝ }
     ensures { λ r. ⌜ MeasuredTurn (now (s .entry)) i left n (r .i) (r .left) (r .n) ⌝ }
 {
     let e = char_end(s, i);
-    with_cost(e, left, n, char_cost(costs, &s[i..e]))
+    with_cost(e, left, n, char_cost(first, &s[i..e]))
 }
 
 // A character that is not ASCII.
-fn high(costs: &[u8; 256], s: &[u8], i: usize, left: usize, n: usize) -> Measure
-    requires { ⌜ (now costs ≡ byteCosts) × (i < length (now s)) × (left ≤ 63) × (n ≤ 1152921504606846976) × (128 ≤ getD (now s) i 0) ⌝ }
+fn high(first: &[u8; 256], s: &[u8], i: usize, left: usize, n: usize) -> Measure
+    requires { ⌜ (now first ≡ firstChars) × (i < length (now s)) × (left ≤ 63) × (n ≤ 1152921504606846976) × (128 ≤ getD (now s) i 0) ⌝ }
     ensures { λ r. ⌜ MeasuredTurn (now (s .entry)) i left n (r .i) (r .left) (r .n) ⌝ }
 {
     let size = high_size(s, i);
@@ -59,21 +59,21 @@ fn high(costs: &[u8; 256], s: &[u8], i: usize, left: usize, n: usize) -> Measure
     if size == 4 {
         return with_cost(i + 4, left, n, 12);
     }
-    any_char(costs, s, i, left, n)
+    any_char(first, s, i, left, n)
 }
 
 // An ASCII character, or four where they fit the open word together.
-fn ascii(costs: &[u8; 256], s: &[u8], i: usize, left: usize, n: usize) -> Measure
-    requires { ⌜ (now costs ≡ byteCosts) × (i < length (now s)) × (left ≤ 63) × (n ≤ 1152921504606846976) × (getD (now s) i 0 < 128) ⌝ }
+fn ascii(first: &[u8; 256], s: &[u8], i: usize, left: usize, n: usize) -> Measure
+    requires { ⌜ (now first ≡ firstChars) × (i < length (now s)) × (left ≤ 63) × (n ≤ 1152921504606846976) × (getD (now s) i 0 < 128) ⌝ }
     ensures { λ r. ⌜ MeasuredTurn (now (s .entry)) i left n (r .i) (r .left) (r .n) ⌝ }
 {
-    let m1 = byte_cost(costs, s[i]);
+    let m1 = byte_cost(first, s[i]);
     let j = i + 1;
     if 4 <= s.len() - i {
         let k = j + 1;
         let l = k + 1;
         if (s[j] < 128) & (s[k] < 128) & (s[l] < 128) {
-            let m = m1 + byte_cost(costs, s[j]) + byte_cost(costs, s[k]) + byte_cost(costs, s[l]);
+            let m = m1 + byte_cost(first, s[j]) + byte_cost(first, s[k]) + byte_cost(first, s[l]);
             if m <= left {
                 return Measure {
                     i: l + 1,
@@ -87,18 +87,18 @@ fn ascii(costs: &[u8; 256], s: &[u8], i: usize, left: usize, n: usize) -> Measur
 }
 
 // The next character, or characters.
-fn next(costs: &[u8; 256], s: &[u8], i: usize, left: usize, n: usize) -> Measure
-    requires { ⌜ (now costs ≡ byteCosts) × (i < length (now s)) × (left ≤ 63) × (n ≤ 1152921504606846976) ⌝ }
+fn next(first: &[u8; 256], s: &[u8], i: usize, left: usize, n: usize) -> Measure
+    requires { ⌜ (now first ≡ firstChars) × (i < length (now s)) × (left ≤ 63) × (n ≤ 1152921504606846976) ⌝ }
     ensures { λ r. ⌜ MeasuredTurn (now (s .entry)) i left n (r .i) (r .left) (r .n) ⌝ }
 {
     if s[i] < 128 {
-        return ascii(costs, s, i, left, n);
+        return ascii(first, s, i, left, n);
     }
-    high(costs, s, i, left, n)
+    high(first, s, i, left, n)
 }
 
-pub(crate) fn row_len(costs: &[u8; 256], s: &[u8]) -> usize
-    requires { ⌜ (now costs ≡ byteCosts) × (length (now s) ≤ 4294967296) ⌝ }
+pub(crate) fn row_len(first: &[u8; 256], s: &[u8]) -> usize
+    requires { ⌜ (now first ≡ firstChars) × (length (now s) ≤ 4294967296) ⌝ }
     ensures { λ r. ⌜ r ≡ length (row (now (s .entry))) ⌝ }
 {
     if s.len() == 0 {
@@ -108,7 +108,7 @@ pub(crate) fn row_len(costs: &[u8; 256], s: &[u8]) -> usize
     let mut left = 63;
     let mut n = 13;
     while i < s.len() {
-        let r = next(costs, s, i, left, n);
+        let r = next(first, s, i, left, n);
         i = r.i;
         left = r.left;
         n = r.n;

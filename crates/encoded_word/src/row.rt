@@ -5,12 +5,12 @@ ghost use Prim.Native.Nat.{_+_, _*_, _≤_, _<_};
 ghost use lib.ListN.{length, getD};
 ghost use Rattle.buffer.specs.Buffer.{Wrote, Appended};
 ghost use Rattle.encoded_word.specs.Row.{row};
-ghost use Rattle.encoded_word.specs.Stream.{alone, byteCosts, hexDigits, onwardsAt, HighChar, PutTurn, Ran};
+ghost use Rattle.encoded_word.specs.Stream.{firstChars, hexDigits, onwardsAt, HighChar, PutTurn, Ran};
 use crate::measure::row_len;
-use crate::spelling::alone_of;
 use crate::spelling::byte_cost;
 use crate::spelling::char_cost;
 use crate::spelling::char_end;
+use crate::spelling::first_char;
 use crate::spelling::high_size;
 use crate::spelling::put_byte;
 use crate::spelling::put_char;
@@ -27,7 +27,7 @@ pub(crate) struct Spot {
 
 // A character of any length, cut at the end of the text.
 fn put_any(
-    costs: &[u8; 256],
+    first: &[u8; 256],
     hex: &[u8; 16],
     out: &mut [u8],
     at: usize,
@@ -35,14 +35,14 @@ fn put_any(
     s: &[u8],
     i: usize,
 ) -> Spot
-    requires { ⌜ (now costs ≡ byteCosts) × (i < length (now s)) × (left ≤ 63) × (at + 39 ≤ length (now out)) × (now hex ≡ hexDigits) ⌝ }
+    requires { ⌜ (now first ≡ firstChars) × (i < length (now s)) × (left ≤ 63) × (at + 39 ≤ length (now out)) × (now hex ≡ hexDigits) ⌝ }
     ensures { λ r. ⌜ PutTurn (now (s .entry)) i left at (now (out .entry)) (now (out .exit)) (r .i) (r .left) (r .at) ⌝ }
 {
     let e = char_end(s, i);
-    let m = char_cost(costs, &s[i..e]);
+    let m = char_cost(first, &s[i..e]);
     let open = make_room(out, at, left, m);
     let here = open.at;
-    let after = put_char(costs, hex, out, here, &s[i..e]);
+    let after = put_char(first, hex, out, here, &s[i..e]);
     Spot {
         i: e,
         left: open.left,
@@ -50,24 +50,24 @@ fn put_any(
     }
 }
 
-// Four characters that stand for one byte each.
+// Four characters.
 fn put_alone(out: &mut [u8], at: usize, a: u8, b: u8, c: u8, d: u8) -> usize
     requires { ⌜ at + 4 ≤ length (now out) ⌝ }
-    ensures { λ r. ⌜ Appended (alone a ∷ alone b ∷ alone c ∷ alone d ∷ []) at (now (out .entry)) (now (out .exit)) r ⌝ }
+    ensures { λ r. ⌜ Appended (a ∷ b ∷ c ∷ d ∷ []) at (now (out .entry)) (now (out .exit)) r ⌝ }
 {
     let second = at + 1;
     let third = second + 1;
     let fourth = third + 1;
-    out[at] = alone_of(a);
-    out[second] = alone_of(b);
-    out[third] = alone_of(c);
-    out[fourth] = alone_of(d);
+    out[at] = a;
+    out[second] = b;
+    out[third] = c;
+    out[fourth] = d;
     fourth + 1
 }
 
 // An ASCII character, or four that take one character each where the open word has room for them.
 fn put_ascii(
-    costs: &[u8; 256],
+    first: &[u8; 256],
     hex: &[u8; 16],
     out: &mut [u8],
     at: usize,
@@ -75,19 +75,18 @@ fn put_ascii(
     s: &[u8],
     i: usize,
 ) -> Spot
-    requires { ⌜ (now costs ≡ byteCosts) × (i < length (now s)) × (left ≤ 63) × (at + 39 ≤ length (now out)) × (getD (now s) i 0 < 128) × (now hex ≡ hexDigits) ⌝ }
+    requires { ⌜ (now first ≡ firstChars) × (i < length (now s)) × (left ≤ 63) × (at + 39 ≤ length (now out)) × (getD (now s) i 0 < 128) × (now hex ≡ hexDigits) ⌝ }
     ensures { λ r. ⌜ PutTurn (now (s .entry)) i left at (now (out .entry)) (now (out .exit)) (r .i) (r .left) (r .at) ⌝ }
 {
-    let a = s[i];
-    let m = byte_cost(costs, a);
     let j = i + 1;
     if (4 <= left) & (4 <= s.len() - i) {
         let k = j + 1;
         let l = k + 1;
-        let b = s[j];
-        let c = s[k];
-        let d = s[l];
-        if m + byte_cost(costs, b) + byte_cost(costs, c) + byte_cost(costs, d) == 4 {
+        let a = first_char(first, s[i]);
+        let b = first_char(first, s[j]);
+        let c = first_char(first, s[k]);
+        let d = first_char(first, s[l]);
+        if (a != 61) & (b != 61) & (c != 61) & (d != 61) {
             let after = put_alone(out, at, a, b, c, d);
             let next = l + 1;
             let rest = left - 4;
@@ -98,9 +97,11 @@ fn put_ascii(
             };
         }
     }
+    let b = s[i];
+    let m = byte_cost(first, b);
     let open = make_room(out, at, left, m);
     let here = open.at;
-    let after = put_byte(hex, out, here, a, m);
+    let after = put_byte(first, hex, out, here, b);
     Spot {
         i: j,
         left: open.left,
@@ -175,7 +176,7 @@ fn put_four(hex: &[u8; 16], out: &mut [u8], at: usize, left: usize, s: &[u8], i:
 
 // A character that is not ASCII.
 fn put_high(
-    costs: &[u8; 256],
+    first: &[u8; 256],
     hex: &[u8; 16],
     out: &mut [u8],
     at: usize,
@@ -183,7 +184,7 @@ fn put_high(
     s: &[u8],
     i: usize,
 ) -> Spot
-    requires { ⌜ (now costs ≡ byteCosts) × (i < length (now s)) × (left ≤ 63) × (at + 39 ≤ length (now out)) × (128 ≤ getD (now s) i 0) × (now hex ≡ hexDigits) ⌝ }
+    requires { ⌜ (now first ≡ firstChars) × (i < length (now s)) × (left ≤ 63) × (at + 39 ≤ length (now out)) × (128 ≤ getD (now s) i 0) × (now hex ≡ hexDigits) ⌝ }
     ensures { λ r. ⌜ PutTurn (now (s .entry)) i left at (now (out .entry)) (now (out .exit)) (r .i) (r .left) (r .at) ⌝ }
 {
     let size = high_size(s, i);
@@ -196,12 +197,12 @@ fn put_high(
     if size == 4 {
         return put_four(hex, out, at, left, s, i);
     }
-    put_any(costs, hex, out, at, left, s, i)
+    put_any(first, hex, out, at, left, s, i)
 }
 
 // The next character, or characters.
 fn put_next(
-    costs: &[u8; 256],
+    first: &[u8; 256],
     hex: &[u8; 16],
     out: &mut [u8],
     at: usize,
@@ -209,24 +210,24 @@ fn put_next(
     s: &[u8],
     i: usize,
 ) -> Spot
-    requires { ⌜ (now costs ≡ byteCosts) × (i < length (now s)) × (left ≤ 63) × (at + 39 ≤ length (now out)) × (now hex ≡ hexDigits) ⌝ }
+    requires { ⌜ (now first ≡ firstChars) × (i < length (now s)) × (left ≤ 63) × (at + 39 ≤ length (now out)) × (now hex ≡ hexDigits) ⌝ }
     ensures { λ r. ⌜ PutTurn (now (s .entry)) i left at (now (out .entry)) (now (out .exit)) (r .i) (r .left) (r .at) ⌝ }
 {
     if s[i] < 128 {
-        return put_ascii(costs, hex, out, at, left, s, i);
+        return put_ascii(first, hex, out, at, left, s, i);
     }
-    put_high(costs, hex, out, at, left, s, i)
+    put_high(first, hex, out, at, left, s, i)
 }
 
 // Characters from the start of the text on, as long as the buffer has room for the next whatever it is.
 fn put_while_roomy(
-    costs: &[u8; 256],
+    first: &[u8; 256],
     hex: &[u8; 16],
     out: &mut [u8],
     start: usize,
     s: &[u8],
 ) -> Spot
-    requires { ⌜ (now costs ≡ byteCosts) × (now hex ≡ hexDigits) ⌝ }
+    requires { ⌜ (now first ≡ firstChars) × (now hex ≡ hexDigits) ⌝ }
     ensures { λ r. ⌜ Ran (now (s .entry)) start (now (out .entry)) (now (out .exit)) (r .i) (r .left) (r .at) ⌝ }
 {
     let mut i = 0;
@@ -235,7 +236,7 @@ fn put_while_roomy(
     if 39 <= out.len() {
         let last = out.len() - 39;
         while (i < s.len()) & (at <= last) {
-            let r = put_next(costs, hex, out, at, left, s, i);
+            let r = put_next(first, hex, out, at, left, s, i);
             i = r.i;
             left = r.left;
             at = r.at;
@@ -246,23 +247,23 @@ fn put_while_roomy(
 
 // The characters from i on, clipped: each is written beside the buffer, and then copied as far as it fits.
 fn put_clipped(
-    costs: &[u8; 256],
+    first: &[u8; 256],
     hex: &[u8; 16],
     out: &mut [u8],
     start: usize,
     room: usize,
     s: &[u8],
-    first: usize,
+    begin: usize,
 ) -> usize
-    requires { ⌜ (now costs ≡ byteCosts) × (length (now s) ≤ 4294967296) × (first ≤ length (now s)) × (room ≤ 63) × (start ≤ 13 + 18 * first) × (now hex ≡ hexDigits) ⌝ }
-    ensures { λ r. ⌜ Appended (onwardsAt (now (s .entry)) first room) start (now (out .entry)) (now (out .exit)) r ⌝ }
+    requires { ⌜ (now first ≡ firstChars) × (length (now s) ≤ 4294967296) × (begin ≤ length (now s)) × (room ≤ 63) × (start ≤ 13 + 18 * begin) × (now hex ≡ hexDigits) ⌝ }
+    ensures { λ r. ⌜ Appended (onwardsAt (now (s .entry)) begin room) start (now (out .entry)) (now (out .exit)) r ⌝ }
 {
     let mut piece = [0u8; 39];
     let mut at = start;
     let mut left = room;
-    let mut i = first;
+    let mut i = begin;
     while i < s.len() {
-        let r = put_any(costs, hex, &mut piece, 0, left, s, i);
+        let r = put_any(first, hex, &mut piece, 0, left, s, i);
         let n = r.at;
         at = buffer::add_slice(out, at, &piece[..n]);
         i = r.i;
@@ -271,20 +272,20 @@ fn put_clipped(
     buffer::add_slice(out, at, b"?=")
 }
 
-pub(crate) fn put_row(costs: &[u8; 256], hex: &[u8; 16], out: &mut [u8], s: &[u8]) -> usize
-    requires { ⌜ (now costs ≡ byteCosts) × (length (now s) ≤ 4294967296) × (now hex ≡ hexDigits) ⌝ }
+pub(crate) fn put_row(first: &[u8; 256], hex: &[u8; 16], out: &mut [u8], s: &[u8]) -> usize
+    requires { ⌜ (now first ≡ firstChars) × (length (now s) ≤ 4294967296) × (now hex ≡ hexDigits) ⌝ }
     ensures { λ r. ⌜ Wrote (row (now (s .entry))) (now (out .entry)) (now (out .exit)) r ⌝ }
 {
     if out.len() == 0 {
-        return row_len(costs, s);
+        return row_len(first, s);
     }
     if s.len() == 0 {
         return 0;
     }
     let started = buffer::put_slice(out, b"\r\n =?UTF-8?Q?");
-    let r = put_while_roomy(costs, hex, out, started, s);
+    let r = put_while_roomy(first, hex, out, started, s);
     let i = r.i;
     let left = r.left;
     let at = r.at;
-    put_clipped(costs, hex, out, at, left, s, i)
+    put_clipped(first, hex, out, at, left, s, i)
 }

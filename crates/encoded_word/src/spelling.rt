@@ -6,7 +6,7 @@ ghost use lib.ListN.{length, getD};
 ghost use Rattle.utf8.specs.Utf8.{charLen};
 ghost use Rattle.buffer.specs.Buffer.{Appended};
 ghost use Rattle.encoded_word.specs.Spelling.{hexDigit, escape, spellByte, spell};
-ghost use Rattle.encoded_word.specs.Stream.{byteCost, byteCosts, hexDigits, cost, alone, HighChar};
+ghost use Rattle.encoded_word.specs.Stream.{firstChar, firstChars, hexDigits, byteCost, cost, HighChar};
 
 fn wide(b: u8) -> usize
     ensures { λ r. ⌜ r ≡ b ⌝ }
@@ -22,12 +22,20 @@ fn hex_digit(hex: &[u8; 16], d: u8) -> u8
     hex[wide(d)]
 }
 
-// How many characters of a word a byte takes; costs is the table of that.
-pub(crate) fn byte_cost(costs: &[u8; 256], b: u8) -> usize
-    requires { ⌜ now costs ≡ byteCosts ⌝ }
+// The first character of a byte's spelling; first is the table of them.
+pub(crate) fn first_char(first: &[u8; 256], b: u8) -> u8
+    requires { ⌜ now first ≡ firstChars ⌝ }
+    ensures { λ r. ⌜ r ≡ firstChar b ⌝ }
+{
+    first[wide(b)]
+}
+
+// How many characters of a word a byte takes.
+pub(crate) fn byte_cost(first: &[u8; 256], b: u8) -> usize
+    requires { ⌜ now first ≡ firstChars ⌝ }
     ensures { λ r. ⌜ (r ≡ byteCost b) × (r ≤ 3) ⌝ }
 {
-    wide(costs[wide(b)])
+    if first_char(first, b) == 61 { 3 } else { 1 }
 }
 
 // Where the character at a place ends, by its first byte and the end of the text.
@@ -69,24 +77,17 @@ pub(crate) fn high_size(s: &[u8], i: usize) -> usize
 }
 
 // How many characters of a word the bytes of a character take.
-pub(crate) fn char_cost(costs: &[u8; 256], c: &[u8]) -> usize
-    requires { ⌜ (now costs ≡ byteCosts) × (length (now c) ≤ 8) ⌝ }
+pub(crate) fn char_cost(first: &[u8; 256], c: &[u8]) -> usize
+    requires { ⌜ (now first ≡ firstChars) × (length (now c) ≤ 8) ⌝ }
     ensures { λ r. ⌜ r ≡ cost (now (c .entry)) ⌝ }
 {
     let mut n = 0;
     let mut i = 0;
     while i < c.len() {
-        n += byte_cost(costs, c[i]);
+        n += byte_cost(first, c[i]);
         i += 1;
     }
     n
-}
-
-// The one character that stands for a byte that takes one.
-pub(crate) fn alone_of(b: u8) -> u8
-    ensures { λ r. ⌜ r ≡ alone b ⌝ }
-{
-    if b == 32 { 95 } else { b }
 }
 
 // Writes `=` and two hex digits.
@@ -111,34 +112,34 @@ pub(crate) fn put_escapes(hex: &[u8; 16], out: &mut [u8], at: usize, a: u8, b: u
     put_escape(hex, out, second, b)
 }
 
-// Writes a byte that takes m characters.
-pub(crate) fn put_byte(hex: &[u8; 16], out: &mut [u8], at: usize, b: u8, m: usize) -> usize
-    requires { ⌜ (m ≡ byteCost b) × (at + 3 ≤ length (now out)) × (now hex ≡ hexDigits) ⌝ }
+// Writes a byte.
+pub(crate) fn put_byte(first: &[u8; 256], hex: &[u8; 16], out: &mut [u8], at: usize, b: u8) -> usize
+    requires { ⌜ (now first ≡ firstChars) × (at + 3 ≤ length (now out)) × (now hex ≡ hexDigits) ⌝ }
     ensures { λ r. ⌜ Appended (spellByte b) at (now (out .entry)) (now (out .exit)) r ⌝ }
 {
-    if m == 1 {
-        out[at] = alone_of(b);
-        return at + 1;
+    let c = first_char(first, b);
+    if c == 61 {
+        return put_escape(hex, out, at, b);
     }
-    put_escape(hex, out, at, b)
+    out[at] = c;
+    at + 1
 }
 
 // Writes the bytes of a character.
 pub(crate) fn put_char(
-    costs: &[u8; 256],
+    first: &[u8; 256],
     hex: &[u8; 16],
     out: &mut [u8],
     at: usize,
     c: &[u8],
 ) -> usize
-    requires { ⌜ (now costs ≡ byteCosts) × (at + 3 * length (now c) ≤ length (now out)) × (now hex ≡ hexDigits) ⌝ }
+    requires { ⌜ (now first ≡ firstChars) × (at + 3 * length (now c) ≤ length (now out)) × (now hex ≡ hexDigits) ⌝ }
     ensures { λ r. ⌜ Appended (spell (now (c .entry))) at (now (out .entry)) (now (out .exit)) r ⌝ }
 {
     let mut next = at;
     let mut i = 0;
     while i < c.len() {
-        let b = c[i];
-        next = put_byte(hex, out, next, b, byte_cost(costs, b));
+        next = put_byte(first, hex, out, next, c[i]);
         i += 1;
     }
     next

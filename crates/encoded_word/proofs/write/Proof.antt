@@ -1,5 +1,5 @@
-use Rattle.encoded_word.specs.Stream.{from, byteCosts, hexDigits}
-use Rattle.encoded_word.specs.Spelling.{bare, hexDigit, spellByte}
+use Rattle.encoded_word.specs.Stream.{from, firstChar, firstChars, hexDigits}
+use Rattle.encoded_word.specs.Spelling.{bare, hexDigit}
 use mathlib.Core.Path.{refl}
 use Rattle.buffer.specs.BufferLaws.{wrote-nothing}
 use Rattle.encoded_word.specs.StreamLaws.{row-long, bounded-short}
@@ -16,7 +16,7 @@ returns c = rw (row-long _ (c .if1 .taken)) (wrote-nothing _)
 
 -- src/lib.rt:34:5
 put-row-requires : tie.Need-put-row-requires
-unfolding byteCosts hexDigits hexDigit from spellByte bare
+unfolding firstChars firstChar hexDigits hexDigit from bare
 put-row-requires c κs = (refl, c .before .before .before .if1 .left, refl)
 
 -- src/lib.rt:28:1

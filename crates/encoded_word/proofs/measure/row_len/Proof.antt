@@ -14,10 +14,10 @@ use Rattle.encoded_word.proofs.measure.row_len.Lts as lts
 use Rattle.encoded_word.proofs.measure.next.Reads as next-reads
 
 abbrev Inv-loop : tie.InvT-loop
-Inv-loop costs s i₀ left₀ n₀ i left n = (i ≤ length s) × (left ≤ 63) × (n ≤ 13 + 18 * i) × (n + length (onwardsAt s i left) ≡ length (row s))
+Inv-loop first s i₀ left₀ n₀ i left n = (i ≤ length s) × (left ≤ 63) × (n ≤ 13 + 18 * i) × (n + length (onwardsAt s i left) ≡ length (row s))
 
 abbrev μ-loop : tie.MeasureT-loop
-μ-loop costs s i₀ left₀ n₀ i left n = length s - i
+μ-loop first s i₀ left₀ n₀ i left n = length s - i
 
 -- src/measure.rt:120:9
 returns : tie.Need-returns Inv-loop μ-loop

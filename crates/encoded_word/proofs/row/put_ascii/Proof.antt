@@ -10,131 +10,127 @@ use Rattle.encoded_word.proofs.row.put_ascii.Reads as reads
 use Rattle.encoded_word.proofs.row.put_ascii.Lts as lts
 use Rattle.encoded_word.proofs.row.put_alone.Reads as put-alone-reads
 use Rattle.encoded_word.proofs.spelling.byte_cost.Reads as byte-cost-reads
+use Rattle.encoded_word.proofs.spelling.first_char.Reads as first-char-reads
 use Rattle.encoded_word.proofs.spelling.put_byte.Reads as put-byte-reads
 use Rattle.encoded_word.proofs.word.make_room.Reads as make-room-reads
 
--- src/row.rt:65:13
-shared-slice-read-a : tie.Need-shared-slice-read-a
-shared-slice-read-a c = search needs
-
--- src/row.rt:66:9
-byte-cost-requires : tie.Need-byte-cost-requires
-byte-cost-requires c κs = search needs
-
--- src/row.rt:67:13
+-- src/row.rt:81:13
 add-j : tie.Need-add-j
 add-j c = search needs
 
--- src/row.rt:68:28
+-- src/row.rt:82:28
 sub-if1 : tie.Need-sub-if1
 sub-if1 c = search needs
 
--- src/row.rt:69:17
+-- src/row.rt:83:17
 add-k : tie.Need-add-k
 add-k c = search needs
 
--- src/row.rt:70:17
+-- src/row.rt:84:17
 add-l : tie.Need-add-l
 add-l c = search needs
 
--- src/row.rt:71:17
-shared-slice-read-b : tie.Need-shared-slice-read-b
-shared-slice-read-b c = omega (arith, at-least 4 (c .before .before .before .before .before .before .args .left) (length (c .before .before .before .before .before .before .args .s .now) - c .before .before .before .before .before .before .args .i) (c .before .if1 .taken))
+-- src/row.rt:85:35
+shared-slice-read-first-char : tie.Need-shared-slice-read-first-char
+shared-slice-read-first-char c = search needs
 
--- src/row.rt:72:17
-shared-slice-read-c : tie.Need-shared-slice-read-c
-shared-slice-read-c c = omega (arith, at-least 4 (c .before .before .before .before .before .before .before .args .left) (length (c .before .before .before .before .before .before .before .args .s .now) - c .before .before .before .before .before .before .before .args .i) (c .before .before .if1 .taken))
+-- src/row.rt:85:13
+first-char-requires : tie.Need-first-char-requires
+first-char-requires c κs = search needs
 
--- src/row.rt:73:17
-shared-slice-read-d : tie.Need-shared-slice-read-d
-shared-slice-read-d c = omega (arith, at-least 4 (c .before .before .before .before .before .before .before .before .args .left) (length (c .before .before .before .before .before .before .before .before .args .s .now) - c .before .before .before .before .before .before .before .before .args .i) (c .before .before .before .if1 .taken))
+-- src/row.rt:86:35
+shared-slice-read-first-char-2 : tie.Need-shared-slice-read-first-char-2
+shared-slice-read-first-char-2 c = omega (arith, at-least 4 (c .before .before .before .before .before .before .args .left) (length (c .before .before .before .before .before .before .args .s .now) - c .before .before .before .before .before .before .args .i) (c .before .before .before .if1 .taken))
 
--- src/row.rt:74:16
-byte-cost-requires-2 : tie.Need-byte-cost-requires-2
-byte-cost-requires-2 c κs = search needs
+-- src/row.rt:86:13
+first-char-requires-2 : tie.Need-first-char-requires-2
+first-char-requires-2 c κs = search needs
 
--- src/row.rt:74:12
-add-if2 : tie.Need-add-if2
-add-if2 c = search needs
+-- src/row.rt:87:35
+shared-slice-read-first-char-3 : tie.Need-shared-slice-read-first-char-3
+shared-slice-read-first-char-3 c = omega (arith, at-least 4 (c .before .before .before .before .before .before .before .before .args .left) (length (c .before .before .before .before .before .before .before .before .args .s .now) - c .before .before .before .before .before .before .before .before .args .i) (c .before .before .before .before .before .if1 .taken))
 
--- src/row.rt:74:38
-byte-cost-requires-3 : tie.Need-byte-cost-requires-3
-byte-cost-requires-3 c κs = search needs
+-- src/row.rt:87:13
+first-char-requires-3 : tie.Need-first-char-requires-3
+first-char-requires-3 c κs = search needs
 
--- src/row.rt:74:12
-add-if2-2 : tie.Need-add-if2-2
-add-if2-2 c = search needs
+-- src/row.rt:88:35
+shared-slice-read-first-char-4 : tie.Need-shared-slice-read-first-char-4
+shared-slice-read-first-char-4 c = omega (arith, at-least 4 (c .before .before .before .before .before .before .before .before .before .before .args .left) (length (c .before .before .before .before .before .before .before .before .before .before .args .s .now) - c .before .before .before .before .before .before .before .before .before .before .args .i) (c .before .before .before .before .before .before .before .if1 .taken))
 
--- src/row.rt:74:60
-byte-cost-requires-4 : tie.Need-byte-cost-requires-4
-byte-cost-requires-4 c κs = search needs
+-- src/row.rt:88:13
+first-char-requires-4 : tie.Need-first-char-requires-4
+first-char-requires-4 c κs = search needs
 
--- src/row.rt:74:12
-add-if2-3 : tie.Need-add-if2-3
-add-if2-3 c = search needs
-
--- src/row.rt:75:17
+-- src/row.rt:90:17
 put-alone-requires : tie.Need-put-alone-requires
 put-alone-requires c κs = search needs
 
--- src/row.rt:77:20
+-- src/row.rt:91:24
 add-next : tie.Need-add-next
 add-next c = search needs
 
--- src/row.rt:78:23
+-- src/row.rt:92:24
 sub-rest : tie.Need-sub-rest
-sub-rest c = at-least 4 (c .before .before .before .before .before .before .before .before .before .before .before .before .before .before .before .before .args .left) (length (c .before .before .before .before .before .before .before .before .before .before .before .before .before .before .before .before .args .s .now) - c .before .before .before .before .before .before .before .before .before .before .before .before .before .before .before .before .args .i) (c .before .before .before .before .before .before .before .before .before .before .before .if1 .taken) .0
+sub-rest c = at-least 4 (c .before .before .before .before .before .before .before .before .before .before .before .before .before .before .before .before .args .left) (length (c .before .before .before .before .before .before .before .before .before .before .before .before .before .before .before .before .args .s .now) - c .before .before .before .before .before .before .before .before .before .before .before .before .before .before .before .before .args .i) (c .before .before .before .before .before .before .before .before .before .before .before .before .before .if1 .taken) .0
 
--- src/row.rt:76:13
+-- src/row.rt:93:13
 same-length : tie.Need-same-length
 same-length c = search needs
 
--- src/row.rt:76:13
+-- src/row.rt:93:13
 returns : tie.Need-returns
 returns c = let known = c .before .before .before .before .before .before .before .before .before .before .before .before .before .before .shared-slice-known .given in
     let i = c .before .before .before .before .before .before .before .before .before .before .before .before .before .before .before .before .args .i in
-    put-alone _ i _ _ _ _ _ _ (c .before .before .before .before .before .before .before .before .before .before .before .if1 .taken) (c .before .before .before .before .before .before .before .before .before .before .before .before .before .before .before .before .pre .2) (omega (arith, known i)) (omega (arith, known (i + 1))) (omega (arith, known (i + 1 + 1))) (omega (arith, known (i + 1 + 1 + 1))) (c .before .before .before .before .before .before .before .before .before .before .before .before .byte-cost .ensures .0) (c .before .before .before .before .before .before .before .byte-cost2 .ensures .0) (c .before .before .before .before .before .before .byte-cost3 .ensures .0) (c .before .before .before .before .before .byte-cost4 .ensures .0) (c .before .before .before .before .if2 .taken) (c .before .before .put-alone .ensures)
+    put-alone _ i _ _ _ _ _ _ (c .before .before .before .before .before .before .before .before .before .before .before .before .before .if1 .taken) (c .before .before .before .before .before .before .before .before .before .before .before .before .before .before .before .before .pre .2) (omega (arith, known i)) (omega (arith, known (i + 1))) (omega (arith, known (i + 1 + 1))) (omega (arith, known (i + 1 + 1 + 1))) (c .before .before .before .before .before .before .before .before .before .before .before .first-char .ensures) (c .before .before .before .before .before .before .before .before .before .first-char2 .ensures) (c .before .before .before .before .before .before .before .first-char3 .ensures) (c .before .before .before .before .before .first-char4 .ensures) (c .before .before .before .before .if2 .taken) (c .before .before .put-alone .ensures)
 
--- src/row.rt:83:9
+-- src/row.rt:100:13
+shared-slice-read-b : tie.Need-shared-slice-read-b
+shared-slice-read-b c = search needs
+
+-- src/row.rt:101:9
+byte-cost-requires : tie.Need-byte-cost-requires
+byte-cost-requires c κs = search needs
+
+-- src/row.rt:102:9
 make-room-requires : tie.Need-make-room-requires
 make-room-requires c κs = search needs
 
--- src/row.rt:85:9
+-- src/row.rt:104:9
 put-byte-requires : tie.Need-put-byte-requires
-put-byte-requires c κs = (c .before .before .before .before .before .before .byte-cost .ensures .0, room-left 15 3 (c .before .before .before .make-room .ensures .1) (length-gap _ _) (omega arith), c .before .before .before .before .before .before .before .before .before .before .pre .5)
+put-byte-requires c κs = (c .before .before .before .before .before .before .before .before .before .before .pre .0, room-left 15 3 (c .before .before .before .make-room .ensures .1) (length-gap _ _) (omega arith), c .before .before .before .before .before .before .before .before .before .before .pre .5)
 
--- src/row.rt:61:1
+-- src/row.rt:69:1
 same-length-2 : tie.Need-same-length-2
 same-length-2 c = search needs
 
--- src/row.rt:61:1
+-- src/row.rt:69:1
 returns-2 : tie.Need-returns-2
-returns-2 c = put-turn _ (c .before .before .before .before .before .before .before .before .before .before .before .before .before .args .i) _ _ (c .before .before .before .before .before .before .before .before .before .before .before .before .before .pre .1) (c .before .before .before .before .before .before .before .before .before .before .before .before .before .pre .2) _ _ (omega (arith, ascii-len (getD (c .before .before .before .before .before .before .before .before .before .before .before .before .before .args .s .now) (c .before .before .before .before .before .before .before .before .before .before .before .before .before .args .i) 0) (c .before .before .before .before .before .before .before .before .before .before .before .before .before .pre .4))) (one-byte _ _ (c .before .before .before .before .before .before .before .before .before .before .before .before .before .pre .1)) (spell-one _) (cost-one _ _ (c .before .before .before .before .before .before .before .before .before .byte-cost .ensures .0)) (c .before .before .before .before .before .before .make-room .ensures .0) (c .before .before .before .before .before .before .make-room .ensures .1) (c .before .before .put-byte .ensures)
+returns-2 c = put-turn _ (c .before .before .before .before .before .before .before .before .before .before .before .before .before .args .i) _ _ (c .before .before .before .before .before .before .before .before .before .before .before .before .before .pre .1) (c .before .before .before .before .before .before .before .before .before .before .before .before .before .pre .2) _ _ (omega (arith, ascii-len (getD (c .before .before .before .before .before .before .before .before .before .before .before .before .before .args .s .now) (c .before .before .before .before .before .before .before .before .before .before .before .before .before .args .i) 0) (c .before .before .before .before .before .before .before .before .before .before .before .before .before .pre .4))) (one-byte _ _ (c .before .before .before .before .before .before .before .before .before .before .before .before .before .pre .1)) (spell-one _) (cost-one _ _ (c .before .before .before .before .before .before .before .before .byte-cost .ensures .0)) (c .before .before .before .before .before .before .make-room .ensures .0) (c .before .before .before .before .before .before .make-room .ensures .1) (c .before .before .put-byte .ensures)
 
 pub put-ascii-spec : {M : Type 1} → statement M
 put-ascii-spec =
     tie.close
     (tie.spec
-    shared-slice-read-a
-    byte-cost-requires
     add-j
     sub-if1
     add-k
     add-l
-    shared-slice-read-b
-    shared-slice-read-c
-    shared-slice-read-d
-    byte-cost-requires-2
-    add-if2
-    byte-cost-requires-3
-    add-if2-2
-    byte-cost-requires-4
-    add-if2-3
+    shared-slice-read-first-char
+    first-char-requires
+    shared-slice-read-first-char-2
+    first-char-requires-2
+    shared-slice-read-first-char-3
+    first-char-requires-3
+    shared-slice-read-first-char-4
+    first-char-requires-4
     put-alone-requires
     add-next
     sub-rest
     same-length
     returns
+    shared-slice-read-b
+    byte-cost-requires
     make-room-requires
     put-byte-requires
     same-length-2

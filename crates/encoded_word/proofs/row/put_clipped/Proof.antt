@@ -15,10 +15,10 @@ use Rattle.buffer.proofs.add_slice.Reads as add-slice-reads
 use Rattle.encoded_word.proofs.row.put_any.Reads as put-any-reads
 
 abbrev Inv-loop : tie.InvT-loop
-Inv-loop costs hex out₀ start room s first piece₀ at₀ left₀ i₀ t13 out piece at left i = (i ≤ length s) × (left ≤ 63) × (length piece ≡ 39) × (at ≤ 13 + 18 * i) × Reached (onwardsAt s first room) (onwardsAt s i left) start out₀ out at
+Inv-loop first hex out₀ start room s begin piece₀ at₀ left₀ i₀ t13 out piece at left i = (i ≤ length s) × (left ≤ 63) × (length piece ≡ 39) × (at ≤ 13 + 18 * i) × Reached (onwardsAt s begin room) (onwardsAt s i left) start out₀ out at
 
 abbrev μ-loop : tie.MeasureT-loop
-μ-loop costs hex out₀ start room s first piece₀ at₀ left₀ i₀ t13 out piece at left i = length s - i
+μ-loop first hex out₀ start room s begin piece₀ at₀ left₀ i₀ t13 out piece at left i = length s - i
 
 -- src/row.rt:221:5
 loop-holds : tie.Need-loop-holds Inv-loop μ-loop

@@ -14,10 +14,10 @@ use Rattle.encoded_word.proofs.row.put_while_roomy.Lts as lts
 use Rattle.encoded_word.proofs.row.put_next.Reads as put-next-reads
 
 abbrev Inv-loop : tie.InvT-loop
-Inv-loop costs hex out₀ start s i₀ left₀ at₀ last out i left at = (i ≤ length s) × (left ≤ 63) × (length out ≡ length out₀) × (at ≤ start + 18 * i) × Reached (onwardsAt s 0 63) (onwardsAt s i left) start out₀ out at
+Inv-loop first hex out₀ start s i₀ left₀ at₀ last out i left at = (i ≤ length s) × (left ≤ 63) × (length out ≡ length out₀) × (at ≤ start + 18 * i) × Reached (onwardsAt s 0 63) (onwardsAt s i left) start out₀ out at
 
 abbrev μ-loop : tie.MeasureT-loop
-μ-loop costs hex out₀ start s i₀ left₀ at₀ last out i left at = length s - i
+μ-loop first hex out₀ start s i₀ left₀ at₀ last out i left at = length s - i
 
 -- src/row.rt:201:20
 sub-last : tie.Need-sub-last Inv-loop μ-loop

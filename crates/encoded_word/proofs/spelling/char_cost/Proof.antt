@@ -4,7 +4,7 @@ use Prim.Native.Nat.{_+_, _-_, _*_, _≤_}
 use native.Mathlib.Omega.{arith}
 use borrow.Author.Needs.{needs}
 use Rattle.encoded_word.specs.StreamLaws.{cost-at, cost-end}
-use Rattle.encoded_word.specs.Stream.{cost, byteCosts}
+use Rattle.encoded_word.specs.Stream.{cost, firstChars}
 use Rattle.encoded_word.proofs.spelling.char_cost.Statement.{statement}
 use Rattle.encoded_word.proofs.spelling.char_cost.Tie as tie
 use Rattle.encoded_word.proofs.spelling.char_cost.Reads as reads
@@ -12,10 +12,10 @@ use Rattle.encoded_word.proofs.spelling.char_cost.Lts as lts
 use Rattle.encoded_word.proofs.spelling.byte_cost.Reads as byte-cost-reads
 
 abbrev Inv-loop : tie.InvT-loop
-Inv-loop costs c n₀ i₀ n i = (i ≤ length c) × (n ≤ 3 * i) × (n + cost (drop i c) ≡ cost c)
+Inv-loop first c n₀ i₀ n i = (i ≤ length c) × (n ≤ 3 * i) × (n + cost (drop i c) ≡ cost c)
 
 abbrev μ-loop : tie.MeasureT-loop
-μ-loop costs c n₀ i₀ n i = length c - i
+μ-loop first c n₀ i₀ n i = length c - i
 
 -- src/spelling.rt:38:5
 loop-holds : tie.Need-loop-holds Inv-loop μ-loop
