@@ -14,7 +14,7 @@ use borrow.Author.Tests.{le-leb, lt-leb, leb-true, ltb-true, eqb-true, eqb-false
 use Rattle.utf8.specs.Lists.{by-test, cond-yes, cond-no, all, joined, joined-append}
 use Rattle.utf8.specs.Byte.{to-within}
 use Rattle.utf8.specs.Utf8.{charLen, charsAfter, chars}
-use Rattle.buffer.specs.Buffer.{Wrote, Appended, Added, Reached, greatest}
+use Rattle.buffer.specs.Buffer.{Wrote, Appended, AppendedCapped, Reached, greatest}
 use Rattle.buffer.specs.BufferLaws.{overlay-front, wrote-from, appended-from, appended-of, appended-then, length-appended, reached-start, reached-then, reached-last}
 use Rattle.utf8.specs.Utf8Laws.{char-len-some, char-len-le, chars-cons, chars-at, chars-end, chars-nil}
 use Rattle.encoded_word.specs.Cut.{cut}
@@ -502,7 +502,7 @@ onwards-ended s i left h g e = reached-last g (rw (onwards-end s i left h) e)
 
 -- a turn that is written into a piece of its own, and copied from there
 pub copied-on : {whole s before mid after piece piece′ : List ℕ} {at₀ at i left i′ left′ n r : ℕ} → Reached whole (onwardsAt s i left) at₀ before mid at
-    → length piece ≡ 39 → PutTurn s i left 0 piece piece′ i′ left′ n → Added (take n piece′) at mid after r → at + 39 ≤ greatest
+    → length piece ≡ 39 → PutTurn s i left 0 piece piece′ i′ left′ n → AppendedCapped (take n piece′) at mid after r → at + 39 ≤ greatest
     → Reached whole (onwardsAt s i′ left′) at₀ before after r × (r ≤ at + 18 * (i′ - i))
 copied-on {mid = mid} {after = after} {piece = piece} {piece′ = piece′} {at = at} {n = n} {r = r} g size t a h =
     let w = wrote-from (t .wrote) in
