@@ -1,3 +1,4 @@
 pub mod Address
+pub mod AddressLaws
 pub mod Xtext
 pub mod AddressCases
