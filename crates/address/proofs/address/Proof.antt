@@ -1,0 +1,36 @@
+use borrow.Author.Needs.{needs}
+use Rattle.address.proofs.address.Statement.{statement}
+use Rattle.address.proofs.address.Tie as tie
+use Rattle.address.proofs.address.Reads as reads
+use Rattle.address.proofs.address.Lts as lts
+use Rattle.address.proofs.at_domain.Reads as at-domain-reads
+use Rattle.address.proofs.local.Reads as local-reads
+
+-- src/lib.rt:50:11
+local-requires : tie.Need-local-requires
+local-requires c κs = search needs
+
+-- src/lib.rt:51:18
+enum-known-n : tie.Need-enum-known-n
+enum-known-n c = search needs
+
+-- src/lib.rt:51:24
+at-domain-requires : tie.Need-at-domain-requires
+at-domain-requires c κs = search needs
+
+-- src/lib.rt:52:20
+enum-known-n-2 : tie.Need-enum-known-n-2
+enum-known-n-2 c = search needs
+
+-- src/lib.rt:47:1
+returns : tie.Need-returns
+returns c = ?
+
+-- src/lib.rt:47:1
+returns-2 : tie.Need-returns-2
+returns-2 c = ?
+
+pub address-spec : {M : Type 1} → statement M
+address-spec =
+    tie.close
+    (tie.spec local-requires enum-known-n at-domain-requires enum-known-n-2 returns returns-2)

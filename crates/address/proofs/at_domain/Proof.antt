@@ -1,0 +1,30 @@
+use borrow.Author.Needs.{needs}
+use Rattle.address.proofs.at_domain.Statement.{statement}
+use Rattle.address.proofs.at_domain.Tie as tie
+use Rattle.address.proofs.at_domain.Reads as reads
+use Rattle.address.proofs.at_domain.Lts as lts
+use Rattle.address.proofs.byte_at.Reads as byte-at-reads
+use Rattle.address.proofs.domain.domain.Reads as domain-reads
+
+-- src/lib.rt:40:8
+byte-at-requires : tie.Need-byte-at-requires
+byte-at-requires c κs = search needs
+
+-- src/lib.rt:41:9
+returns : tie.Need-returns
+returns c = ?
+
+-- src/lib.rt:43:23
+add-domain : tie.Need-add-domain
+add-domain c = ?
+
+-- src/lib.rt:43:5
+domain-requires : tie.Need-domain-requires
+domain-requires c κs = search needs
+
+-- src/lib.rt:37:1
+returns-2 : tie.Need-returns-2
+returns-2 c = ?
+
+pub at-domain-spec : {M : Type 1} → statement M
+at-domain-spec = tie.close (tie.spec byte-at-requires returns add-domain domain-requires returns-2)

@@ -1,0 +1,37 @@
+use borrow.Author.Needs.{needs}
+use Rattle.address.proofs.domain.domain.Statement.{statement}
+use Rattle.address.proofs.domain.domain.Tie as tie
+use Rattle.address.proofs.domain.domain.Reads as reads
+use Rattle.address.proofs.domain.domain.Lts as lts
+use Rattle.address.proofs.atom.dot_atom.Reads as dot-atom-reads
+use Rattle.address.proofs.byte_at.Reads as byte-at-reads
+use Rattle.address.proofs.domain.inside.Reads as inside-reads
+
+-- src/domain.rt:41:8
+byte-at-requires : tie.Need-byte-at-requires
+byte-at-requires c κs = search needs
+
+-- src/domain.rt:42:26
+add-inside : tie.Need-add-inside
+add-inside c = ?
+
+-- src/domain.rt:42:9
+inside-requires : tie.Need-inside-requires
+inside-requires c κs = search needs
+
+-- src/domain.rt:42:9
+returns : tie.Need-returns
+returns c = ?
+
+-- src/domain.rt:44:5
+dot-atom-requires : tie.Need-dot-atom-requires
+dot-atom-requires c κs = search needs
+
+-- src/domain.rt:38:1
+returns-2 : tie.Need-returns-2
+returns-2 c = ?
+
+pub domain-spec : {M : Type 1} → statement M
+domain-spec =
+    tie.close
+    (tie.spec byte-at-requires add-inside inside-requires returns dot-atom-requires returns-2)

@@ -1,0 +1,17 @@
+use borrow.Author.Needs.{needs}
+use Rattle.address.proofs.is_ascii.Statement.{statement}
+use Rattle.address.proofs.is_ascii.Tie as tie
+use Rattle.address.proofs.is_ascii.Reads as reads
+use Rattle.address.proofs.is_ascii.Lts as lts
+use Rattle.utf8.proofs.ascii_end.Reads as ascii-end-reads
+
+-- src/lib.rt:60:5
+ascii-end-requires : tie.Need-ascii-end-requires
+ascii-end-requires c κs = search needs
+
+-- src/lib.rt:57:1
+returns : tie.Need-returns
+returns c = ?
+
+pub is-ascii-spec : {M : Type 1} → statement M
+is-ascii-spec = tie.close (tie.spec ascii-end-requires returns)

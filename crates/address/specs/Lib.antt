@@ -1,0 +1,4 @@
+pub mod Address
+pub mod AddressLaws
+pub mod Xtext
+pub mod AddressCases
