@@ -2,19 +2,23 @@
 use borrow.Author.Tests.{eq-eqb, ne-eqb}
 use mathlib.Core.Path.{_≡_, refl, sym, ap, _∙_}
 use mathlib.Core.Bool.{Bool, true, false, not, cond, _&&_, _||_, and-true, and-false, or-false}
-use mathlib.Core.List.{List, [], _∷_}
+use mathlib.Core.List.{List, [], _∷_, append-nil}
 use Prim.Native.Nat.{ℕ, zero, suc, _+_, _≤_, _<_}
 use native.Mathlib.Nat.{add-zero, not-suc-le-zero}
 use native.Mathlib.Numerals.{add-one}
 use native.Mathlib.Omega.{arith}
-use lib.Dec.{eqb}
+use lib.Dec.{eqb, eqb→eq}
 use lib.ListN.{length, drop, getD, length-drop, drop-of-length-le}
-use lib.Seq.{drop-cons, drop-drop, getD-drop}
-use Rattle.utf8.specs.Byte.{within}
-use Rattle.utf8.specs.Run.{run}
+use lib.Seq.{take-length, drop-cons, drop-drop, getD-drop}
+use mir.Facts.{not-T, eqb-no}
+use Rattle.utf8.specs.Lists.{by-test, yes-true, no-false, all}
+use Rattle.utf8.specs.Byte.{within, isAscii}
+use Rattle.utf8.specs.Run.{run, run-all, run-past}
+use Rattle.utf8.specs.Utf8.{utf8}
+use Rattle.utf8.specs.Utf8Laws.{utf8-ascii}
 use Rattle.address.specs.declared.Scan.{Scan}
 use Rattle.address.specs.declared.Scan.the-variants.{To, Stop}
-use Rattle.address.specs.Address.{later, byteThen, scanThen, isHigh, isAtomByte, isQuotedByte, isLiteralByte, dotAtomEnd, dotAtomFrom, quotedFrom, literalFrom, domainScan, literalScan, localScan, quotedScan, dotAtomScan, addressScan}
+use Rattle.address.specs.Address.{later, byteThen, scanThen, isHigh, isAtomByte, isQuotedByte, isLiteralByte, dotAtomEnd, dotAtomFrom, quotedFrom, literalFrom, domainScan, literalScan, localScan, quotedScan, dotAtomScan, addressScan, takesAll, isAddress, isAsciiAddress}
 
 pub later-later : (k n : ℕ) (r : Scan) → later k (later n r) ≡ later (k + n) r
 unfolding later
@@ -124,17 +128,17 @@ module _ (s : List ℕ) (i : ℕ) where
   unfolding domainScan literalScan
   domain-literal e = rw (first s i, eq-eqb (getD s i 0) 91 e) (byte-then s i 91 literalFrom e)
 
-  pub domain-atoms : (getD s i 0 ≡ 91 → ⊥) → domainScan (drop i s) ≡ dotAtomScan (drop i s)
+  pub domain-atoms : (getD s i 0 ≡ 91 → ⊥) → later i (domainScan (drop i s)) ≡ later i (dotAtomScan (drop i s))
   unfolding domainScan
   domain-atoms n = rw (first s i, ne-eqb (getD s i 0) 91 n)
 
   -- ---- address
 
-  pub local-quoted : getD s i 0 ≡ 34 → localScan (drop i s) ≡ quotedScan (drop i s)
+  pub local-quoted : getD s i 0 ≡ 34 → later i (localScan (drop i s)) ≡ later i (quotedScan (drop i s))
   unfolding localScan
   local-quoted e = rw (first s i, eq-eqb (getD s i 0) 34 e)
 
-  pub local-atoms : (getD s i 0 ≡ 34 → ⊥) → localScan (drop i s) ≡ dotAtomScan (drop i s)
+  pub local-atoms : (getD s i 0 ≡ 34 → ⊥) → later i (localScan (drop i s)) ≡ later i (dotAtomScan (drop i s))
   unfolding localScan
   local-atoms n = rw (first s i, ne-eqb (getD s i 0) 34 n)
 
@@ -155,3 +159,33 @@ module _ (s : List ℕ) (i : ℕ) where
       go : (r : Scan) → Stop n ≡ later i r → later i (scanThen r (byteThen 64 domainScan) (drop i s)) ≡ Stop n
       go (To m) e = absurd (let z : _≡_ {A = ℕ} 0 1 = cc in omega arith)
       go (Stop m) e = sym e
+
+-- ---- a whole text
+
+-- every element of a list passes where the run is the whole list
+pub run-whole : (f : ℕ → Bool) (xs : List ℕ) → eqb (run f xs) (length xs) ≡ all f xs
+unfolding run
+run-whole f xs =
+    by-test (eqb (run f xs) (length xs))
+    (λ t.
+    let e : run f xs ≡ length xs = eqb→eq (run f xs) (length xs) t in
+    yes-true (eqb (run f xs) (length xs)) t ∙ sym (yes-true (all f xs) (rw (e, take-length) at (run-all f xs))))
+    (λ t.
+    no-false (eqb (run f xs) (length xs)) t
+    ∙ sym (no-false (all f xs) (not-T (all f xs) (λ u. eqb-no {a = run f xs} {b = length xs} t (rw append-nil at (run-past f xs [] u) ∙ add-zero (length xs))))))
+
+module _ (s : List ℕ) (r : Scan) (e : r ≡ later 0 (addressScan (drop 0 s))) where
+  scanned : addressScan s ≡ r
+  unfolding later
+  scanned = go (addressScan s) e
+    where
+      go : (q : Scan) → r ≡ later 0 q → q ≡ r
+      go (To n) k = rw k (let z : 0 + n ≡ n = omega arith in rw z)
+      go (Stop n) k = rw k (let z : 0 + n ≡ n = omega arith in rw z)
+
+  pub ascii-address : takesAll r s && all isAscii s ≡ isAsciiAddress s
+  unfolding isAsciiAddress isAddress
+  ascii-address =
+      by-test (all isAscii s)
+      (λ t. rw (scanned, yes-true (utf8 s) (utf8-ascii s t)))
+      (λ t. rw (no-false (all isAscii s) t, and-false (takesAll r s), and-false (utf8 s && takesAll (addressScan s) s)))

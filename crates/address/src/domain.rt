@@ -4,9 +4,9 @@ ghost use Prim.Native.Nat.{_+_};
 ghost use lib.ListN.{drop};
 ghost use Rattle.utf8.specs.Run.{run};
 ghost use Rattle.address.specs.Address.{later, isLiteralByte, literalFrom, literalScan, domainScan};
+use crate::Scan;
 use crate::atom::dot_atom;
 use crate::byte_at;
-use crate::Scan;
 
 // Where the bytes of a domain literal end.
 fn literal_run(s: &[u8], at: usize) -> usize

@@ -3,8 +3,8 @@ ghost use mathlib.Core.Path.{_≡_};
 ghost use mathlib.Core.Bool.{false};
 ghost use lib.ListN.{drop};
 ghost use Rattle.address.specs.Address.{later, quotedFrom, quotedScan};
-use crate::byte_at;
 use crate::Scan;
+use crate::byte_at;
 
 // The rest of a quoted string, from after its opening quote.
 fn inside(s: &[u8], at: usize) -> Scan

@@ -1,3 +1,5 @@
+use Rattle.address.specs.AddressLaws.{address-to, address-stop}
+use mathlib.Core.Path.{sym, _∙_}
 use borrow.Author.Needs.{needs}
 use Rattle.address.proofs.address.Statement.{statement}
 use Rattle.address.proofs.address.Tie as tie
@@ -24,11 +26,11 @@ enum-known-n-2 c = search needs
 
 -- src/lib.rt:47:1
 returns : tie.Need-returns
-returns c = ?
+returns c = c .at-domain .ensures ∙ sym (address-to _ _ _ (sym (c .before .before .n .given .1) ∙ c .before .before .before .before .local .ensures))
 
 -- src/lib.rt:47:1
 returns-2 : tie.Need-returns-2
-returns-2 c = ?
+returns-2 c = sym (address-stop _ _ _ (sym (c .before .n2 .given .1) ∙ c .before .before .before .local .ensures))
 
 pub address-spec : {M : Type 1} → statement M
 address-spec =

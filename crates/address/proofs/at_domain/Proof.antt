@@ -1,3 +1,6 @@
+use Rattle.address.specs.AddressLaws.{inside, byte-then, byte-other}
+use mathlib.Core.Path.{sym, _∙_}
+use native.Mathlib.Omega.{arith}
 use borrow.Author.Needs.{needs}
 use Rattle.address.proofs.at_domain.Statement.{statement}
 use Rattle.address.proofs.at_domain.Tie as tie
@@ -12,11 +15,11 @@ byte-at-requires c κs = search needs
 
 -- src/lib.rt:41:9
 returns : tie.Need-returns
-returns c = ?
+returns c = sym (byte-other _ _ 64 _ (λ e. c .if1 .taken (c .before .byte-at .ensures ∙ e)))
 
 -- src/lib.rt:43:23
 add-domain : tie.Need-add-domain
-add-domain c = ?
+add-domain c = omega (arith, inside (c .before .before .before .args .s .now) _ 63 (sym (c .before .byte-at .ensures) ∙ c .if1 .left))
 
 -- src/lib.rt:43:5
 domain-requires : tie.Need-domain-requires
@@ -24,7 +27,7 @@ domain-requires c κs = search needs
 
 -- src/lib.rt:37:1
 returns-2 : tie.Need-returns-2
-returns-2 c = ?
+returns-2 c = c .domain .ensures ∙ sym (byte-then _ _ 64 _ (sym (c .before .before .byte-at .ensures) ∙ c .before .if1 .left))
 
 pub at-domain-spec : {M : Type 1} → statement M
 at-domain-spec = tie.close (tie.spec byte-at-requires returns add-domain domain-requires returns-2)

@@ -1,3 +1,10 @@
+use Rattle.address.specs.AddressLaws.{run-whole}
+use Rattle.utf8.specs.Utf8.{asciiRun}
+use Rattle.utf8.specs.Byte.{isAscii}
+use Rattle.utf8.specs.Run.{run}
+use lib.ListN.{drop}
+use native.Mathlib.Omega.{arith}
+use mathlib.Core.Path.{_≡_, sym, _∙_}
 use borrow.Author.Needs.{needs}
 use Rattle.address.proofs.is_ascii.Statement.{statement}
 use Rattle.address.proofs.is_ascii.Tie as tie
@@ -11,7 +18,9 @@ ascii-end-requires c κs = search needs
 
 -- src/lib.rt:57:1
 returns : tie.Need-returns
-returns c = ?
+unfolding asciiRun
+returns c = let e : c .ascii-end .result ≡ run isAscii (c .before .before .args .s .now) = omega (arith, c .ascii-end .ensures) in
+    rw e (run-whole isAscii _)
 
 pub is-ascii-spec : {M : Type 1} → statement M
 is-ascii-spec = tie.close (tie.spec ascii-end-requires returns)

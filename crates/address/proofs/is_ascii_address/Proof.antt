@@ -1,3 +1,5 @@
+use Rattle.address.specs.AddressLaws.{ascii-address}
+use mathlib.Core.Path.{sym, _∙_}
 use borrow.Author.Needs.{needs}
 use Rattle.address.proofs.is_ascii_address.Statement.{statement}
 use Rattle.address.proofs.is_ascii_address.Tie as tie
@@ -24,11 +26,11 @@ enum-told c = search needs
 
 -- src/lib.rt:64:1
 returns : tie.Need-returns
-returns c = ?
+returns c = rw (c .is-ascii .ensures) (ascii-address _ _ (sym (c .before .before .n .given .1) ∙ c .before .before .before .before .address .ensures))
 
 -- src/lib.rt:64:1
 returns-2 : tie.Need-returns-2
-returns-2 c = ?
+returns-2 c = ascii-address _ _ (sym (c .enum-told .given .1) ∙ c .before .before .address .ensures)
 
 pub is-ascii-address-spec : {M : Type 1} → statement M
 is-ascii-address-spec =

@@ -1,3 +1,5 @@
+use Rattle.address.specs.AddressLaws.{local-quoted, local-atoms}
+use mathlib.Core.Path.{sym, _∙_}
 use borrow.Author.Needs.{needs}
 use Rattle.address.proofs.local.Statement.{statement}
 use Rattle.address.proofs.local.Tie as tie
@@ -17,7 +19,7 @@ quoted-requires c κs = search needs
 
 -- src/lib.rt:31:9
 returns : tie.Need-returns
-returns c = ?
+returns c = c .quoted .ensures ∙ sym (local-quoted _ _ (sym (c .before .before .byte-at .ensures) ∙ c .before .if1 .taken))
 
 -- src/lib.rt:33:5
 dot-atom-requires : tie.Need-dot-atom-requires
@@ -25,7 +27,7 @@ dot-atom-requires c κs = search needs
 
 -- src/lib.rt:27:1
 returns-2 : tie.Need-returns-2
-returns-2 c = ?
+returns-2 c = c .dot-atom .ensures ∙ sym (local-atoms _ _ (λ e. c .before .if1 .left (c .before .before .byte-at .ensures ∙ e)))
 
 pub local-spec : {M : Type 1} → statement M
 local-spec =

@@ -1,3 +1,6 @@
+use Rattle.address.specs.AddressLaws.{inside, domain-literal, domain-atoms}
+use mathlib.Core.Path.{sym, _∙_}
+use native.Mathlib.Omega.{arith}
 use borrow.Author.Needs.{needs}
 use Rattle.address.proofs.domain.domain.Statement.{statement}
 use Rattle.address.proofs.domain.domain.Tie as tie
@@ -13,7 +16,7 @@ byte-at-requires c κs = search needs
 
 -- src/domain.rt:42:26
 add-inside : tie.Need-add-inside
-add-inside c = ?
+add-inside c = omega (arith, inside (c .before .before .before .args .s .now) _ 90 (sym (c .before .byte-at .ensures) ∙ c .if1 .taken))
 
 -- src/domain.rt:42:9
 inside-requires : tie.Need-inside-requires
@@ -21,7 +24,7 @@ inside-requires c κs = search needs
 
 -- src/domain.rt:42:9
 returns : tie.Need-returns
-returns c = ?
+returns c = c .inside .ensures ∙ sym (domain-literal _ _ (sym (c .before .before .byte-at .ensures) ∙ c .before .if1 .taken))
 
 -- src/domain.rt:44:5
 dot-atom-requires : tie.Need-dot-atom-requires
@@ -29,7 +32,7 @@ dot-atom-requires c κs = search needs
 
 -- src/domain.rt:38:1
 returns-2 : tie.Need-returns-2
-returns-2 c = ?
+returns-2 c = c .dot-atom .ensures ∙ sym (domain-atoms _ _ (λ e. c .before .if1 .left (c .before .before .byte-at .ensures ∙ e)))
 
 pub domain-spec : {M : Type 1} → statement M
 domain-spec =

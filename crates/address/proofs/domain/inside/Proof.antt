@@ -1,3 +1,6 @@
+use Rattle.address.specs.AddressLaws.{inside, literal-close, literal-stop}
+use mathlib.Core.Path.{sym, _∙_}
+use native.Mathlib.Omega.{arith}
 use borrow.Author.Needs.{needs}
 use Rattle.address.proofs.domain.inside.Statement.{statement}
 use Rattle.address.proofs.domain.inside.Tie as tie
@@ -16,15 +19,15 @@ byte-at-requires c κs = search needs
 
 -- src/domain.rt:32:25
 add-t6 : tie.Need-add-t6
-add-t6 c = ?
+add-t6 c = omega (arith, inside (c .before .before .before .before .args .s .now) _ 92 (sym (c .before .byte-at .ensures) ∙ c .if1 .taken))
 
 -- src/domain.rt:32:9
 returns : tie.Need-returns
-returns c = ?
+returns c = sym (literal-close _ _ _ (c .before .before .literal-run .ensures) (sym (c .before .byte-at .ensures) ∙ c .if1 .taken))
 
 -- src/domain.rt:27:1
 returns-2 : tie.Need-returns-2
-returns-2 c = ?
+returns-2 c = sym (literal-stop _ _ _ (c .before .before .literal-run .ensures) (λ e. c .if1 .left (c .before .byte-at .ensures ∙ e)))
 
 pub inside-spec : {M : Type 1} → statement M
 inside-spec = tie.close (tie.spec literal-run-requires byte-at-requires add-t6 returns returns-2)

@@ -1,3 +1,7 @@
+use Rattle.address.specs.AddressLaws.{inside, byte-then, byte-other}
+use Rattle.address.specs.Address.{quotedScan}
+use mathlib.Core.Path.{sym, _∙_}
+use native.Mathlib.Omega.{arith}
 use borrow.Author.Needs.{needs}
 use Rattle.address.proofs.quoted.quoted.Statement.{statement}
 use Rattle.address.proofs.quoted.quoted.Tie as tie
@@ -12,11 +16,12 @@ byte-at-requires c κs = search needs
 
 -- src/quoted.rt:34:9
 returns : tie.Need-returns
-returns c = ?
+unfolding quotedScan
+returns c = sym (byte-other _ _ 34 _ (λ e. c .if1 .taken (c .before .byte-at .ensures ∙ e)))
 
 -- src/quoted.rt:36:15
 add-inside : tie.Need-add-inside
-add-inside c = ?
+add-inside c = omega (arith, inside (c .before .before .before .args .s .now) _ 33 (sym (c .before .byte-at .ensures) ∙ c .if1 .left))
 
 -- src/quoted.rt:36:5
 inside-requires : tie.Need-inside-requires
@@ -24,7 +29,8 @@ inside-requires c κs = search needs
 
 -- src/quoted.rt:30:1
 returns-2 : tie.Need-returns-2
-returns-2 c = ?
+unfolding quotedScan
+returns-2 c = c .inside .ensures ∙ sym (byte-then _ _ 34 _ (sym (c .before .before .byte-at .ensures) ∙ c .before .if1 .left))
 
 pub quoted-spec : {M : Type 1} → statement M
 quoted-spec = tie.close (tie.spec byte-at-requires returns add-inside inside-requires returns-2)
