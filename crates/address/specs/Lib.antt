@@ -1,4 +1,5 @@
 pub mod Address
 pub mod AddressLaws
 pub mod Xtext
+pub mod XtextLaws
 pub mod AddressCases
