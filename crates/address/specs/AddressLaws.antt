@@ -40,7 +40,7 @@ inside [] i b e = absurd (omega arith)
 inside (x ∷ s) zero b e = omega arith
 inside (x ∷ s) (suc i) b e = omega (arith, inside s i b e)
 
-first : (s : List ℕ) (i : ℕ) → getD (drop i s) 0 0 ≡ getD s i 0
+pub first : (s : List ℕ) (i : ℕ) → getD (drop i s) 0 0 ≡ getD s i 0
 first s i = rw (getD-drop i s 0 0, add-zero)
 
 -- ---- dot-atom

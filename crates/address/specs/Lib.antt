@@ -1,4 +1,8 @@
 pub mod Address
 pub mod AddressLaws
+pub mod TakenLaws
+pub mod Grammar
+pub mod GrammarLaws
 pub mod Xtext
+pub mod XtextLaws
 pub mod AddressCases

@@ -23,30 +23,40 @@ hexValue b = cond (within 48 57 b) (b - 48) (b - 55)
 unfoldable pub isHexchar : List ℕ → Bool
 isHexchar s = eqb (getD s 0 0) 43 && isHexDigit (getD s 1 0) && isHexDigit (getD s 2 0)
 
--- the length of the xchar or hexchar at the front of a text, 0 where there is none; and the byte that it stands for
+-- the length of the xchar or hexchar at the front of a text, and the byte that it stands for; 0 where there is none
 unfoldable pub unitLen : List ℕ → ℕ
 unitLen s = cond (isXchar (getD s 0 0)) 1 (cond (isHexchar s) 3 0)
 
 unfoldable pub unitByte : List ℕ → ℕ
-unitByte s = cond (isXchar (getD s 0 0)) (getD s 0 0) (hexValue (getD s 1 0) * 16 + hexValue (getD s 2 0))
+unitByte s = cond (isXchar (getD s 0 0)) (getD s 0 0) (cond (isHexchar s) (hexValue (getD s 1 0) * 16 + hexValue (getD s 2 0)) 0)
 
--- xchars and hexchars, and nothing else; after k bytes that belong to a hexchar before
-unfoldable pub isXtextAfter : ℕ → List ℕ → Bool
-isXtextAfter k [] = true
-isXtextAfter (suc k) (b ∷ s) = isXtextAfter k s
-isXtextAfter zero (b ∷ s) = let n = unitLen (b ∷ s) in ltb 0 n && isXtextAfter (pred n) s
+-- The bytes that the xchars and hexchars at the front of a text stand for, up to the end or to the first place with neither; and
+-- whether they are the whole text.
+pub record Decoding : Type 0 where
+  pub bytes : List ℕ
+  pub whole : Bool
 
+abbrev pub byteBefore : ℕ → Decoding → Decoding
+byteBefore b d = record { bytes = b ∷ d .bytes; whole = d .whole }
+
+-- after k bytes that belong to a hexchar before
+unfoldable pub decodingAfter : ℕ → List ℕ → Decoding
+decodingAfter k [] = record { bytes = []; whole = true }
+decodingAfter (suc k) (b ∷ s) = decodingAfter k s
+decodingAfter zero (b ∷ s) =
+    let n = unitLen (b ∷ s) in
+    cond (ltb 0 n) (byteBefore (unitByte (b ∷ s)) (decodingAfter (pred n) s)) (record { bytes = []; whole = false })
+
+unfoldable pub decoding : List ℕ → Decoding
+decoding s = decodingAfter 0 s
+
+-- xchars and hexchars, and nothing else
 unfoldable pub isXtext : List ℕ → Bool
-isXtext s = isXtextAfter 0 s
+isXtext s = decoding s .whole
 
--- the bytes that the xchars and hexchars at the front stand for: of xtext all, of another text those up to its fault
-unfoldable pub decodedAfter : ℕ → List ℕ → List ℕ
-decodedAfter k [] = []
-decodedAfter (suc k) (b ∷ s) = decodedAfter k s
-decodedAfter zero (b ∷ s) = let n = unitLen (b ∷ s) in cond (ltb 0 n) (unitByte (b ∷ s) ∷ decodedAfter (pred n) s) []
-
+-- what a text decodes to: of xtext all bytes, of another text those up to its fault
 unfoldable pub decoded : List ℕ → List ℕ
-decoded s = decodedAfter 0 s
+decoded s = decoding s .bytes
 
 -- what xtext decodes to
 unfoldable pub xtextDecode : List ℕ → Option (List ℕ)

@@ -2,6 +2,7 @@
 pub mod atom;
 pub mod domain;
 pub mod quoted;
+pub mod xtext;
 
 ghost use mathlib.Core.Path.{_≡_};
 ghost use lib.ListN.{drop, getD};
