@@ -1,1 +1,3 @@
 pub mod EnvelopeLine
+pub mod ParameterLaws
+pub mod FaultLaws

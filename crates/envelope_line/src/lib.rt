@@ -1,4 +1,12 @@
 // One line of an envelope, without its CRLF.
+mod fault;
+mod parameter;
+mod path;
+mod write;
+
+pub use fault::line_fault;
+pub use parameter::orcpt_fault;
+pub use write::{add_line, add_replacement};
 
 // The fault of a line. Fine: none. Malformed: refusal 2. NoAlternative: 3. BadAlternative: 4.
 pub enum Fault {
@@ -6,8 +14,4 @@ pub enum Fault {
     Malformed,
     NoAlternative,
     BadAlternative,
-}
-
-pub fn none() -> Fault {
-    Fault::Fine
 }

@@ -2,16 +2,18 @@
 use mathlib.Core.Path.{_≡_, refl, ap, sym, _∙_}
 use mathlib.Core.Bool.{Bool, true, false, not, cond, _&&_, and-false}
 use mathlib.Core.List.{List, [], _∷_}
-use Prim.Native.Nat.{ℕ, suc, _+_, _≤_, _<_}
+use Prim.Native.Nat.{ℕ, suc, _+_, _-_, _≤_, _<_, min}
 use native.Mathlib.Nat.{add-zero, not-suc-le-zero}
 use native.Mathlib.Numerals.{add-one}
 use native.Mathlib.Omega.{arith}
-use lib.Dec.{eqb, T, eqb→eq}
-use lib.ListN.{length, drop, getD, length-drop, drop-of-length-le}
-use lib.Seq.{drop-cons, drop-drop, getD-drop}
+use lib.Dec.{leb, ltb, eqb, T, eqb→eq}
+use lib.ListN.{length, take, drop, getD, length-drop, drop-of-length-le}
+use lib.Seq.{take-all, take-nil, drop-cons, drop-drop, getD-drop}
 use borrow.Author.Tests.{not-false}
 use Rattle.utf8.specs.Lists.{by-test, cond-has, yes-true, no-false, true-yes}
 use Rattle.utf8.specs.Run.{run, run-after}
+use mir.Facts.{leb-yes, leb-no, ltb-yes, ltb-no}
+use Rattle.buffer.specs.Buffer.{greatest}
 use Rattle.line.specs.Line.{crlf, lineLen}
 
 abbrev pub notCr : ℕ → Bool
@@ -75,3 +77,36 @@ pub line-le : (s : List ℕ) → lineLen s ≤ length s
 unfolding lineLen
 line-le [] = omega arith
 line-le (b ∷ s) = let k = line-le s in cond-has (λ n. n ≤ suc (length s)) (crlf (b ∷ s)) 0 (suc (lineLen s)) (λ t. omega arith) (λ t. omega arith)
+
+-- ---- parts
+
+-- a part between places that are clipped
+pub part-clipped : (s : List ℕ) (from to start end : ℕ) → end ≡ min to (length s) → start ≡ min from end
+    → take (end - start) (drop start s) ≡ take (to - from) (drop from s)
+part-clipped s from to start end h k =
+    by-test (ltb from end)
+    (λ t. let lt = ltb-yes {a = from} {b = end} t in let e : start ≡ from = omega arith in rw e (by-test (leb to (length s))
+    (λ u. let le = leb-yes {a = to} {b = length s} u in let f : end ≡ to = omega arith in rw f)
+    (λ u. let gt = leb-no {a = to} {b = length s} u in
+    let m : length (drop from s) ≤ end - from = rw length-drop (omega arith) in
+    let n : length (drop from s) ≤ to - from = rw length-drop (omega arith) in
+    rw (take-all (end - from) (drop from s) m, take-all (to - from) (drop from s) n))))
+    (λ t. let ge = ltb-no {a = from} {b = end} t in let e : end - start ≡ 0 = omega arith in rw e (by-test (leb to (length s))
+    (λ u. let le = leb-yes {a = to} {b = length s} u in let f : to - from ≡ 0 = omega arith in rw f)
+    (λ u. let gt = leb-no {a = to} {b = length s} u in
+    let m : length s ≤ from = omega arith in rw (drop-of-length-le s {i = from} m, take-nil))))
+
+-- a part up to the end
+pub part-rest : (s : List ℕ) (from : ℕ) → take (length s - from) (drop from s) ≡ drop from s
+part-rest s from = take-all (length s - from) (drop from s) (rw length-drop (omega arith))
+
+-- a part of a given length
+pub part-of : (s : List ℕ) (from n to : ℕ) → to ≡ from + n → take (to - from) (drop from s) ≡ take n (drop from s)
+part-of s from n to e = let k : to - from ≡ n = omega arith in rw k
+
+-- a place that is capped at the greatest usize
+pub drop-capped : (s : List ℕ) (n r : ℕ) → r ≡ min n greatest → length s ≤ greatest → drop r s ≡ drop n s
+drop-capped s n r e h =
+    by-test (leb n greatest) (λ t. let k : r ≡ n = omega (arith, leb-yes {a = n} {b = greatest} t) in rw k)
+    (λ t. let k : length s ≤ r = omega (arith, leb-no {a = n} {b = greatest} t) in let m : length s ≤ n = omega (arith, leb-no {a = n} {b = greatest} t) in
+    rw (drop-of-length-le s {i = r} k, drop-of-length-le s {i = n} m))

@@ -1,10 +1,26 @@
-// Where lines end.
+// Texts by places in them: a byte, a part, the end of a line.
 ghost use mathlib.Core.Path.{_≡_};
-ghost use Prim.Native.Nat.{_+_, _≤_};
+ghost use Prim.Native.Nat.{_+_, _-_, _≤_};
 ghost use lib.ListN.{length, take, drop, getD};
 ghost use Rattle.utf8.specs.Lists.{all};
 ghost use Rattle.line.specs.Line.{lineLen};
 ghost use Rattle.line.specs.LineLaws.{notCr, crRun};
+
+// The byte at a place; 0 past the end.
+pub fn byte_at(s: &[u8], at: usize) -> u8
+    ensures { λ r. ⌜ r ≡ getD (now (s .entry)) at 0 ⌝ }
+{
+    if at < s.len() { s[at] } else { 0 }
+}
+
+// The bytes of a text from `from` up to `to`, as far as they are there.
+pub fn part(s: &[u8], from: usize, to: usize) -> &[u8]
+    ensures { λ r. ⌜ now r ≡ take (to - from) (drop from (now (s .entry))) ⌝ }
+{
+    let end = buffer::clip(to, s.len());
+    let start = buffer::clip(from, end);
+    &s[start..end]
+}
 
 // Whether none of the 32 bytes from `at` is a CR. Without an early exit, so that it is compiled to a few vector instructions.
 fn no_cr32(s: &[u8], at: usize) -> bool
@@ -48,13 +64,6 @@ fn next_cr(s: &[u8], at: usize) -> usize
         i += 1;
     }
     i
-}
-
-// The byte at a place; 0 past the end.
-fn byte_at(s: &[u8], at: usize) -> u8
-    ensures { λ r. ⌜ r ≡ getD (now (s .entry)) at 0 ⌝ }
-{
-    if at < s.len() { s[at] } else { 0 }
 }
 
 // The place of the first CRLF from `at` on; where there is none, the length, or `at` where that lies past it.

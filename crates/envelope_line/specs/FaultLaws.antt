@@ -1,0 +1,1 @@
+-- Laws of faults. Assumes nothing.
