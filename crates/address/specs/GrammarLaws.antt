@@ -3,16 +3,15 @@ use borrow.Author.Tests.{ne-eqb, eq-eqb}
 use mathlib.Core.Path.{_≡_, refl, sym, ap, _∙_}
 use mathlib.Core.Bool.{Bool, true, false, not, cond, _&&_, _||_, and-false, and-true, or-false}
 use mathlib.Core.List.{List, [], _∷_, _++_, append-nil, append-assoc}
-use Prim.Native.Nat.{ℕ, zero, suc, _+_, _-_, _≤_, _<_}
-use native.Mathlib.Nat.{not-suc-le-zero, add-zero}
-use native.Mathlib.Numerals.{add-one}
+use Prim.Native.Nat.{ℕ, suc, _+_, _-_, _≤_, _<_}
+use native.Mathlib.Nat.{add-zero}
 use native.Mathlib.Omega.{arith}
-use lib.Dec.{T, eqb, leb, eqb→eq}
+use lib.Dec.{T, eqb, eqb→eq}
 use lib.ListN.{length, take, drop, getD, length-append, length-drop}
-use lib.Seq.{take-add, take-nil, take-suc, take-length, append-snoc, drop-append-seam, getD-append-seam, getD-drop, length-take-le, getD-take}
+use lib.Seq.{take-add, take-suc, take-length, append-snoc, drop-append-seam, getD-append-seam, getD-drop, length-take-le, getD-take}
 use mir.Facts.{and-yes, yes-and, or-no, eqb-no, leb-no, yes-eqb}
-use Rattle.utf8.specs.Lists.{by-test, cond-has, cond-yes, cond-no, yes-true, true-yes, no-false, all, all-append, nonempty}
-use Rattle.utf8.specs.Byte.{within, allBelow, below, implies}
+use Rattle.utf8.specs.Lists.{by-test, cond-has, yes-true, no-false, all, all-append, nonempty}
+use Rattle.utf8.specs.Byte.{within}
 use Rattle.utf8.specs.Utf8.{utf8}
 use Rattle.utf8.specs.Run.{run, run-all, run-past}
 use Rattle.address.specs.declared.Scan.{Scan}

@@ -1,10 +1,9 @@
 -- Laws of what the scans take: within the text, of which bytes, how many at least. Assumes nothing.
-use mathlib.Core.Path.{_≡_, refl, sym, ap, _∙_}
+use mathlib.Core.Path.{_≡_}
 use mathlib.Core.Bool.{Bool, true, false, not, cond, _&&_, _||_, or-true}
-use mathlib.Core.List.{List, [], _∷_, _++_}
-use mathlib.Core.Logic.{_⊎_, inl, inr}
-use Prim.Native.Nat.{ℕ, zero, suc, _+_, _-_, _≤_, _<_}
-use native.Mathlib.Nat.{not-suc-le-zero, add-zero}
+use mathlib.Core.List.{List, [], _∷_}
+use Prim.Native.Nat.{ℕ, suc, _+_, _-_, _≤_, _<_}
+use native.Mathlib.Nat.{add-zero}
 use native.Mathlib.Omega.{arith}
 use lib.Dec.{T, eqb, leb, ltb, eqb→eq}
 use lib.ListN.{length, take, drop, getD, length-drop, take-append-drop}
@@ -14,13 +13,12 @@ use native.Mathlib.Numerals.{add-one}
 use Rattle.utf8.specs.Utf8.{utf8}
 use Rattle.utf8.specs.Utf8Laws.{utf8-cut, utf8-append, utf8-ascii}
 use mir.Facts.{leb-no, ltb-yes, ltb-no}
-use Rattle.utf8.specs.Lists.{by-test, cond-has, yes-true, true-yes, no-false, all, all-append, all-weaken, all-left, all-right}
+use Rattle.utf8.specs.Lists.{by-test, cond-has, yes-true, all, all-append, all-weaken, all-left, all-right}
 use Rattle.utf8.specs.Byte.{within, isAscii, allBelow, below, implies}
 use Rattle.utf8.specs.Run.{run, run-le, run-all}
 use Rattle.address.specs.declared.Scan.{Scan}
 use Rattle.address.specs.declared.Scan.the-variants.{To, Stop}
 use Rattle.address.specs.Address.{later, byteThen, scanThen, isHigh, isAtext, isAtomByte, isQuotedByte, isLiteralByte, dotAtomEnd, dotAtomFrom, dotAtomScan, quotedFrom, quotedScan, literalFrom, literalScan, domainScan, localScan, addressScan}
-use Rattle.address.specs.AddressLaws.{inside}
 
 -- the place that a scan answers
 abbrev pub reach : Scan → ℕ

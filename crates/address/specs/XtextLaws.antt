@@ -1,21 +1,20 @@
 -- Laws of xtext: by position in a text, as code decodes it. Assumes nothing.
 use borrow.Author.Tests.{lt-ltb, le-leb, lt-leb}
 use mathlib.Core.Path.{_≡_, refl, sym, ap, _∙_}
-use mathlib.Core.Bool.{Bool, true, false, not, cond, _&&_, and-false}
+use mathlib.Core.Bool.{Bool, true, false, not, _&&_, and-false}
 use mathlib.Core.List.{List, [], _∷_, _++_}
 use Prim.Native.Nat.{ℕ, zero, suc, pred, _+_, _*_, _-_, _≤_, _<_}
-use native.Mathlib.Nat.{add-zero, not-suc-le-zero}
 use native.Mathlib.Omega.{arith}
-use lib.Dec.{T, eqb, ltb, leb, eqb→eq}
+use lib.Dec.{T, eqb, ltb}
 use lib.ListN.{length, take, drop, getD, length-drop, drop-of-length-le, List·getD-eq-default}
 use lib.Seq.{drop-drop, getD-drop}
-use mir.Facts.{and-yes, or-yes, leb-yes, eqb-no, ltb-no}
+use mir.Facts.{and-yes}
 use Rattle.utf8.specs.Lists.{by-test, cond-yes, cond-no, cond-has, yes-true, no-false, true-yes}
-use Rattle.utf8.specs.Byte.{within, within-low, within-high, below, implies}
-use Rattle.buffer.specs.Buffer.{Wrote, Added, Appended, Reached, greatest}
+use Rattle.utf8.specs.Byte.{within, within-low, within-high}
+use Rattle.buffer.specs.Buffer.{Wrote, Added, Reached, greatest}
 use Rattle.buffer.specs.BufferLaws.{reached-start, reached-then, reached-end, reached-within, length-reached, appended-of, wrote-from, overlay-front}
 use Rattle.address.specs.Address.{isAsciiAddress}
-use Rattle.address.specs.AddressLaws.{inside, first}
+use Rattle.address.specs.AddressLaws.{first}
 use Rattle.address.specs.Xtext.{isXchar, isHexDigit, hexValue, isHexchar, unitLen, unitByte, Decoding, byteBefore, decodingAfter, decoding, isXtext, decoded, isAltAddress}
 
 -- ---- a unit: an xchar or a hexchar

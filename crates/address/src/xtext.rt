@@ -1,8 +1,8 @@
 // xtext, and the address that an ALT-ADDRESS value stands for.
 ghost use mathlib.Core.Path.{_≡_};
 ghost use mathlib.Core.Bool.{true};
-ghost use Prim.Native.Nat.{_+_, _≤_, _<_};
-ghost use lib.ListN.{length, drop};
+ghost use Prim.Native.Nat.{_+_, _<_};
+ghost use lib.ListN.{length};
 ghost use Rattle.buffer.specs.Buffer.{Wrote};
 ghost use Rattle.address.specs.Xtext.{isXchar, isHexDigit, hexValue, isXtext, decoded, isAltAddress};
 ghost use Rattle.address.specs.XtextLaws.{UnitAt};

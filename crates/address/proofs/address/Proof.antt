@@ -3,32 +3,22 @@ use mathlib.Core.Path.{sym, _∙_}
 use borrow.Author.Needs.{needs}
 use Rattle.address.proofs.address.Statement.{statement}
 use Rattle.address.proofs.address.Tie as tie
-use Rattle.address.proofs.address.Reads as reads
-use Rattle.address.proofs.address.Lts as lts
-use Rattle.address.proofs.at_domain.Reads as at-domain-reads
-use Rattle.address.proofs.local.Reads as local-reads
 
--- src/lib.rt:50:11
 local-requires : tie.Need-local-requires
 local-requires c κs = search needs
 
--- src/lib.rt:51:18
 enum-known-n : tie.Need-enum-known-n
 enum-known-n c = search needs
 
--- src/lib.rt:51:24
 at-domain-requires : tie.Need-at-domain-requires
 at-domain-requires c κs = search needs
 
--- src/lib.rt:52:20
 enum-known-n-2 : tie.Need-enum-known-n-2
 enum-known-n-2 c = search needs
 
--- src/lib.rt:47:1
 returns : tie.Need-returns
 returns c = c .at-domain .ensures ∙ sym (address-to _ _ _ (sym (c .before .before .n .given .1) ∙ c .before .before .before .before .local .ensures))
 
--- src/lib.rt:47:1
 returns-2 : tie.Need-returns-2
 returns-2 c = sym (address-stop _ _ _ (sym (c .before .n2 .given .1) ∙ c .before .before .before .local .ensures))
 

@@ -4,28 +4,19 @@ use native.Mathlib.Omega.{arith}
 use borrow.Author.Needs.{needs}
 use Rattle.address.proofs.at_domain.Statement.{statement}
 use Rattle.address.proofs.at_domain.Tie as tie
-use Rattle.address.proofs.at_domain.Reads as reads
-use Rattle.address.proofs.at_domain.Lts as lts
-use Rattle.address.proofs.byte_at.Reads as byte-at-reads
-use Rattle.address.proofs.domain.domain.Reads as domain-reads
 
--- src/lib.rt:40:8
 byte-at-requires : tie.Need-byte-at-requires
 byte-at-requires c κs = search needs
 
--- src/lib.rt:41:9
 returns : tie.Need-returns
 returns c = sym (byte-other _ _ 64 _ (λ e. c .if1 .taken (c .before .byte-at .ensures ∙ e)))
 
--- src/lib.rt:43:23
 add-domain : tie.Need-add-domain
 add-domain c = omega (arith, inside (c .before .before .before .args .s .now) _ 63 (sym (c .before .byte-at .ensures) ∙ c .if1 .left))
 
--- src/lib.rt:43:5
 domain-requires : tie.Need-domain-requires
 domain-requires c κs = search needs
 
--- src/lib.rt:37:1
 returns-2 : tie.Need-returns-2
 returns-2 c = c .domain .ensures ∙ sym (byte-then _ _ 64 _ (sym (c .before .before .byte-at .ensures) ∙ c .before .if1 .left))
 

@@ -2,21 +2,15 @@ use Rattle.address.specs.AddressLaws.{run-whole}
 use Rattle.utf8.specs.Utf8.{asciiRun}
 use Rattle.utf8.specs.Byte.{isAscii}
 use Rattle.utf8.specs.Run.{run}
-use lib.ListN.{drop}
 use native.Mathlib.Omega.{arith}
-use mathlib.Core.Path.{_≡_, sym, _∙_}
+use mathlib.Core.Path.{_≡_}
 use borrow.Author.Needs.{needs}
 use Rattle.address.proofs.is_ascii.Statement.{statement}
 use Rattle.address.proofs.is_ascii.Tie as tie
-use Rattle.address.proofs.is_ascii.Reads as reads
-use Rattle.address.proofs.is_ascii.Lts as lts
-use Rattle.utf8.proofs.ascii_end.Reads as ascii-end-reads
 
--- src/lib.rt:60:5
 ascii-end-requires : tie.Need-ascii-end-requires
 ascii-end-requires c κs = search needs
 
--- src/lib.rt:57:1
 returns : tie.Need-returns
 unfolding asciiRun
 returns c = let e : c .ascii-end .result ≡ run isAscii (c .before .before .args .s .now) = omega (arith, c .ascii-end .ensures) in

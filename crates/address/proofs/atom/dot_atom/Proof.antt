@@ -4,15 +4,11 @@ use lib.ListN.{length, drop}
 use borrow.Author.Tests.{not-true, not-false}
 use borrow.Author.Needs.{needs}
 use native.Mathlib.Omega.{arith}
-use Prim.Native.Nat.{_+_, _-_}
+use Prim.Native.Nat.{_-_}
 use mathlib.Core.Bool.{true}
 use mathlib.Core.Path.{_≡_, refl, sym, _∙_}
 use Rattle.address.proofs.atom.dot_atom.Statement.{statement}
 use Rattle.address.proofs.atom.dot_atom.Tie as tie
-use Rattle.address.proofs.atom.dot_atom.Reads as reads
-use Rattle.address.proofs.atom.dot_atom.Lts as lts
-use Rattle.address.proofs.atom.ended.Reads as ended-reads
-use Rattle.address.proofs.atom.is_atom_byte.Reads as is-atom-byte-reads
 
 abbrev Inv-loop : tie.InvT-loop
 Inv-loop s at due₀ i₀ due i = later at (dotAtomFrom true (drop at s)) ≡ later i (dotAtomFrom due (drop i s))
@@ -20,44 +16,34 @@ Inv-loop s at due₀ i₀ due i = later at (dotAtomFrom true (drop at s)) ≡ la
 abbrev μ-loop : tie.MeasureT-loop
 μ-loop s at due₀ i₀ due i = length s - i
 
--- src/atom.rt:37:5
 loop-holds : tie.Need-loop-holds Inv-loop μ-loop
 loop-holds c = refl
 
--- src/atom.rt:38:17
 shared-slice-read-b : tie.Need-shared-slice-read-b Inv-loop μ-loop
 shared-slice-read-b c = omega arith
 
--- src/atom.rt:40:14
 is-atom-byte-requires : tie.Need-is-atom-byte-requires Inv-loop μ-loop
 is-atom-byte-requires c κs = search needs
 
--- src/atom.rt:41:13
 ended-requires : tie.Need-ended-requires Inv-loop μ-loop
 ended-requires c κs = search needs
 
--- src/atom.rt:41:13
 returns : tie.Need-returns Inv-loop μ-loop
 unfolding dotAtomScan
 returns c = c .ended .ensures ∙ sym (c .before .before .before .before .before .loop .inv ∙ dot-atom-stop _ _ _ (c .before .before .before .before .loop-test .taken) _ (c .before .before .is-atom-byte .ensures) (not-true _ (c .before .if1 .taken)))
 
--- src/atom.rt:44:9
 add-i : tie.Need-add-i Inv-loop μ-loop
 add-i c = omega arith
 
--- src/atom.rt:37:5
 loop-less : tie.Need-loop-less Inv-loop μ-loop
 loop-less c = omega arith
 
--- src/atom.rt:37:5
 loop-again : tie.Need-loop-again Inv-loop μ-loop
 loop-again c = c .before .before .before .before .loop .inv ∙ dot-atom-step _ _ _ (c .before .before .before .loop-test .taken) _ (c .before .is-atom-byte .ensures) (not-false _ (c .if1 .left))
 
--- src/atom.rt:46:5
 ended-requires-2 : tie.Need-ended-requires-2 Inv-loop μ-loop
 ended-requires-2 c κs = search needs
 
--- src/atom.rt:32:1
 returns-2 : tie.Need-returns-2 Inv-loop μ-loop
 unfolding dotAtomScan
 returns-2 c = c .ended2 .ensures ∙ sym (c .before .before .loop .inv ∙ dot-atom-end _ _ _ (c .before .loop-test .left))

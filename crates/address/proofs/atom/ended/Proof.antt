@@ -1,16 +1,11 @@
-use Rattle.address.specs.Address.{later}
 use Rattle.address.specs.AddressLaws.{later-to, later-stop}
-use mathlib.Core.Path.{refl, sym}
+use mathlib.Core.Path.{sym}
 use Rattle.address.proofs.atom.ended.Statement.{statement}
 use Rattle.address.proofs.atom.ended.Tie as tie
-use Rattle.address.proofs.atom.ended.Reads as reads
-use Rattle.address.proofs.atom.ended.Lts as lts
 
--- src/atom.rt:25:1
 returns : tie.Need-returns
 returns c = rw (c .if1 .taken) (sym (later-stop _))
 
--- src/atom.rt:25:1
 returns-2 : tie.Need-returns-2
 returns-2 c = rw (c .if1 .left) (sym (later-to _))
 

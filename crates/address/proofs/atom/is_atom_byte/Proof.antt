@@ -2,10 +2,7 @@ use Rattle.address.specs.Address.{isAtext, isAtomByte}
 use mathlib.Core.Path.{refl}
 use Rattle.address.proofs.atom.is_atom_byte.Statement.{statement}
 use Rattle.address.proofs.atom.is_atom_byte.Tie as tie
-use Rattle.address.proofs.atom.is_atom_byte.Reads as reads
-use Rattle.address.proofs.atom.is_atom_byte.Lts as lts
 
--- src/atom.rt:8:1
 returns : tie.Need-returns
 unfolding isAtext isAtomByte
 returns c = refl

@@ -4,33 +4,22 @@ use native.Mathlib.Omega.{arith}
 use borrow.Author.Needs.{needs}
 use Rattle.address.proofs.domain.domain.Statement.{statement}
 use Rattle.address.proofs.domain.domain.Tie as tie
-use Rattle.address.proofs.domain.domain.Reads as reads
-use Rattle.address.proofs.domain.domain.Lts as lts
-use Rattle.address.proofs.atom.dot_atom.Reads as dot-atom-reads
-use Rattle.address.proofs.byte_at.Reads as byte-at-reads
-use Rattle.address.proofs.domain.inside.Reads as inside-reads
 
--- src/domain.rt:41:8
 byte-at-requires : tie.Need-byte-at-requires
 byte-at-requires c κs = search needs
 
--- src/domain.rt:42:26
 add-inside : tie.Need-add-inside
 add-inside c = omega (arith, inside (c .before .before .before .args .s .now) _ 90 (sym (c .before .byte-at .ensures) ∙ c .if1 .taken))
 
--- src/domain.rt:42:9
 inside-requires : tie.Need-inside-requires
 inside-requires c κs = search needs
 
--- src/domain.rt:42:9
 returns : tie.Need-returns
 returns c = c .inside .ensures ∙ sym (domain-literal _ _ (sym (c .before .before .byte-at .ensures) ∙ c .before .if1 .taken))
 
--- src/domain.rt:44:5
 dot-atom-requires : tie.Need-dot-atom-requires
 dot-atom-requires c κs = search needs
 
--- src/domain.rt:38:1
 returns-2 : tie.Need-returns-2
 returns-2 c = c .dot-atom .ensures ∙ sym (domain-atoms _ _ (λ e. c .before .if1 .left (c .before .before .byte-at .ensures ∙ e)))
 

@@ -4,28 +4,19 @@ use native.Mathlib.Omega.{arith}
 use borrow.Author.Needs.{needs}
 use Rattle.address.proofs.domain.inside.Statement.{statement}
 use Rattle.address.proofs.domain.inside.Tie as tie
-use Rattle.address.proofs.domain.inside.Reads as reads
-use Rattle.address.proofs.domain.inside.Lts as lts
-use Rattle.address.proofs.byte_at.Reads as byte-at-reads
-use Rattle.address.proofs.domain.literal_run.Reads as literal-run-reads
 
--- src/domain.rt:30:9
 literal-run-requires : tie.Need-literal-run-requires
 literal-run-requires c κs = search needs
 
--- src/domain.rt:31:8
 byte-at-requires : tie.Need-byte-at-requires
 byte-at-requires c κs = search needs
 
--- src/domain.rt:32:25
 add-t6 : tie.Need-add-t6
 add-t6 c = omega (arith, inside (c .before .before .before .before .args .s .now) _ 92 (sym (c .before .byte-at .ensures) ∙ c .if1 .taken))
 
--- src/domain.rt:32:9
 returns : tie.Need-returns
 returns c = sym (literal-close _ _ _ (c .before .before .literal-run .ensures) (sym (c .before .byte-at .ensures) ∙ c .if1 .taken))
 
--- src/domain.rt:27:1
 returns-2 : tie.Need-returns-2
 returns-2 c = sym (literal-stop _ _ _ (c .before .before .literal-run .ensures) (λ e. c .if1 .left (c .before .byte-at .ensures ∙ e)))
 

@@ -7,8 +7,6 @@ use Prim.Native.Nat.{_+_, _-_}
 use mathlib.Core.Path.{_≡_, refl, sym, _∙_}
 use Rattle.address.proofs.domain.literal_run.Statement.{statement}
 use Rattle.address.proofs.domain.literal_run.Tie as tie
-use Rattle.address.proofs.domain.literal_run.Reads as reads
-use Rattle.address.proofs.domain.literal_run.Lts as lts
 
 abbrev Inv-loop : tie.InvT-loop
 Inv-loop s at i₀ i = at + run isLiteralByte (drop at s) ≡ i + run isLiteralByte (drop i s)
@@ -16,33 +14,26 @@ Inv-loop s at i₀ i = at + run isLiteralByte (drop at s) ≡ i + run isLiteralB
 abbrev μ-loop : tie.MeasureT-loop
 μ-loop s at i₀ i = length s - i
 
--- src/domain.rt:16:5
 loop-holds : tie.Need-loop-holds Inv-loop μ-loop
 loop-holds c = refl
 
--- src/domain.rt:17:17
 shared-slice-read-b : tie.Need-shared-slice-read-b Inv-loop μ-loop
 shared-slice-read-b c = omega arith
 
--- src/domain.rt:19:13
 returns : tie.Need-returns Inv-loop μ-loop
 unfolding isLiteralByte
 returns c = sym (c .before .before .before .loop .inv ∙ run-stop isLiteralByte _ _ (c .before .before .loop-test .taken) (not-true _ (c .if1 .taken)))
 
--- src/domain.rt:21:9
 add-i : tie.Need-add-i Inv-loop μ-loop
 add-i c = omega arith
 
--- src/domain.rt:16:5
 loop-less : tie.Need-loop-less Inv-loop μ-loop
 loop-less c = omega arith
 
--- src/domain.rt:16:5
 loop-again : tie.Need-loop-again Inv-loop μ-loop
 unfolding isLiteralByte
 loop-again c = c .before .before .before .loop .inv ∙ run-step isLiteralByte _ _ (c .before .before .loop-test .taken) (not-false _ (c .if1 .left))
 
--- src/domain.rt:12:1
 returns-2 : tie.Need-returns-2 Inv-loop μ-loop
 returns-2 c = sym (c .before .loop .inv ∙ run-end isLiteralByte _ _ (c .loop-test .left))
 

@@ -8,8 +8,6 @@ use mathlib.Core.Bool.{false}
 use mathlib.Core.Path.{_≡_, refl, sym, _∙_}
 use Rattle.address.proofs.quoted.inside.Statement.{statement}
 use Rattle.address.proofs.quoted.inside.Tie as tie
-use Rattle.address.proofs.quoted.inside.Reads as reads
-use Rattle.address.proofs.quoted.inside.Lts as lts
 
 abbrev Inv-loop : tie.InvT-loop
 Inv-loop s at escaped₀ i₀ escaped i = later at (quotedFrom false (drop at s)) ≡ later i (quotedFrom escaped (drop i s))
@@ -17,39 +15,30 @@ Inv-loop s at escaped₀ i₀ escaped i = later at (quotedFrom false (drop at s)
 abbrev μ-loop : tie.MeasureT-loop
 μ-loop s at escaped₀ i₀ escaped i = length s - i
 
--- src/quoted.rt:15:5
 loop-holds : tie.Need-loop-holds Inv-loop μ-loop
 loop-holds c = refl
 
--- src/quoted.rt:16:17
 shared-slice-read-b : tie.Need-shared-slice-read-b Inv-loop μ-loop
 shared-slice-read-b c = omega arith
 
--- src/quoted.rt:18:29
 add-t12 : tie.Need-add-t12 Inv-loop μ-loop
 add-t12 c = omega arith
 
--- src/quoted.rt:18:13
 returns : tie.Need-returns Inv-loop μ-loop
 returns c = sym (c .before .before .before .loop .inv ∙ quoted-close _ _ _ (c .before .before .loop-test .taken) (c .if1 .taken))
 
--- src/quoted.rt:21:13
 returns-2 : tie.Need-returns-2 Inv-loop μ-loop
 returns-2 c = sym (c .before .before .before .before .loop .inv ∙ quoted-stop _ _ _ (c .before .before .before .loop-test .taken) (c .before .if1 .left) (not-true _ (c .if2 .taken)))
 
--- src/quoted.rt:24:9
 add-i : tie.Need-add-i Inv-loop μ-loop
 add-i c = omega arith
 
--- src/quoted.rt:15:5
 loop-less : tie.Need-loop-less Inv-loop μ-loop
 loop-less c = omega arith
 
--- src/quoted.rt:15:5
 loop-again : tie.Need-loop-again Inv-loop μ-loop
 loop-again c = c .before .before .before .before .loop .inv ∙ quoted-step _ _ _ (c .before .before .before .loop-test .taken) (c .before .if1 .left) (not-false _ (c .if2 .left))
 
--- src/quoted.rt:10:1
 returns-3 : tie.Need-returns-3 Inv-loop μ-loop
 returns-3 c = sym (c .before .loop .inv ∙ quoted-end _ _ _ (c .loop-test .left))
 

@@ -3,22 +3,16 @@ use native.Mathlib.Omega.{arith}
 use borrow.Author.Needs.{needs}
 use Rattle.address.proofs.xtext.hex_value.Statement.{statement}
 use Rattle.address.proofs.xtext.hex_value.Tie as tie
-use Rattle.address.proofs.xtext.hex_value.Reads as reads
-use Rattle.address.proofs.xtext.hex_value.Lts as lts
 
--- src/xtext.rt:33:18
 sub-result : tie.Need-sub-result
 sub-result c = hex-digit (c .before .args .b) (c .before .pre) (c .if1 .taken) .0
 
--- src/xtext.rt:33:34
 sub-result-2 : tie.Need-sub-result-2
 sub-result-2 c = search needs
 
--- src/xtext.rt:29:1
 returns : tie.Need-returns
 returns c = (hex-digit (c .before .args .b) (c .before .pre) (c .if1 .taken) .1, omega arith)
 
--- src/xtext.rt:29:1
 returns-2 : tie.Need-returns-2
 returns-2 c = (hex-letter (c .before .args .b) (c .before .pre) (c .if1 .left) .1, omega (arith, hex-letter (c .before .args .b) (c .before .pre) (c .if1 .left) .0))
 

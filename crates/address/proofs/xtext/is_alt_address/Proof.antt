@@ -7,40 +7,28 @@ use native.Mathlib.Omega.{arith}
 use borrow.Author.Needs.{needs}
 use Rattle.address.proofs.xtext.is_alt_address.Statement.{statement}
 use Rattle.address.proofs.xtext.is_alt_address.Tie as tie
-use Rattle.address.proofs.xtext.is_alt_address.Reads as reads
-use Rattle.address.proofs.xtext.is_alt_address.Lts as lts
-use Rattle.address.proofs.is_ascii_address.Reads as is-ascii-address-reads
-use Rattle.address.proofs.xtext.decode.Reads as decode-reads
 
--- src/xtext.rt:111:9
 returns : tie.Need-returns
 returns c = alt-long _ (c .if1 .taken)
 
--- src/xtext.rt:114:20
 slice-aggregate-decode : tie.Need-slice-aggregate-decode
 slice-aggregate-decode c = search needs
 
--- src/xtext.rt:114:9
 decode-requires : tie.Need-decode-requires
 decode-requires c κs = search needs
 
--- src/xtext.rt:117:9
 returns-2 : tie.Need-returns-2
 returns-2 c = alt-fault _ (c .before .before .before .before .before .if1 .left) (sym (not-true _ (c .if2 .taken)) ∙ c .before .before .before .decode .ensures .1)
 
--- src/xtext.rt:119:22
 array-share-prefix-bytes : tie.Need-array-share-prefix-bytes
 array-share-prefix-bytes c = omega (arith, c .before .before .before .decode .ensures .0 .size, decoded-le (c .before .before .before .before .before .before .before .args .value .now), length-wrote (c .before .before .before .decode .ensures .0), c .before .before .before .before .before .if1 .left)
 
--- src/xtext.rt:119:22
 slice-aggregate-is-ascii-address : tie.Need-slice-aggregate-is-ascii-address
 slice-aggregate-is-ascii-address c = sym (length-take-le _ (c .before .before .before .before .decode .last .0) (omega (arith, c .before .before .before .before .decode .ensures .0 .size, decoded-le (c .before .before .before .before .before .before .before .before .args .value .now), length-wrote (c .before .before .before .before .decode .ensures .0), c .before .before .before .before .before .before .if1 .left)))
 
--- src/xtext.rt:119:5
 is-ascii-address-requires : tie.Need-is-ascii-address-requires
 is-ascii-address-requires c κs = search needs
 
--- src/xtext.rt:107:1
 returns-3 : tie.Need-returns-3
 returns-3 c = c .is-ascii-address .ensures ∙ alt-tested _ (c .before .before .before .before .before .before .before .if1 .left) (sym (not-false _ (c .before .before .if2 .left)) ∙ c .before .before .before .before .before .decode .ensures .1) (c .before .before .before .before .before .decode .ensures .0) refl
 

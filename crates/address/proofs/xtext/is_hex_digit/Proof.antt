@@ -2,10 +2,7 @@ use Rattle.address.specs.Xtext.{isHexDigit}
 use mathlib.Core.Path.{refl}
 use Rattle.address.proofs.xtext.is_hex_digit.Statement.{statement}
 use Rattle.address.proofs.xtext.is_hex_digit.Tie as tie
-use Rattle.address.proofs.xtext.is_hex_digit.Reads as reads
-use Rattle.address.proofs.xtext.is_hex_digit.Lts as lts
 
--- src/xtext.rt:22:1
 returns : tie.Need-returns
 unfolding isHexDigit
 returns c = refl

@@ -2,10 +2,7 @@ use Rattle.address.specs.Xtext.{isXchar}
 use mathlib.Core.Path.{refl}
 use Rattle.address.proofs.xtext.is_xchar.Statement.{statement}
 use Rattle.address.proofs.xtext.is_xchar.Tie as tie
-use Rattle.address.proofs.xtext.is_xchar.Reads as reads
-use Rattle.address.proofs.xtext.is_xchar.Lts as lts
 
--- src/xtext.rt:15:1
 returns : tie.Need-returns
 unfolding isXchar
 returns c = refl

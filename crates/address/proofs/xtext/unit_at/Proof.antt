@@ -6,77 +6,55 @@ use native.Mathlib.Omega.{arith}
 use borrow.Author.Needs.{needs}
 use Rattle.address.proofs.xtext.unit_at.Statement.{statement}
 use Rattle.address.proofs.xtext.unit_at.Tie as tie
-use Rattle.address.proofs.xtext.unit_at.Reads as reads
-use Rattle.address.proofs.xtext.unit_at.Lts as lts
-use Rattle.address.proofs.xtext.hex_value.Reads as hex-value-reads
-use Rattle.address.proofs.xtext.is_hex_digit.Reads as is-hex-digit-reads
-use Rattle.address.proofs.xtext.is_xchar.Reads as is-xchar-reads
 
--- src/xtext.rt:46:13
 shared-slice-read-b : tie.Need-shared-slice-read-b
 shared-slice-read-b c = search needs
 
--- src/xtext.rt:47:8
 is-xchar-requires : tie.Need-is-xchar-requires
 is-xchar-requires c κs = search needs
 
--- src/xtext.rt:48:9
 returns : tie.Need-returns
 returns c = unit-bare _ _ (c .before .before .before .before .pre) _ (c .before .is-xchar .ensures) (c .if1 .taken)
 
--- src/xtext.rt:50:8
 sub-if2 : tie.Need-sub-if2
 sub-if2 c = search needs
 
--- src/xtext.rt:51:9
 returns-2 : tie.Need-returns-2
 returns-2 c = unit-short _ _ (c .before .before .before .before .before .pre) _ (c .before .before .is-xchar .ensures) (c .before .if1 .left) (c .if2 .taken)
 
--- src/xtext.rt:53:18
 add-high : tie.Need-add-high
 add-high c = search needs
 
--- src/xtext.rt:53:16
 shared-slice-read-high : tie.Need-shared-slice-read-high
 shared-slice-read-high c = search needs
 
--- src/xtext.rt:54:17
 add-low : tie.Need-add-low
 add-low c = search needs
 
--- src/xtext.rt:54:15
 shared-slice-read-low : tie.Need-shared-slice-read-low
 shared-slice-read-low c = search needs
 
--- src/xtext.rt:55:9
 is-hex-digit-requires : tie.Need-is-hex-digit-requires
 is-hex-digit-requires c κs = search needs
 
--- src/xtext.rt:56:9
 is-hex-digit-requires-2 : tie.Need-is-hex-digit-requires-2
 is-hex-digit-requires-2 c κs = search needs
 
--- src/xtext.rt:58:9
 returns-3 : tie.Need-returns-3
 returns-3 c = unit-other _ _ (c .before .before .before .before .before .before .before .before .before .before .pre) _ (c .before .before .before .before .before .before .before .is-xchar .ensures) (c .before .before .before .before .before .before .if1 .left) _ _ (c .before .before .is-hex-digit .ensures) (c .before .is-hex-digit2 .ensures) (not-true _ (c .if3 .taken))
 
--- src/xtext.rt:62:15
 hex-value-requires : tie.Need-hex-value-requires
 hex-value-requires c κs = both-digits (eqb (getD (c .before .before .before .before .before .before .before .before .before .before .args .s .now) (c .before .before .before .before .before .before .before .before .before .before .args .at) 0) 43) _ _ _ _ (c .before .before .is-hex-digit .ensures) (c .before .is-hex-digit2 .ensures) (not-false _ (c .if3 .left)) .0
 
--- src/xtext.rt:62:15
 mul-t19 : tie.Need-mul-t19
 mul-t19 c = search needs
 
--- src/xtext.rt:62:38
 hex-value-requires-2 : tie.Need-hex-value-requires-2
 hex-value-requires-2 c κs = both-digits (eqb (getD (c .before .before .before .before .before .before .before .before .before .before .before .args .s .now) (c .before .before .before .before .before .before .before .before .before .before .before .args .at) 0) 43) _ _ _ _ (c .before .before .before .is-hex-digit .ensures) (c .before .before .is-hex-digit2 .ensures) (not-false _ (c .before .if3 .left)) .1
 
--- src/xtext.rt:62:15
 add-t21 : tie.Need-add-t21
 add-t21 c = search needs
 
--- src/xtext.rt:42:1
 returns-4 : tie.Need-returns-4
 returns-4 c = unit-hex _ _ (c .before .before .before .before .before .before .before .before .before .before .before .before .pre) _ (c .before .before .before .before .before .before .before .before .before .is-xchar .ensures) (c .before .before .before .before .before .before .before .before .if1 .left) _ _ (c .before .before .before .before .is-hex-digit .ensures) (c .before .before .before .is-hex-digit2 .ensures) (not-false _ (c .before .before .if3 .left)) (omega arith) _ _ (c .before .hex-value .ensures .0) (c .hex-value2 .ensures .0)
 
