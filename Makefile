@@ -7,8 +7,8 @@ test:
 
 # Proves word_cases and what it stands on, then runs it.
 run:
-	rt check word_cases >target-run.log 2>&1 || { cat target-run.log; rm -f target-run.log; exit 1; }
-	@rm -f target-run.log
+	@mkdir -p target
+	@rt check word_cases >target/run.log 2>&1 || { cat target/run.log; exit 1; }
 	@target/bin/word_cases
 
 clean:
