@@ -19,7 +19,7 @@ fn only_alt_fault(p: &[u8], ascii: bool) -> Fault
     if ascii {
         return Fault::BadAlternative;
     }
-    if address::is_alt_address(part(p, value_start(p), p.len())) {
+    if address::xtext::is_alt_address(part(p, value_start(p), p.len())) {
         return Fault::Fine;
     }
     Fault::BadAlternative

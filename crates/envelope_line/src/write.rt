@@ -14,7 +14,7 @@ fn add_decoded(out: &mut [u8], at: usize, p: &[u8]) -> usize
 {
     let a = buffer::clip(at, out.len());
     let v = part(p, value_start(p), p.len());
-    buffer::place_after(at, address::put_decoded(&mut out[a..], v))
+    buffer::place_after(at, address::xtext::put_decoded(&mut out[a..], v))
 }
 
 // Writes the decoded ALT-ADDRESS of the rest of a line from a place on.
