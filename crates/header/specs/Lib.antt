@@ -1,3 +1,4 @@
 pub mod Lines
+pub mod LineLaws
 pub mod Fields
 pub mod HeaderCases
