@@ -37,15 +37,15 @@ ends-by h i b line end l e k = rw (k, e, l, getD-drop i h 2 0) (both (crlf (drop
     both true b = refl
     both false b = refl
 
-len-cons : (b : ℕ) (rest : List ℕ) → fieldLen (b ∷ rest) ≡ cond (ends (b ∷ rest)) 2 (suc (fieldLen rest))
+pub len-cons : (b : ℕ) (rest : List ℕ) → fieldLen (b ∷ rest) ≡ cond (ends (b ∷ rest)) 2 (suc (fieldLen rest))
 unfolding fieldLen ends
 len-cons b rest = refl
 
-no-end : (b : ℕ) (rest : List ℕ) → T (notCr b) → ends (b ∷ rest) ≡ false
+pub no-end : (b : ℕ) (rest : List ℕ) → T (notCr b) → ends (b ∷ rest) ≡ false
 unfolding notCr ends crlf
 no-end b rest t = rw (no-false (eqb b 13) t)
 
-len-past : (a b : List ℕ) → T (all notCr a) → fieldLen (a ++ b) ≡ length a + fieldLen b
+pub len-past : (a b : List ℕ) → T (all notCr a) → fieldLen (a ++ b) ≡ length a + fieldLen b
 len-past [] b h = sym (zero-add (fieldLen b))
 len-past (x ∷ a) b h =
     let both = and-yes (notCr x) (all notCr a) h in
@@ -117,6 +117,10 @@ fields-cons b rest =
 pub fields-nil : fieldsOf [] ≡ []
 unfolding fieldsAfter fieldsOf
 fields-nil = refl
+
+pub fields-front : (h : List ℕ) → 0 < length h → fieldsOf h ≡ take (fieldLen h) h ∷ fieldsOf (drop (fieldLen h) h)
+fields-front [] k = absurd (not-suc-le-zero k)
+fields-front (b ∷ rest) k = fields-cons b rest
 
 -- the first field of what is left, and the others
 pub fields-at : (h : List ℕ) (at : ℕ) → at < length h

@@ -354,7 +354,7 @@ lines-skip zero n at (b ∷ rest) = rw add-zero
 lines-skip (suc k) n at [] = refl
 lines-skip (suc k) n at (b ∷ rest) = let e : at + suc k ≡ suc at + k = omega arith in rw e (lines-skip k n (suc at) rest)
 
-front-good : (n at : ℕ) (xs : List ℕ) → 0 < length xs → lineOk (eqb n 0) xs ≡ true
+pub front-good : (n at : ℕ) (xs : List ℕ) → 0 < length xs → lineOk (eqb n 0) xs ≡ true
     → linesFrom 0 n at xs ≡ linesFrom 0 (n + 1) (at + (lineLen xs + 2)) (drop (lineLen xs + 2) xs)
 unfolding linesFrom
 front-good n at [] h e = absurd (not-suc-le-zero h)
@@ -364,7 +364,7 @@ front-good n at (b ∷ rest) h e =
     let p : at + suc (suc m) ≡ suc at + suc m = omega arith in
     rw (e, q, p, add-one) (lines-skip (suc m) (suc n) (suc at) rest)
 
-front-bad : (n at : ℕ) (xs : List ℕ) → 0 < length xs → lineOk (eqb n 0) xs ≡ false → linesFrom 0 n at xs ≡ Malformed n at
+pub front-bad : (n at : ℕ) (xs : List ℕ) → 0 < length xs → lineOk (eqb n 0) xs ≡ false → linesFrom 0 n at xs ≡ Malformed n at
 unfolding linesFrom
 front-bad n at [] h e = absurd (not-suc-le-zero h)
 front-bad n at (b ∷ rest) h e = rw e
