@@ -5,7 +5,7 @@ use mathlib.Core.List.{List, [], _∷_, _++_}
 use Prim.Native.Nat.{ℕ}
 use lib.Dec.{T, eqb}
 use lib.ListN.{getD}
-use Rattle.utf8.specs.Lists.{all, joined}
+use Rattle.utf8.specs.Lists.{all}
 use Rattle.utf8.specs.Byte.{within}
 use Rattle.utf8.specs.Utf8.{utf8}
 use Rattle.header.specs.Lines.{lineByte, blank, nameLen}

@@ -1,27 +1,24 @@
 -- A header without malformed lines is a row of fields; the text of such a field. Assumes nothing.
 use mathlib.Core.Path.{_≡_, refl, ap, sym, _∙_}
-use mathlib.Core.Bool.{Bool, true, false, cond, not, _&&_, _||_, and-false, and-assoc}
+use mathlib.Core.Bool.{Bool, true, false, not, _&&_, _||_, and-false, and-assoc}
 use mathlib.Core.List.{List, [], _∷_, _++_, append-assoc, append-nil}
-use Prim.Native.Nat.{ℕ, zero, suc, pred, _+_, _-_, _≤_, _<_}
-use native.Mathlib.Nat.{not-suc-le-zero, add-zero, suc-add, zero-add}
-use native.Mathlib.Numerals.{add-one}
+use Prim.Native.Nat.{ℕ, zero, suc, _+_, _-_, _≤_, _<_}
+use native.Mathlib.Nat.{add-zero}
 use native.Mathlib.Omega.{arith}
 use lib.Dec.{T, leb, eqb, eqb→eq}
-use lib.ListN.{length, take, drop, getD, length-append, length-drop, length-take, take-append-drop, drop-of-length-le, List·getD-eq-default}
-use lib.Seq.{drop-cons, drop-drop, getD-drop, length-take-le, split-at, take-at, drop-at}
+use lib.ListN.{length, take, drop, getD, length-append, length-drop, take-append-drop, List·getD-eq-default}
+use lib.Seq.{drop-drop, length-take-le, split-at, take-at, drop-at}
 use mir.Facts.{and-yes, yes-and, leb-yes, leb-no}
-use mathlib.Core.Logic.{⊎-elim}
-use Rattle.utf8.specs.Lists.{by-test, cond-yes, cond-no, cond-has, yes-true, true-yes, no-false, all, all-append, all-left, all-right, all-past, all-weaken, joined}
-use Rattle.utf8.specs.Byte.{isAscii, within, same-test}
-use Rattle.utf8.specs.Run.{run, run-le, run-all, run-past, run-after}
+use Rattle.utf8.specs.Lists.{by-test, yes-true, no-false, all, all-right, all-past, all-weaken, joined}
+use Rattle.utf8.specs.Byte.{isAscii, within}
+use Rattle.utf8.specs.Run.{run, run-all, run-past}
 use Rattle.utf8.specs.Utf8.{utf8}
-use Rattle.utf8.specs.Utf8Laws.{utf8-right, utf8-append, utf8-ascii, utf8-cut, utf8-of}
+use Rattle.utf8.specs.Utf8Laws.{utf8-right, utf8-append, utf8-ascii, utf8-cut}
 use Rattle.header.specs.Lines.{crlf, lineLen, lineByte, blank, nameByte, nameLen, named, continuation, wellFormed, lineOk, linesFrom, linesOf}
 use Rattle.header.specs.LineLaws.{crlf-inside, front-good, front-bad}
 use Rattle.header.specs.Fields.{fold, fieldLen, fieldsOf, nameOf, valueOf, unfoldedAfter, trimmed, textOf}
-use Rattle.header.specs.FieldLaws.{notCr, ends, len-cons, len-past, no-end, fields-nil, fields-front}
+use Rattle.header.specs.FieldLaws.{notCr, ends, len-cons, len-past, fields-nil, fields-front}
 use Rattle.header.specs.FieldShape.{piece, continued, folded, Shaped, Each, withoutBreaks}
-use Rattle.header.specs.declared.Lines.{Lines}
 use Rattle.header.specs.declared.Lines.the-variants.{WellFormed, Malformed}
 
 -- ---- pieces

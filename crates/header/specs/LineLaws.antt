@@ -3,22 +3,21 @@ use mathlib.Core.Path.{_≡_, refl, ap, sym, _∙_}
 use mathlib.Core.Bool.{Bool, true, false, cond, not, _&&_, _||_, and-false, or-false}
 use mathlib.Core.List.{List, [], _∷_, _++_}
 use Prim.Native.Nat.{ℕ, zero, suc, _+_, _-_, _≤_, _<_}
-use native.Mathlib.Nat.{not-suc-le-zero, add-zero, zero-add, suc-add}
+use native.Mathlib.Nat.{not-suc-le-zero, add-zero, suc-add}
 use native.Mathlib.Numerals.{add-one}
 use native.Mathlib.Omega.{arith}
 use lib.Dec.{T, leb, ltb, eqb, le→leb, eqb→eq}
 use lib.ListN.{length, take, drop, getD, length-drop, length-take, take-append-drop, drop-of-length-le, List·getD-eq-default}
-use lib.Seq.{drop-cons, drop-drop, drop-nil, getD-drop, getD-take, take-take, take-append-add, drop-append-add, length-take-le}
-use borrow.Author.Tests.{eqb-true, eqb-false, ne-eqb, eq-eqb, le-ltb}
+use lib.Seq.{drop-cons, drop-drop, getD-drop, getD-take, take-take, take-append-add, drop-append-add, length-take-le}
+use borrow.Author.Tests.{ne-eqb}
 use mir.Facts.{and-yes, leb-yes, leb-no, ltb-no}
-use Rattle.utf8.specs.Lists.{by-test, cond-yes, cond-no, cond-has, yes-true, true-yes, no-false, all, all-past, all-weaken, all-append}
-use Rattle.utf8.specs.Byte.{isAscii, within, allBelow, below, implies}
+use Rattle.utf8.specs.Lists.{by-test, cond-yes, cond-has, yes-true, true-yes, no-false, all, all-past, all-weaken}
+use Rattle.utf8.specs.Byte.{isAscii, within}
 use Rattle.utf8.specs.Run.{run, run-le, run-all, run-step}
 use Rattle.utf8.specs.Utf8.{charLen, isChar, charAt, utf8}
 use Rattle.utf8.specs.Utf8Laws.{char-len-some, char-high, utf8-right, utf8-ascii, utf8-char, utf8-of}
-use Rattle.utf8.specs.Utf8At.{whole-char, char-at-some, char-at-size, char-at-within, utf8-stop}
+use Rattle.utf8.specs.Utf8At.{whole-char, char-at-some, char-at-within, utf8-stop}
 use Rattle.header.specs.Lines.{crlf, lineLen, lineByte, blank, nameByte, nameLen, named, continuation, wellFormed, lineOk, linesFrom, linesOf}
-use Rattle.header.specs.declared.Lines.{Lines}
 use Rattle.header.specs.declared.Lines.the-variants.{WellFormed, Malformed}
 
 -- ---- the text of a line
