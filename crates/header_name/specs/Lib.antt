@@ -1,0 +1,4 @@
+pub mod Names
+pub mod NameTable
+pub mod NameTableLaws
+pub mod NameCases

@@ -1,0 +1,157 @@
+-- Laws of the table: it gives the kind of each name; its lists agree at each entry; names compared byte by byte. Assumes nothing.
+use mathlib.Core.Path.{_≡_, refl, ap, sym, _∙_}
+use mathlib.Core.Bool.{Bool, true, false, cond, _&&_, and-false}
+use mathlib.Core.List.{List, [], _∷_, _++_, map, append-nil}
+use Prim.Native.Nat.{ℕ, suc, _+_, _-_, _≤_, _<_}
+use native.Mathlib.Numerals.{add-one}
+use native.Mathlib.Omega.{arith}
+use lib.Dec.{T, leb, eqb, leb→le, eqb→eq}
+use lib.ListN.{length, take, drop, getD, drop-of-length-le}
+use lib.Seq.{drop-cons}
+use borrow.Author.Tests.{eq-eqb, ne-eqb}
+use mir.Facts.{and-yes}
+use Rattle.utf8.specs.Lists.{by-test, yes-true, no-false}
+use Rattle.utf8.specs.Byte.{below}
+use Rattle.header_name.specs.declared.Kind.the-variants.{Held, Other}
+use Rattle.header_name.specs.Names.{bytes, six, lower, sameName, addressNames, plainTextNames, heldNames, among, kindOf}
+use Rattle.header_name.specs.NameTable.{Entry, entry, lettered, entries, kindIn, startsFrom, starts, names, kinds}
+
+-- ---- the table gives the kind of each name
+
+kind-part : (k : ℕ) (group : List (List ℕ)) (es : List Entry) (name : List ℕ)
+    → kindIn (map (entry k) group ++ es) name ≡ cond (among group name) (lettered k) (kindIn es name)
+unfolding kindIn among
+kind-part k [] es name = refl
+kind-part k (n ∷ group) es name =
+    by-test (sameName n name) (λ t. rw (yes-true (sameName n name) t)) (λ t. rw (no-false (sameName n name) t) (kind-part k group es name))
+
+pub kind-table : (name : List ℕ) → kindOf name ≡ kindIn entries name
+unfolding kindOf entries kindIn lettered
+kind-table name =
+    let last : kindIn (map (entry 72) heldNames) name ≡ cond (among heldNames name) Held Other = rw append-nil at (kind-part 72 heldNames [] name) in
+    sym (kind-part 65 addressNames (map (entry 80) plainTextNames ++ map (entry 72) heldNames) name
+    ∙ rw (kind-part 80 plainTextNames (map (entry 72) heldNames) name, last))
+
+-- ---- the lists agree at each entry
+
+abbrev sameList : List ℕ → List ℕ → Bool
+sameList [] [] = true
+sameList [] (y ∷ ys) = false
+sameList (x ∷ xs) [] = false
+sameList (x ∷ xs) (y ∷ ys) = eqb x y && sameList xs ys
+
+same-list : (xs ys : List ℕ) → T (sameList xs ys) → xs ≡ ys
+same-list [] [] t = refl
+same-list [] (y ∷ ys) t = absurd t
+same-list (x ∷ xs) [] t = absurd t
+same-list (x ∷ xs) (y ∷ ys) t =
+    let both = and-yes (eqb x y) (sameList xs ys) t in
+    rw (eqb→eq x y (both .0), same-list xs ys (both .1))
+
+abbrev none : Entry
+none = entry 0 []
+
+-- what code finds at entry k of its three lists
+pub record Row (ns ss ks : List ℕ) (k : ℕ) : Type 0 where
+  pub start : k + 1 < length ss
+  pub kind-there : k < length ks
+  pub up : getD ss k 0 ≤ getD ss (k + 1) 0
+  pub inside : getD ss (k + 1) 0 ≤ length ns
+  pub name : take (getD ss (k + 1) 0 - getD ss k 0) (drop (getD ss k 0) ns) ≡ getD entries k none .name
+  pub kind : getD ks k 0 ≡ getD entries k none .kind
+
+rowTest : ℕ → Bool
+unfolding startsFrom starts names kinds entries addressNames plainTextNames heldNames six bytes
+rowTest k =
+    leb (k + 2) (length starts)
+    && leb (k + 1) (length kinds)
+    && leb (getD starts k 0) (getD starts (k + 1) 0)
+    && leb (getD starts (k + 1) 0) (length names)
+    && sameList (take (getD starts (k + 1) 0 - getD starts k 0) (drop (getD starts k 0) names)) (getD entries k none .name)
+    && eqb (getD kinds k 0) (getD entries k none .kind)
+
+row-test : (k : ℕ) → k < 32 → T (rowTest k)
+unfolding rowTest
+row-test = below rowTest 32 tt
+
+row-of : (k : ℕ) → k < 32 → Row names starts kinds k
+unfolding rowTest
+row-of k h =
+    let start = leb (k + 2) (length starts) in
+    let there = leb (k + 1) (length kinds) in
+    let up = leb (getD starts k 0) (getD starts (k + 1) 0) in
+    let inside = leb (getD starts (k + 1) 0) (length names) in
+    let part = take (getD starts (k + 1) 0 - getD starts k 0) (drop (getD starts k 0) names) in
+    let name = sameList part (getD entries k none .name) in
+    let kind = eqb (getD kinds k 0) (getD entries k none .kind) in
+    let e = and-yes (start && there && up && inside && name) kind (row-test k h) in
+    let d = and-yes (start && there && up && inside) name (e .0) in
+    let c = and-yes (start && there && up) inside (d .0) in
+    let b = and-yes (start && there) up (c .0) in
+    let a = and-yes start there (b .0) in
+    record {
+      start = omega (arith, leb→le (k + 2) (length starts) (a .0));
+      kind-there = omega (arith, leb→le (k + 1) (length kinds) (a .1));
+      up = leb→le (getD starts k 0) (getD starts (k + 1) 0) (b .1);
+      inside = leb→le (getD starts (k + 1) 0) (length names) (c .1);
+      name = same-list part (getD entries k none .name) (d .1);
+      kind = eqb→eq (getD kinds k 0) (getD entries k none .kind) (e .1);
+    }
+
+pub row : (ns ss ks : List ℕ) (k : ℕ) → ns ≡ names → ss ≡ starts → ks ≡ kinds → k < 32 → Row ns ss ks k
+row ns ss ks k n s t h = rw (n, s, t) (row-of k h)
+
+-- ---- the search
+
+count : length entries ≡ 32
+unfolding entries addressNames plainTextNames heldNames six
+count = refl
+
+-- what is left to search from entry k on
+pub record Sought (name : List ℕ) (k : ℕ) : Type 0 where
+  pub left : kindOf name ≡ kindIn (drop k entries) name
+
+pub sought-start : (name : List ℕ) → Sought name 0
+sought-start name = record { left = kind-table name }
+
+pub sought-end : {name : List ℕ} {k : ℕ} → 32 ≤ k → Sought name k → Other ≡ kindOf name
+unfolding kindIn
+sought-end {name} {k} h s = sym (s .left ∙ rw (drop-of-length-le entries {i = k} (rw count h)))
+
+module _ {ns ss ks : List ℕ} {k : ℕ} (r : Row ns ss ks k) (h : k < 32) where
+  abbrev part : List ℕ
+  part = take (getD ss (k + 1) 0 - getD ss k 0) (drop (getD ss k 0) ns)
+
+  pub sought-found : {name : List ℕ} → sameName part name ≡ true → Sought name k → lettered (getD ks k 0) ≡ kindOf name
+  unfolding kindIn
+  sought-found {name} e s =
+      let same : sameName (getD entries k none .name) name ≡ true = rw (r .name) at e in
+      sym (s .left ∙ rw (drop-cons entries k none (rw count h), same, r .kind))
+
+  pub sought-next : {name : List ℕ} → sameName part name ≡ false → Sought name k → Sought name (k + 1)
+  unfolding kindIn
+  sought-next {name} e s =
+      let same : sameName (getD entries k none .name) name ≡ false = rw (r .name) at e in
+      record { left = s .left ∙ rw (add-one, drop-cons entries k none (rw count h), same) }
+
+-- ---- names compared byte by byte
+
+pub other-length : (xs ys : List ℕ) → (length xs ≡ length ys → ⊥) → sameName xs ys ≡ false
+unfolding sameName
+other-length [] [] h = absurd (h refl)
+other-length [] (y ∷ ys) h = refl
+other-length (x ∷ xs) [] h = refl
+other-length (x ∷ xs) (y ∷ ys) h = rw (other-length xs ys (λ e. h (ap suc e)), and-false)
+
+module _ (xs ys : List ℕ) (i : ℕ) where
+  pub other-byte : i < length xs → i < length ys → (lower (getD xs i 0) ≡ lower (getD ys i 0) → ⊥) → sameName (drop i xs) (drop i ys) ≡ false
+  unfolding sameName
+  other-byte h k e = rw (drop-cons xs i 0 h, drop-cons ys i 0 k, ne-eqb _ _ e)
+
+  pub same-byte : i < length xs → i < length ys → lower (getD xs i 0) ≡ lower (getD ys i 0) → sameName (drop i xs) (drop i ys) ≡ sameName (drop (i + 1) xs) (drop (i + 1) ys)
+  unfolding sameName
+  same-byte h k e = rw (add-one, drop-cons xs i 0 h, drop-cons ys i 0 k, eq-eqb _ _ e)
+
+  pub same-end : length xs ≤ i → length ys ≤ i → sameName (drop i xs) (drop i ys) ≡ true
+  unfolding sameName
+  same-end h k = rw (drop-of-length-le xs {i = i} h, drop-of-length-le ys {i = i} k)
