@@ -12,6 +12,5 @@ pub mod Demand3Laws
 pub mod Stream
 pub mod StreamLaws
 pub mod ReadingCases
-pub mod Cases
 pub mod Segments
 pub mod SegmentsLaws

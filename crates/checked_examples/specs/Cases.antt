@@ -1,14 +1,22 @@
--- The paper's checked examples on words, as one table under one theorem. Assumes nothing.
+-- The checked examples that the paper marks P, as one table under one theorem about the definitions. Assumes nothing.
 use mathlib.Core.Path.{_≡_, refl}
+use mathlib.Core.Bool.{Bool, true, false, cond, not, _&&_, _||_}
 use mathlib.Core.List.{List, [], _∷_, _++_, map}
+use mathlib.Core.Option.{Option, none, some}
 use Prim.Native.Nat.{ℕ}
 use lib.Count.{leadingZeros}
 use lib.ListN.{length, replicate}
 use Rattle.utf8.specs.Lists.{joined}
-use Rattle.utf8.specs.Utf8.{leadingOnes, charLen, charsAfter, chars}
+use Rattle.utf8.specs.Run.{run}
+use Rattle.utf8.specs.Utf8.{leadingOnes, charLen, secondLow, secondHigh, isChar, charsAfter, chars, utf8}
+use Rattle.letter_case.specs.LetterCase.{bytes, lower, sameAnyCase}
 use Rattle.encoded_word.specs.Cut.{cut}
 use Rattle.encoded_word.specs.Spelling.{bare, hexDigit, spellByte, spell}
 use Rattle.encoded_word.specs.Row.{runs, word, lines, rowIn, row}
+use Rattle.envelope.specs.Envelope.{checked, numberOf, placeOf}
+use Rattle.header.specs.Lines.{linesOf}
+use Rattle.header.specs.declared.Lines.{Lines}
+use Rattle.header.specs.declared.Lines.the-variants.{WellFormed, Malformed}
 
 -- a case and its answer
 pub data Case : Type 0 where
@@ -16,15 +24,28 @@ pub data Case : Type 0 where
   cutsTo : List ℕ → List (ℕ × ℕ) → Case
   -- a text and its row
   hasRow : List ℕ → List ℕ → Case
+  -- an envelope, its number and its place
+  answers : List ℕ → ℕ → ℕ → Case
+  -- a header without a malformed line, and one whose line at this number is the first malformed one
+  taken : List ℕ → Case
+  refused : List ℕ → ℕ → Case
 
 -- how many characters each word of a text's row holds, and its length between opening and closing
 abbrev pub wordSizes : List ℕ → List (ℕ × ℕ)
 wordSizes text = map (λ (run : List (List ℕ)). (length run, length (spell (joined run)))) (runs 63 (chars text))
 
+-- the first malformed line of a header
+abbrev pub malformedLine : Lines → Option ℕ
+malformedLine WellFormed = none
+malformedLine (Malformed line at) = some line
+
 -- what a case says
 abbrev pub Right : Case → Type 0
 Right (cutsTo text sizes) = wordSizes text ≡ sizes
 Right (hasRow text bytes) = row text ≡ bytes
+Right (answers envelope number place) = (numberOf (checked envelope) ≡ number) × (placeOf (checked envelope) ≡ place)
+Right (taken header) = malformedLine (linesOf header) ≡ none
+Right (refused header line) = malformedLine (linesOf header) ≡ some line
 
 -- each of these cases is right
 abbrev pub AllRight : List Case → Type 0
@@ -61,22 +82,46 @@ oldNewRow =
 abbrev éRow : List ℕ
 éRow = 13 ∷ 10 ∷ 32 ∷ 61 ∷ 63 ∷ 85 ∷ 84 ∷ 70 ∷ 45 ∷ 56 ∷ 63 ∷ 81 ∷ 63 ∷ 61 ∷ 67 ∷ 51 ∷ 61 ∷ 65 ∷ 57 ∷ 63 ∷ 61 ∷ []
 
--- the cases marked P on words, and the rows of the whole case
+-- CRLF
+abbrev crlf : List ℕ
+crlf = 13 ∷ 10 ∷ []
+
+-- an envelope of one MAIL line, with this path and tail, and one RCPT line
+abbrev mailed : List ℕ → List ℕ → List ℕ
+mailed path tail = bytes "MAIL FROM:<" ++ (path ++ (62 ∷ (tail ++ (crlf ++ (bytes "RCPT TO:<b@example.net>" ++ crlf)))))
+
+-- a header of one field with a name of so many bytes
+abbrev named : ℕ → List ℕ
+named n = replicate n 97 ++ (58 ∷ crlf)
+
+-- the cases marked P, and the rows of the whole case
 abbrev pub cases : List Case
 cases =
     -- "ten `é` then `abc`: 63 characters, one word."
-    Case.cutsTo (times 10 é ++ (97 ∷ 98 ∷ 99 ∷ [])) ((13, 63) ∷ [])
+    Case.cutsTo (times 10 é ++ bytes "abc") ((13, 63) ∷ [])
     -- "eleven `é`: two words."
     ∷ Case.cutsTo (times 11 é) ((10, 60) ∷ (1, 6) ∷ [])
     -- "`abcd` then ten `é`: the second word holds one `é`."
-    ∷ Case.cutsTo ((97 ∷ 98 ∷ 99 ∷ 100 ∷ []) ++ times 10 é) ((13, 58) ∷ (1, 6) ∷ [])
+    ∷ Case.cutsTo (bytes "abcd" ++ times 10 é) ((13, 58) ∷ (1, 6) ∷ [])
     -- "six four-byte characters: five, then one."
     ∷ Case.cutsTo (times 6 four) ((5, 60) ∷ (1, 12) ∷ [])
     -- the rows of Downgraded-Mail-From and Subject in the whole case
     ∷ Case.hasRow oldNew oldNewRow
     ∷ Case.hasRow é éRow
+    -- "ALT-ADDRESS `a+0D+0Ab@x`: 4."
+    ∷ Case.answers (mailed (é ++ bytes "@x") (bytes " ALT-ADDRESS=a+0D+0Ab@x")) 4 0
+    -- "`+2b`: 4."
+    ∷ Case.answers (mailed (é ++ bytes "@x") (bytes " ALT-ADDRESS=+2b")) 4 0
+    -- "ALT-ADDRESS beside an ASCII path: 4."
+    ∷ Case.answers (mailed (bytes "a@x") (bytes " ALT-ADDRESS=b@x")) 4 0
+    -- "non-ASCII path alone: 3."
+    ∷ Case.answers (mailed (é ++ bytes "@x") []) 3 0
+    -- "empty envelope: 2 at 0."
+    ∷ Case.answers [] 2 0
+    -- "MAIL with no RCPT: 2 at 1."
+    ∷ Case.answers (bytes "MAIL FROM:<a@x>" ++ crlf) 2 1
+    -- "name of 76 bytes taken; 77 is 5."
+    ∷ Case.taken (named 76)
+    ∷ Case.refused (named 77) 0
     ∷ []
 
-pub cases-right : AllRight cases
-unfolding rowIn runs cut lines word spell spellByte bare hexDigit chars charsAfter charLen leadingOnes leadingZeros
-cases-right = (refl, (refl, (refl, (refl, (refl, (refl, tt))))))
