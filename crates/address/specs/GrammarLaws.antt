@@ -37,7 +37,7 @@ unfolding later
 moved k (To m) n e = record { m = m; is = refl; size = cc }
 moved k (Stop m) n e = absurd (no-to e)
 
-take-one-more : (b : ℕ) (s : List ℕ) (n m : ℕ) → n ≡ 1 + m → take n (b ∷ s) ≡ b ∷ take m s
+pub take-one-more : (b : ℕ) (s : List ℕ) (n m : ℕ) → n ≡ 1 + m → take n (b ∷ s) ≡ b ∷ take m s
 take-one-more b s n m e = let k : n ≡ suc m = omega (arith, e) in rw k
 
 later-more : (k m n : ℕ) → n ≡ k + m → later k (To m) ≡ To n
@@ -52,11 +52,11 @@ unfolding isAtomByte isAtext
 atom-byte b t = (ne-eqb b 46 (λ e. rw e at t), ne-eqb b 34 (λ e. rw e at t), ne-eqb b 91 (λ e. rw e at t))
 
 -- what is due after an atom, or where one is due
-abbrev After : Bool → List ℕ → Type 0
+abbrev pub After : Bool → List ℕ → Type 0
 After true t = DotAtom t
 After false t = (a : List ℕ) → Atom a → DotAtom (a ++ t)
 
-atom-one : (b : ℕ) → T (isAtomByte b) → Atom (b ∷ [])
+pub atom-one : (b : ℕ) → T (isAtomByte b) → Atom (b ∷ [])
 atom-one b t = record { some = tt; bytes = rw (yes-true (isAtomByte b) t) tt }
 
 atom-snoc : (a : List ℕ) (b : ℕ) → Atom a → T (isAtomByte b) → Atom (a ++ (b ∷ []))
@@ -66,7 +66,7 @@ atom-snoc a b h t = record { some = go a (h .some); bytes = all-append isAtomByt
     go [] h = absurd h
     go (x ∷ a) h = tt
 
-atom-step : (due : Bool) (b : ℕ) (t : List ℕ) → T (isAtomByte b || (eqb b 46 && not due)) → After (eqb b 46 && not due) t → After due (b ∷ t)
+pub atom-step : (due : Bool) (b : ℕ) (t : List ℕ) → T (isAtomByte b || (eqb b 46 && not due)) → After (eqb b 46 && not due) t → After due (b ∷ t)
 atom-step true b t h rest =
     let atom : T (isAtomByte b) = rw (and-false (eqb b 46), or-false (isAtomByte b)) at h in
     let more : After false t = rw (and-false (eqb b 46)) at rest in
@@ -138,12 +138,12 @@ dot-atom-complete (DotAtom.then {a} {more} h d) rest c =
 -- ---- quoted string
 
 -- what a string holds from a place on, with the backslash before it where its first byte is escaped
-record Inside (escaped : Bool) (t : List ℕ) : Type 0 where
-  text : List ℕ
-  content : Content (cond escaped (92 ∷ text) text)
-  is : t ≡ text ++ (34 ∷ [])
+pub record Inside (escaped : Bool) (t : List ℕ) : Type 0 where
+  pub text : List ℕ
+  pub content : Content (cond escaped (92 ∷ text) text)
+  pub is : t ≡ text ++ (34 ∷ [])
 
-inside-plain : (b : ℕ) (t : List ℕ) → T (isQuotedByte b) → (b ≡ 34 → ⊥) → Inside (eqb b 92) t → Inside false (b ∷ t)
+pub inside-plain : (b : ℕ) (t : List ℕ) → T (isQuotedByte b) → (b ≡ 34 → ⊥) → Inside (eqb b 92) t → Inside false (b ∷ t)
 inside-plain b t q n i =
     by-test (eqb b 92)
     (λ u.
@@ -152,6 +152,9 @@ inside-plain b t q n i =
     (λ u.
     let content : Content (i .text) = rw (no-false (eqb b 92) u) at (i .content) in
     record { text = b ∷ i .text; content = Content.plain q n (eqb-no {a = b} {b = 92} u) content; is = ap (λ (l : List ℕ). b ∷ l) (i .is) })
+
+pub inside-escaped : (b : ℕ) (t : List ℕ) → T (within 32 126 b) → Inside false t → Inside true (b ∷ t)
+inside-escaped b t q i = record { text = b ∷ i .text; content = Content.escaped q (i .content); is = ap (λ (l : List ℕ). b ∷ l) (i .is) }
 
 quoted-sound : (escaped : Bool) (s : List ℕ) (n : ℕ) → quotedFrom escaped s ≡ To n → Inside escaped (take n s)
 unfolding quotedFrom
@@ -162,9 +165,7 @@ quoted-sound true (b ∷ s) n e =
     cond-has (λ r. r ≡ To n → Inside true (take n (b ∷ s))) (within 32 126 b) (later 1 (quotedFrom false s)) (Stop 0)
     (λ t k.
     let i = moved 1 (quotedFrom false s) n k in
-    let rest = more (i .m) (i .is) in
-    rw (take-one-more b s n (i .m) (i .size))
-    (record { text = b ∷ rest .text; content = Content.escaped t (rest .content); is = ap (λ (l : List ℕ). b ∷ l) (rest .is) }))
+    rw (take-one-more b s n (i .m) (i .size)) (inside-escaped b (take (i .m) s) t (more (i .m) (i .is))))
     (λ t k. absurd (no-to k))
     e
 quoted-sound false (b ∷ s) n e =
@@ -224,10 +225,10 @@ quoted-string-sound s n e =
 
 -- ---- domain
 
-record Closing (t : List ℕ) : Type 0 where
-  text : List ℕ
-  bytes : T (all isLiteralByte text)
-  is : t ≡ text ++ (93 ∷ [])
+pub record Closing (t : List ℕ) : Type 0 where
+  pub text : List ℕ
+  pub bytes : T (all isLiteralByte text)
+  pub is : t ≡ text ++ (93 ∷ [])
 
 literal-from-sound : (s : List ℕ) (n : ℕ) → literalFrom s ≡ To n → Closing (take n s)
 unfolding literalFrom
@@ -280,7 +281,7 @@ domain-complete (Domain.literal text h) rest c =
 
 -- ---- address
 
-local-sound : (s : List ℕ) (n : ℕ) → localScan s ≡ To n → LocalPart (take n s)
+pub local-sound : (s : List ℕ) (n : ℕ) → localScan s ≡ To n → LocalPart (take n s)
 unfolding localScan dotAtomScan
 local-sound s n e =
     cond-has (λ r. r ≡ To n → LocalPart (take n s)) (eqb (getD s 0 0) 34) (quotedScan s) (dotAtomScan s)
@@ -329,7 +330,7 @@ address-complete (Address.address {local} {domain} l d) rest c =
 
 -- ---- a whole text
 
-nothing-closed : Closed []
+pub nothing-closed : Closed []
 unfolding isAtomByte isAtext
 nothing-closed = record { atom = refl; dot = refl }
 
