@@ -3,8 +3,7 @@ use mathlib.Core.Path.{_≡_, refl, sym, ap, _∙_}
 use mathlib.Core.Bool.{Bool, true, false, not, cond, _&&_, _||_}
 use mathlib.Core.List.{List, [], _∷_, _++_, append-nil, append-assoc}
 use Prim.Native.Nat.{ℕ, zero, suc, _+_, _-_, _≤_, _<_}
-use native.Mathlib.Nat.{not-suc-le-zero, le-of-suc-le-suc}
-use native.Mathlib.Numerals.{add-one}
+use native.Mathlib.Nat.{le-of-suc-le-suc}
 use native.Mathlib.Omega.{arith}
 use lib.Dec.{T, eqb, eqb→eq}
 use lib.ListN.{length, take, drop, getD, length-drop, length-append}
@@ -221,6 +220,7 @@ begun-byte-then b next N f s =
   where
     none : Starts (ByteAnd b N) []
     none = let first = f [] in record { rest = b ∷ (take (reach (next [])) [] ++ first .rest); is = record { after = take (reach (next [])) [] ++ first .rest; text = refl; is = first .is } }
+
     go : (s : List ℕ) → T (eqb (getD s 0 0) b) → Starts (ByteAnd b N) (take (reach (later 1 (next (drop 1 s)))) s)
     go [] t = rw (take-nil (reach (later 1 (next [])))) none
     go (x ∷ s) t = let more = f s in starts-more x s (next s) (more .rest) (record { after = take (reach (next s)) s ++ more .rest; text = rw (eqb→eq x b t); is = more .is })

@@ -216,12 +216,18 @@ open-complete : (b : ℕ) (next : List ℕ → Scan) (s : List ℕ) (m n : ℕ) 
 unfolding byteThen
 open-complete b next s m n e k = rw (eq-eqb b b refl, e) (later-more 1 m n k)
 
-quoted-string-sound : (s : List ℕ) (n : ℕ) → quotedScan s ≡ To n → QuotedString (take n s)
+pub quoted-string-sound : (s : List ℕ) (n : ℕ) → quotedScan s ≡ To n → QuotedString (take n s)
 unfolding quotedScan
 quoted-string-sound s n e =
     let o = opened 33 (quotedFrom false) s n e in
     let i = quoted-sound false (o .rest) (o .m) (o .is) in
     rw (o .text, take-one-more 34 (o .rest) n (o .m) (o .size), i .is) (QuotedString.quoted (i .content))
+
+pub quoted-string-complete : {q : List ℕ} → QuotedString q → (rest : List ℕ) → quotedScan (q ++ rest) ≡ To (length q)
+unfolding quotedScan
+quoted-string-complete (QuotedString.quoted {text} q) rest =
+    rw (append-snoc text 34 rest)
+    (open-complete 34 (quotedFrom false) (text ++ (34 ∷ rest)) (length text + 1) (length (34 ∷ (text ++ (34 ∷ [])))) (quoted-complete q rest) (omega (arith, length-append text (34 ∷ []))))
 
 -- ---- domain
 
@@ -289,17 +295,10 @@ local-sound s n e =
     (λ t k. LocalPart.atoms (dot-atom-sound true s n k))
     e
 
--- the choice between the two is by the first byte
-quoted-string-complete : {q : List ℕ} → QuotedString q → (rest : List ℕ) → localScan (q ++ rest) ≡ To (length q)
-unfolding localScan quotedScan
-quoted-string-complete (QuotedString.quoted {text} q) rest =
-    rw (append-snoc text 34 rest)
-    (open-complete 34 (quotedFrom false) (text ++ (34 ∷ rest)) (length text + 1) (length (34 ∷ (text ++ (34 ∷ [])))) (quoted-complete q rest) (omega (arith, length-append text (34 ∷ []))))
-
 local-complete : {l : List ℕ} → LocalPart l → (rest : List ℕ) → Closed rest → localScan (l ++ rest) ≡ To (length l)
 unfolding localScan dotAtomScan
 local-complete (LocalPart.atoms {text} a) rest c = rw (atom-byte (getD (text ++ rest) 0 0) (dot-atom-first a rest) .1) (dot-atom-complete a rest c)
-local-complete (LocalPart.string q) rest c = quoted-string-complete q rest
+local-complete (LocalPart.string (QuotedString.quoted {text} q)) rest c = quoted-string-complete (QuotedString.quoted q) rest
 
 pub address-sound : (s : List ℕ) (n : ℕ) → addressScan s ≡ To n → Address (take n s)
 unfolding addressScan scanThen
