@@ -5,17 +5,19 @@ use mathlib.Core.Bool.{Bool, true, false, not, _&&_, and-false}
 use mathlib.Core.List.{List, [], _∷_, _++_}
 use Prim.Native.Nat.{ℕ, zero, suc, pred, _+_, _*_, _-_, _≤_, _<_}
 use native.Mathlib.Omega.{arith}
-use lib.Dec.{T, eqb, ltb}
+use lib.Dec.{T, eqb, ltb, leb}
+use mathlib.Core.Option.{none, some}
+use Rattle.address.specs.TakenLaws.{ascii-address-bytes}
 use lib.ListN.{length, take, drop, getD, length-drop, drop-of-length-le, List·getD-eq-default}
 use lib.Seq.{drop-drop, getD-drop}
 use mir.Facts.{and-yes}
-use Rattle.utf8.specs.Lists.{by-test, cond-yes, cond-no, cond-has, yes-true, no-false, true-yes}
+use Rattle.utf8.specs.Lists.{by-test, cond-yes, cond-no, cond-has, yes-true, no-false, true-yes, all}
 use Rattle.utf8.specs.Byte.{within, within-low, within-high}
 use Rattle.buffer.specs.Buffer.{Wrote, Added, Reached, greatest}
 use Rattle.buffer.specs.BufferLaws.{reached-start, reached-then, reached-end, reached-within, length-reached, appended-of, wrote-from, overlay-front}
 use Rattle.address.specs.Address.{isAsciiAddress}
 use Rattle.address.specs.AddressLaws.{first}
-use Rattle.address.specs.Xtext.{isXchar, isHexDigit, hexValue, isHexchar, unitLen, unitByte, Decoding, byteBefore, decodingAfter, decoding, isXtext, decoded, isAltAddress}
+use Rattle.address.specs.Xtext.{isXchar, isHexDigit, hexValue, isHexchar, unitLen, unitByte, Decoding, byteBefore, decodingAfter, decoding, isXtext, decoded, isAltAddress, altAddress}
 
 -- ---- a unit: an xchar or a hexchar
 
@@ -208,3 +210,14 @@ module _ (value : List ℕ) where
       let fits : length (decoded value) ≤ length before = omega (arith, decoded-le value) in
       let held : take n after ≡ decoded value = rw (w .size, w .bytes) (overlay-front (decoded value) before fits) in
       rw (le-leb (length value) 998 h, ← e, held)
+
+-- the decoded bytes of an ALT-ADDRESS are an ASCII address; each is 32 to 126, so that no line break enters with them
+pub alt-address : (value : List ℕ) → T (isAltAddress value) → T (isAsciiAddress (decoded value)) × T (all (within 32 126) (decoded value))
+unfolding isAltAddress
+alt-address value h =
+    let address = and-yes (leb (length value) 998 && isXtext value) (isAsciiAddress (decoded value)) h .1 in
+    (address, ascii-address-bytes (decoded value) address)
+
+pub alt-some : (value : List ℕ) → T (isAltAddress value) → altAddress value ≡ some (decoded value)
+unfolding altAddress
+alt-some value h = cond-yes (isAltAddress value) (some (decoded value)) none h
