@@ -17,7 +17,7 @@ use Rattle.utf8.specs.Run.{run, run-all, run-past}
 use Rattle.address.specs.declared.Scan.{Scan}
 use Rattle.address.specs.declared.Scan.the-variants.{To, Stop}
 use Rattle.address.specs.Address.{later, byteThen, scanThen, isAtext, isAtomByte, isQuotedByte, isLiteralByte, isHigh, dotAtomEnd, dotAtomFrom, dotAtomScan, quotedFrom, quotedScan, literalFrom, literalScan, domainScan, localScan, addressScan, takesAll, isAddress}
-use Rattle.address.specs.AddressLaws.{later-later, later-to, inside}
+use Rattle.address.specs.AddressLaws.{later-later, later-to, byte-within}
 use Rattle.address.specs.TakenLaws.{Taken, taken-quoted, taken-literal, utf8-front, utf8-through}
 use Rattle.address.specs.Grammar.{Atom, DotAtom, Content, QuotedString, LocalPart, Domain, Address}
 
@@ -244,7 +244,7 @@ literal-from-sound s n e =
     (λ t q.
     let last : getD s k 0 ≡ 93 = eqb→eq (getD s k 0) 93 t in
     let size : n ≡ suc k = (let z : n ≡ k + 1 = cc in omega arith) in
-    record { text = take k s; bytes = run-all isLiteralByte s; is = rw (size, take-suc s k 0 (inside s k 92 last), last) })
+    record { text = take k s; bytes = run-all isLiteralByte s; is = rw (size, take-suc s k 0 (byte-within s k 92 last), last) })
     (λ t q. absurd (no-to q))
     e
 

@@ -16,7 +16,7 @@ use Rattle.utf8.specs.Byte.{within, within-low, within-high}
 use Rattle.buffer.specs.Buffer.{Wrote, Added, Reached, greatest}
 use Rattle.buffer.specs.BufferLaws.{reached-start, reached-then, reached-end, reached-within, length-reached, appended-of, wrote-from, overlay-front}
 use Rattle.address.specs.Address.{isAsciiAddress}
-use Rattle.address.specs.AddressLaws.{first}
+use Rattle.address.specs.AddressLaws.{front-byte}
 use Rattle.address.specs.Xtext.{isXchar, isHexDigit, hexValue, isHexchar, unitLen, unitByte, Decoding, byteBefore, decodingAfter, decoding, isXtext, decoded, isAltAddress, altAddress}
 
 -- ---- a unit: an xchar or a hexchar
@@ -52,17 +52,17 @@ pub record UnitAt (s : List ℕ) (i n b : ℕ) : Type 0 where
 -- a hexchar by position
 hexchar-at : (s : List ℕ) (i : ℕ) → isHexchar (drop i s) ≡ eqb (getD s i 0) 43 && isHexDigit (getD s (i + 1) 0) && isHexDigit (getD s (i + 2) 0)
 unfolding isHexchar
-hexchar-at s i = rw (first s i, getD-drop i s 1 0, getD-drop i s 2 0)
+hexchar-at s i = rw (front-byte s i, getD-drop i s 1 0, getD-drop i s 2 0)
 
 -- `x` is the test of the byte at i, and `high` and `low` those of the two bytes after it, as code makes them
 module _ (s : List ℕ) (i : ℕ) (h : i < length s) (x : Bool) (e : x ≡ isXchar (getD s i 0)) where
   pub unit-bare : x ≡ true → UnitAt s i 1 (getD s i 0)
   unfolding unitLen unitByte
-  unit-bare t = record { size = rw (first s i, ← e, t); byte = rw (first s i, ← e, t); fits = omega arith }
+  unit-bare t = record { size = rw (front-byte s i, ← e, t); byte = rw (front-byte s i, ← e, t); fits = omega arith }
 
   unit-none : x ≡ false → isHexchar (drop i s) ≡ false → UnitAt s i 0 0
   unfolding unitLen unitByte
-  unit-none n t = record { size = rw (first s i, ← e, n, t); byte = rw (first s i, ← e, n, t); fits = omega arith }
+  unit-none n t = record { size = rw (front-byte s i, ← e, n, t); byte = rw (front-byte s i, ← e, n, t); fits = omega arith }
 
   -- a third byte is missing
   pub unit-short : x ≡ false → length s - i < 3 → UnitAt s i 0 0
@@ -81,8 +81,8 @@ module _ (s : List ℕ) (i : ℕ) (h : i < length s) (x : Bool) (e : x ≡ isXch
     unit-hex t k a b p q =
         let hex : isHexchar (drop i s) ≡ true = rw (hexchar-at s i, ← u, ← v) t in
         record {
-          size = rw (first s i, ← e, n, hex);
-          byte = rw (first s i, ← e, n, hex, getD-drop i s 1 0, getD-drop i s 2 0, p, q);
+          size = rw (front-byte s i, ← e, n, hex);
+          byte = rw (front-byte s i, ← e, n, hex, getD-drop i s 1 0, getD-drop i s 2 0, p, q);
           fits = omega arith;
         }
 
