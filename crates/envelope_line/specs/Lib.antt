@@ -1,3 +1,4 @@
 pub mod EnvelopeLine
+pub mod PathLaws
 pub mod ParameterLaws
 pub mod FaultLaws

@@ -6,9 +6,10 @@ use Prim.Native.Nat.{ℕ, zero, suc, _+_, _-_, _≤_, _<_}
 use native.Mathlib.Nat.{add-zero, not-suc-le-zero}
 use native.Mathlib.Numerals.{add-one}
 use native.Mathlib.Omega.{arith}
-use lib.Dec.{T, eqb}
+use lib.Dec.{T, eqb, ltb}
 use lib.ListN.{length, take, drop, getD, length-drop, drop-of-length-le}
-use lib.Seq.{drop-cons, drop-drop, length-take-le}
+use lib.Seq.{drop-cons, drop-drop, length-take-le, take-nil}
+use borrow.Author.Tests.{lt-ltb, le-ltb}
 use Rattle.utf8.specs.Lists.{all}
 use Rattle.utf8.specs.Run.{run, run-le}
 use Rattle.envelope_line.specs.EnvelopeLine.{notSpace, paramsAfter, params, spaced, isAlt, alts, alt, altPlace}
@@ -17,23 +18,132 @@ use Rattle.envelope_line.specs.EnvelopeLine.{notSpace, paramsAfter, para
 
 params-after : (k : ℕ) (s : List ℕ) → paramsAfter k s ≡ params (drop k s)
 unfolding paramsAfter params
-params-after zero s = refl
+params-after zero [] = refl
+params-after zero (b ∷ s) = refl
 params-after (suc k) [] = refl
 params-after (suc k) (b ∷ s) = params-after k s
 
--- the parameter after a space at i
+-- where the parameter after a space at i ends; the parameter
+unfoldable pub paramEnd : List ℕ → ℕ → ℕ
+paramEnd s i = i + 1 + run notSpace (drop (i + 1) s)
+
 unfoldable pub paramAt : List ℕ → ℕ → List ℕ
 paramAt s i = take (run notSpace (drop (i + 1) s)) (drop (i + 1) s)
 
 module _ (s : List ℕ) (i : ℕ) where
-  -- the place after it
-  pub nextParam : ℕ
-  nextParam = i + 1 + run notSpace (drop (i + 1) s)
-
-  pub params-at : i < length s → (e : ℕ) → e ≡ i + 1 + run notSpace (drop (i + 1) s) → params (drop i s) ≡ paramAt s i ∷ params (drop e s)
-  unfolding params paramsAfter paramAt
-  params-at h e k = rw (add-one, drop-cons s i 0 h) ?
+  pub params-at : i < length s → params (drop i s) ≡ paramAt s i ∷ params (drop (paramEnd s i) s)
+  unfolding params paramsAfter paramAt paramEnd
+  params-at h =
+      let n = run notSpace (drop (suc i) s) in
+      rw (add-one, drop-cons s i 0 h, params-after n (drop (suc i) s), drop-drop)
 
   pub params-end : length s ≤ i → params (drop i s) ≡ []
   unfolding params paramsAfter
   params-end h = rw (drop-of-length-le s {i = i} h)
+
+  -- the parameter as code lends it
+  pub param-part : (e : ℕ) → e ≡ i + 1 + run notSpace (drop (i + 1) s) → take (e - (i + 1)) (drop (i + 1) s) ≡ paramAt s i
+  unfolding paramAt
+  param-part e k = let m : e - (i + 1) ≡ run notSpace (drop (i + 1) s) = omega arith in rw m
+
+  length-param : length (paramAt s i) ≡ run notSpace (drop (i + 1) s)
+  unfolding paramAt
+  length-param = length-take-le (run notSpace (drop (i + 1) s)) (drop (i + 1) s) (run-le notSpace (drop (i + 1) s))
+
+  -- ---- a test of every parameter; `e` is where the parameter ends
+
+  module _ (f : List ℕ → Bool) where
+    pub each-step : i < length s → f (paramAt s i) ≡ true → all f (params (drop i s)) ≡ all f (params (drop (paramEnd s i) s))
+    each-step h t = rw (params-at h, t)
+
+    pub each-stop : i < length s → f (paramAt s i) ≡ false → all f (params (drop i s)) ≡ false
+    each-stop h t = rw (params-at h, t)
+
+    pub each-end : length s ≤ i → all f (params (drop i s)) ≡ true
+    each-end h = rw (params-end h)
+
+  -- ---- ALT-ADDRESS
+
+  pub alts-step : i < length s → isAlt (paramAt s i) ≡ false → alts (params (drop i s)) ≡ alts (params (drop (paramEnd s i) s))
+  unfolding alts
+  alts-step h t = rw (params-at h, t)
+
+  pub alts-here : i < length s → isAlt (paramAt s i) ≡ true → alts (params (drop i s)) ≡ paramAt s i ∷ alts (params (drop (paramEnd s i) s))
+  unfolding alts
+  alts-here h t = rw (params-at h, t)
+
+  pub alts-end : length s ≤ i → alts (params (drop i s)) ≡ []
+  unfolding alts
+  alts-end h = rw (params-end h)
+
+  pub place-step : i < length s → isAlt (paramAt s i) ≡ false → i + altPlace (params (drop i s)) ≡ paramEnd s i + altPlace (params (drop (paramEnd s i) s))
+  unfolding altPlace paramEnd
+  place-step h t = rw (params-at h, t, length-param) (omega arith)
+
+  pub place-here : i < length s → isAlt (paramAt s i) ≡ true → i + altPlace (params (drop i s)) ≡ i
+  unfolding altPlace
+  place-here h t = rw (params-at h, t) (omega arith)
+
+  pub place-end : length s ≤ i → i + altPlace (params (drop i s)) ≡ i
+  unfolding altPlace
+  place-end h = rw (params-end h) (omega arith)
+
+-- The place r of the first ALT-ADDRESS parameter's space from `at` on; where there is none, r lies at the end or past it.
+pub record AltFrom (s : List ℕ) (at r : ℕ) : Type 0 where
+  pub place : at + altPlace (params (drop at s)) ≡ r
+  pub same : alts (params (drop at s)) ≡ alts (params (drop r s))
+  pub here : r < length s → isAlt (paramAt s r) ≡ true
+
+-- how far a search for it from `at` has come
+pub record AltSought (s : List ℕ) (at i : ℕ) : Type 0 where
+  pub place : at + altPlace (params (drop at s)) ≡ i + altPlace (params (drop i s))
+  pub same : alts (params (drop at s)) ≡ alts (params (drop i s))
+
+module _ {s : List ℕ} {at i : ℕ} where
+  pub sought-step : (e : ℕ) → AltSought s at i → e ≡ i + 1 + run notSpace (drop (i + 1) s) → i < length s → isAlt (paramAt s i) ≡ false → AltSought s at e
+  unfolding paramEnd
+  sought-step e k d h t = rw d (record { place = k .place ∙ place-step s i h t; same = k .same ∙ alts-step s i h t })
+
+  pub sought-here : AltSought s at i → i < length s → isAlt (paramAt s i) ≡ true → AltFrom s at i
+  sought-here k h t = record { place = k .place ∙ place-here s i h t; same = k .same; here = λ _. t }
+
+  pub sought-end : AltSought s at i → length s ≤ i → AltFrom s at i
+  sought-end k h = record { place = k .place ∙ place-end s i h; same = k .same; here = λ l. absurd (omega arith) }
+
+module _ {s : List ℕ} {at r : ℕ} (k : AltFrom s at r) where
+  pub no-alts : length s ≤ r → alts (params (drop at s)) ≡ []
+  no-alts h = k .same ∙ alts-end s r h
+
+  pub first-alt : r < length s → alts (params (drop at s)) ≡ paramAt s r ∷ alts (params (drop (paramEnd s r) s))
+  first-alt h = k .same ∙ alts-here s r h (k .here h)
+
+  pub no-alt : length s ≤ r → alt (params (drop at s)) ≡ []
+  unfolding alt
+  no-alt h = rw (no-alts h)
+
+  pub alt-there : r < length s → alt (params (drop at s)) ≡ paramAt s r
+  unfolding alt
+  alt-there h = rw (first-alt h)
+
+-- ---- spaces
+
+module _ (s : List ℕ) (i : ℕ) where
+  pub spaced-at : i < length s → eqb (getD s i 0) 32 ≡ spaced (drop i s)
+  unfolding spaced
+  spaced-at h = rw (drop-cons s i 0 h)
+
+  pub spaced-end : length s ≤ i → true ≡ spaced (drop i s)
+  unfolding spaced
+  spaced-end h = rw (drop-of-length-le s {i = i} h)
+
+-- ---- a test of every byte from a place on
+
+module _ (f : ℕ → Bool) (s : List ℕ) (i : ℕ) where
+  pub bytes-step : i < length s → f (getD s i 0) ≡ true → all f (drop i s) ≡ all f (drop (i + 1) s)
+  bytes-step h e = rw (add-one, drop-cons s i 0 h, e)
+
+  pub bytes-stop : i < length s → f (getD s i 0) ≡ false → all f (drop i s) ≡ false
+  bytes-stop h e = rw (drop-cons s i 0 h, e)
+
+  pub bytes-end : length s ≤ i → all f (drop i s) ≡ true
+  bytes-end h = rw (drop-of-length-le s {i = i} h)

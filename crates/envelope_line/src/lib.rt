@@ -1,10 +1,10 @@
 // One line of an envelope, without its CRLF.
-mod fault;
+mod faults;
 mod parameter;
 mod path;
 mod write;
 
-pub use fault::line_fault;
+pub use faults::line_fault;
 pub use parameter::orcpt_fault;
 pub use write::{add_line, add_replacement};
 

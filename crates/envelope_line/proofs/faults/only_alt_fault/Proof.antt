@@ -1,0 +1,54 @@
+use borrow.Author.Needs.{needs}
+use Rattle.envelope_line.proofs.faults.only_alt_fault.Statement.{statement}
+use Rattle.envelope_line.proofs.faults.only_alt_fault.Tie as tie
+use Rattle.envelope_line.proofs.faults.only_alt_fault.Reads as reads
+use Rattle.envelope_line.proofs.faults.only_alt_fault.Lts as lts
+use Rattle.address.proofs.xtext.is_alt_address.Reads as is-alt-address-reads
+use Rattle.envelope_line.proofs.parameter.keyword_len.Reads as keyword-len-reads
+use Rattle.envelope_line.proofs.parameter.value_start.Reads as value-start-reads
+use Rattle.line.proofs.part.Reads as part-reads
+
+-- src/faults.rt:16:19
+keyword-len-requires : tie.Need-keyword-len-requires
+keyword-len-requires c κs = search needs
+
+-- src/faults.rt:17:9
+returns : tie.Need-returns
+returns c = ?
+
+-- src/faults.rt:20:9
+returns-2 : tie.Need-returns-2
+returns-2 c = ?
+
+-- src/faults.rt:22:47
+value-start-requires : tie.Need-value-start-requires
+value-start-requires c κs = search needs
+
+-- src/faults.rt:22:39
+part-requires : tie.Need-part-requires
+part-requires c κs = search needs
+
+-- src/faults.rt:22:8
+is-alt-address-requires : tie.Need-is-alt-address-requires
+is-alt-address-requires c κs = search needs
+
+-- src/faults.rt:23:9
+returns-3 : tie.Need-returns-3
+returns-3 c = ?
+
+-- src/faults.rt:13:1
+returns-4 : tie.Need-returns-4
+returns-4 c = ?
+
+pub only-alt-fault-spec : {M : Type 1} → statement M
+only-alt-fault-spec =
+    tie.close
+    (tie.spec
+    keyword-len-requires
+    returns
+    returns-2
+    value-start-requires
+    part-requires
+    is-alt-address-requires
+    returns-3
+    returns-4)
