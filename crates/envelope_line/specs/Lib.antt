@@ -2,3 +2,4 @@ pub mod EnvelopeLine
 pub mod PathLaws
 pub mod ParameterLaws
 pub mod FaultLaws
+pub mod WriteLaws

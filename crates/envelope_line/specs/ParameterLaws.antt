@@ -2,17 +2,21 @@
 use mathlib.Core.Path.{_≡_, refl, ap, sym, _∙_}
 use mathlib.Core.Bool.{Bool, true, false, not, cond, _&&_}
 use mathlib.Core.List.{List, [], _∷_, _++_}
-use Prim.Native.Nat.{ℕ, zero, suc, _+_, _-_, _≤_, _<_}
+use Prim.Native.Nat.{ℕ, zero, suc, _+_, _-_, _≤_, _<_, min}
 use native.Mathlib.Nat.{add-zero, not-suc-le-zero}
 use native.Mathlib.Numerals.{add-one}
 use native.Mathlib.Omega.{arith}
 use lib.Dec.{T, eqb, ltb}
 use lib.ListN.{length, take, drop, getD, length-drop, drop-of-length-le}
 use lib.Seq.{drop-cons, drop-drop, length-take-le, take-nil}
-use borrow.Author.Tests.{lt-ltb, le-ltb}
-use Rattle.utf8.specs.Lists.{all}
+use borrow.Author.Tests.{lt-ltb, le-ltb, eq-eqb, ne-eqb}
+use Rattle.utf8.specs.Lists.{all, nonempty}
+use Rattle.utf8.specs.Byte.{isAscii}
+use Rattle.buffer.specs.Buffer.{greatest}
+use Rattle.letter_case.specs.LetterCase.{bytes, sameAnyCase}
+use Rattle.line.specs.LineLaws.{drop-capped, part-rest}
 use Rattle.utf8.specs.Run.{run, run-le}
-use Rattle.envelope_line.specs.EnvelopeLine.{notSpace, paramsAfter, params, spaced, isAlt, alts, alt, altPlace}
+use Rattle.envelope_line.specs.EnvelopeLine.{notSpace, paramsAfter, params, spaced, isKeywordByte, keywordLen, keyword, hasValue, value, isOrcpt, isAlt, isValueByte, isParam, alts, alt, altPlace, orcptClean}
 
 -- ---- one parameter after another
 
@@ -46,15 +50,16 @@ module _ (s : List ℕ) (i : ℕ) where
   unfolding paramAt
   param-part e k = let m : e - (i + 1) ≡ run notSpace (drop (i + 1) s) = omega arith in rw m
 
-  length-param : length (paramAt s i) ≡ run notSpace (drop (i + 1) s)
+  pub length-param : length (paramAt s i) ≡ run notSpace (drop (i + 1) s)
   unfolding paramAt
   length-param = length-take-le (run notSpace (drop (i + 1) s)) (drop (i + 1) s) (run-le notSpace (drop (i + 1) s))
 
-  -- ---- a test of every parameter; `e` is where the parameter ends
+  -- ---- a test of every parameter; the parameter at i ends at e
 
   module _ (f : List ℕ → Bool) where
-    pub each-step : i < length s → f (paramAt s i) ≡ true → all f (params (drop i s)) ≡ all f (params (drop (paramEnd s i) s))
-    each-step h t = rw (params-at h, t)
+    pub each-step : (e : ℕ) → e ≡ i + 1 + run notSpace (drop (i + 1) s) → i < length s → f (paramAt s i) ≡ true → all f (params (drop i s)) ≡ all f (params (drop e s))
+    unfolding paramEnd
+    each-step e d h t = rw (params-at h, t, d)
 
     pub each-stop : i < length s → f (paramAt s i) ≡ false → all f (params (drop i s)) ≡ false
     each-stop h t = rw (params-at h, t)
@@ -114,8 +119,9 @@ module _ {s : List ℕ} {at r : ℕ} (k : AltFrom s at r) where
   pub no-alts : length s ≤ r → alts (params (drop at s)) ≡ []
   no-alts h = k .same ∙ alts-end s r h
 
-  pub first-alt : r < length s → alts (params (drop at s)) ≡ paramAt s r ∷ alts (params (drop (paramEnd s r) s))
-  first-alt h = k .same ∙ alts-here s r h (k .here h)
+  pub first-alt : (e : ℕ) → e ≡ r + 1 + run notSpace (drop (r + 1) s) → r < length s → alts (params (drop at s)) ≡ paramAt s r ∷ alts (params (drop e s))
+  unfolding paramEnd
+  first-alt e d h = rw d (k .same ∙ alts-here s r h (k .here h))
 
   pub no-alt : length s ≤ r → alt (params (drop at s)) ≡ []
   unfolding alt
@@ -123,7 +129,7 @@ module _ {s : List ℕ} {at r : ℕ} (k : AltFrom s at r) where
 
   pub alt-there : r < length s → alt (params (drop at s)) ≡ paramAt s r
   unfolding alt
-  alt-there h = rw (first-alt h)
+  alt-there h = rw (first-alt (r + 1 + run notSpace (drop (r + 1) s)) refl h)
 
 -- ---- spaces
 
@@ -147,3 +153,85 @@ module _ (f : ℕ → Bool) (s : List ℕ) (i : ℕ) where
 
   pub bytes-end : length s ≤ i → all f (drop i s) ≡ true
   bytes-end h = rw (drop-of-length-le s {i = i} h)
+
+-- ---- keyword and value of a parameter
+
+pub orcpt-named : (p : List ℕ) {front : List ℕ} {k : ℕ} {r : Bool} → k ≡ keywordLen p → front ≡ take (k - 0) p → r ≡ sameAnyCase (bytes "ORCPT") front → r ≡ isOrcpt p
+unfolding isOrcpt keyword
+orcpt-named p {front} {k} e f q = let z : k - 0 ≡ keywordLen p = omega arith in q ∙ rw (f, z)
+
+pub alt-named : (p : List ℕ) {front : List ℕ} {k : ℕ} {r : Bool} → k ≡ keywordLen p → front ≡ take (k - 0) p → r ≡ sameAnyCase (bytes "ALT-ADDRESS") front → r ≡ isAlt p
+unfolding isAlt keyword
+alt-named p {front} {k} e f q = let z : k - 0 ≡ keywordLen p = omega arith in q ∙ rw (f, z)
+
+nonempty-take : (k : ℕ) (p : List ℕ) → (k ≡ 0 → ⊥) → k ≤ length p → nonempty (take k p) ≡ true
+nonempty-take zero p h l = absurd (h refl)
+nonempty-take (suc k) [] h l = absurd (not-suc-le-zero l)
+nonempty-take (suc k) (b ∷ p) h l = refl
+
+module _ (p : List ℕ) (k : ℕ) (e : k ≡ keywordLen p) where
+  pub keyword-le : k ≤ length p
+  unfolding keywordLen
+  keyword-le = rw e (run-le isKeywordByte p)
+
+  pub value-from : (r : ℕ) → r ≡ min (k + 1) greatest → length p ≤ greatest → drop r p ≡ value p
+  unfolding value
+  value-from r q h = drop-capped p (k + 1) r q h ∙ rw e
+
+  pub has-value : k < length p → hasValue p ≡ true
+  unfolding hasValue
+  has-value l = rw (← e) (lt-ltb k (length p) l)
+
+  pub has-none : length p ≤ k → hasValue p ≡ false
+  unfolding hasValue
+  has-none l = rw (← e) (le-ltb k (length p) l)
+
+  pub param-empty : k ≡ 0 → false ≡ isParam p
+  unfolding isParam keyword
+  param-empty z = rw (← e, z)
+
+  module _ (some : k ≡ 0 → ⊥) where
+    has-keyword : nonempty (keyword p) ≡ true
+    unfolding keyword
+    has-keyword = rw (← e) (nonempty-take k p some keyword-le)
+
+    pub param-hyphen : getD p 0 0 ≡ 45 → false ≡ isParam p
+    unfolding isParam
+    param-hyphen h = rw (has-keyword, eq-eqb (getD p 0 0) 45 h)
+
+    module _ (first : getD p 0 0 ≡ 45 → ⊥) where
+      pub param-bare : length p ≤ k → true ≡ isParam p
+      unfolding isParam
+      param-bare l = rw (has-keyword, ne-eqb (getD p 0 0) 45 first, has-none l)
+
+      module _ (l : k < length p) where
+        pub param-unequal : (getD p k 0 ≡ 61 → ⊥) → false ≡ isParam p
+        unfolding isParam
+        param-unequal n = rw (has-keyword, ne-eqb (getD p 0 0) 45 first, has-value l, ← e, ne-eqb (getD p k 0) 61 n)
+
+        module _ (q : getD p k 0 ≡ 61) where
+          pub param-no-value : length p ≤ k + 1 → false ≡ isParam p
+          unfolding isParam value
+          param-no-value m =
+              rw (has-keyword, ne-eqb (getD p 0 0) 45 first, has-value l, ← e, eq-eqb (getD p k 0) 61 q, drop-of-length-le p {i = k + 1} m)
+
+          pub param-value : k + 1 < length p → {v : List ℕ} {o r : Bool} → v ≡ take (length p - (k + 1)) (drop (k + 1) p) → o ≡ isOrcpt p
+              → r ≡ all (isValueByte o) v → r ≡ isParam p
+          unfolding isParam value
+          param-value m {v} {o} {r} a b d =
+              let w : v ≡ drop (k + 1) p = a ∙ part-rest p (k + 1) in
+              let some-there : nonempty (drop (k + 1) p) ≡ true = rw (drop-cons p (k + 1) 0 m) in
+              d ∙ rw (w, b, has-keyword, ne-eqb (getD p 0 0) 45 first, has-value l, ← e, eq-eqb (getD p k 0) 61 q, some-there)
+
+-- a value as code lends it
+pub value-part : (p : List ℕ) {v : List ℕ} (r : ℕ) → v ≡ take (length p - r) (drop r p) → drop r p ≡ value p → v ≡ value p
+value-part p r e d = e ∙ part-rest p r ∙ d
+
+module _ (p : List ℕ) where
+  pub orcpt-other : isOrcpt p ≡ false → true ≡ orcptClean p
+  unfolding orcptClean
+  orcpt-other e = rw e
+
+  pub orcpt-value : {v : List ℕ} {r : Bool} → isOrcpt p ≡ true → v ≡ value p → r ≡ all isAscii v → r ≡ orcptClean p
+  unfolding orcptClean
+  orcpt-value e f q = q ∙ rw (e, f)

@@ -1,3 +1,9 @@
+use Rattle.envelope_line.specs.FaultLaws.{line-long, line-not-utf8, line-no-verb, line-no-path, line-open, line-tail}
+use Rattle.envelope_line.specs.PathLaws.{pathAt}
+use Rattle.address.specs.AddressLaws.{inside}
+use borrow.Author.Tests.{not-true, not-false}
+use native.Mathlib.Omega.{arith}
+use mathlib.Core.Path.{sym, _∙_}
 use borrow.Author.Needs.{needs}
 use Rattle.envelope_line.proofs.faults.line_fault.Statement.{statement}
 use Rattle.envelope_line.proofs.faults.line_fault.Tie as tie
@@ -14,7 +20,7 @@ use Rattle.utf8.proofs.is_utf8.Reads as is-utf8-reads
 
 -- src/faults.rt:58:9
 returns : tie.Need-returns
-returns c = ?
+returns c = line-long _ _ (c .if1 .taken)
 
 -- src/faults.rt:60:9
 is-utf8-requires : tie.Need-is-utf8-requires
@@ -22,7 +28,7 @@ is-utf8-requires c κs = search needs
 
 -- src/faults.rt:61:9
 returns-2 : tie.Need-returns-2
-returns-2 c = ?
+returns-2 c = line-not-utf8 _ _ (c .before .before .if1 .left) (sym (c .before .is-utf8 .ensures) ∙ not-true _ (c .if2 .taken))
 
 -- src/faults.rt:63:9
 has-verb-requires : tie.Need-has-verb-requires
@@ -30,7 +36,7 @@ has-verb-requires c κs = search needs
 
 -- src/faults.rt:64:9
 returns-3 : tie.Need-returns-3
-returns-3 c = ?
+returns-3 c = line-no-verb _ _ (c .before .before .before .before .if1 .left) (sym (c .before .before .before .is-utf8 .ensures) ∙ not-false _ (c .before .before .if2 .left)) (sym (c .before .has-verb .ensures) ∙ not-true _ (c .if3 .taken))
 
 -- src/faults.rt:66:25
 path-requires : tie.Need-path-requires
@@ -46,7 +52,8 @@ enum-told c = search needs
 
 -- src/faults.rt:67:9
 returns-4 : tie.Need-returns-4
-returns-4 c = ?
+unfolding pathAt
+returns-4 c = line-no-path _ _ (c .before .before .before .before .before .before .before .if1 .left) (sym (c .before .before .before .before .before .before .is-utf8 .ensures) ∙ not-false _ (c .before .before .before .before .before .if2 .left)) (sym (c .before .before .before .before .has-verb .ensures) ∙ not-false _ (c .before .before .before .if3 .left)) _ (sym (c .enum-told .given .1) ∙ c .before .before .path .ensures)
 
 -- src/faults.rt:69:8
 byte-at-requires : tie.Need-byte-at-requires
@@ -54,11 +61,12 @@ byte-at-requires c κs = search needs
 
 -- src/faults.rt:70:9
 returns-5 : tie.Need-returns-5
-returns-5 c = ?
+unfolding pathAt
+returns-5 c = line-open _ _ (c .before .before .before .before .before .before .before .before .before .before .if1 .left) (sym (c .before .before .before .before .before .before .before .before .before .is-utf8 .ensures) ∙ not-false _ (c .before .before .before .before .before .before .before .before .if2 .left)) (sym (c .before .before .before .before .before .before .before .has-verb .ensures) ∙ not-false _ (c .before .before .before .before .before .before .if3 .left)) _ (sym (c .before .before .before .end .given .1) ∙ c .before .before .before .before .before .path .ensures) (λ e. c .if4 .taken (c .before .byte-at .ensures ∙ e))
 
 -- src/faults.rt:72:22
 add-tail-fault : tie.Need-add-tail-fault
-add-tail-fault c = ?
+add-tail-fault c = omega (arith, inside (c .before .before .before .before .before .before .before .before .before .before .before .before .args .line .now) (c .before .before .before .end .given .0 .0) 61 (sym (c .before .byte-at .ensures) ∙ c .if4 .left))
 
 -- src/faults.rt:72:60
 path-start-requires : tie.Need-path-start-requires
@@ -78,7 +86,8 @@ tail-fault-requires c κs = search needs
 
 -- src/faults.rt:54:1
 returns-6 : tie.Need-returns-6
-returns-6 c = ?
+unfolding pathAt
+returns-6 c = line-tail _ _ (c .before .before .before .before .before .before .before .before .before .before .before .before .before .before .if1 .left) (sym (c .before .before .before .before .before .before .before .before .before .before .before .before .before .is-utf8 .ensures) ∙ not-false _ (c .before .before .before .before .before .before .before .before .before .before .before .before .if2 .left)) (sym (c .before .before .before .before .before .before .before .before .before .before .before .has-verb .ensures) ∙ not-false _ (c .before .before .before .before .before .before .before .before .before .before .if3 .left)) _ (sym (c .before .before .before .before .before .before .before .end .given .1) ∙ c .before .before .before .before .before .before .before .before .before .path .ensures) (sym (c .before .before .before .before .before .byte-at .ensures) ∙ c .before .before .before .before .if4 .left) (c .before .before .part .ensures ∙ rw (c .before .before .before .path-start .ensures)) (c .before .is-ascii .ensures) (c .tail-fault .ensures)
 
 pub line-fault-spec : {M : Type 1} → statement M
 line-fault-spec =

@@ -1,3 +1,6 @@
+use Rattle.envelope_line.specs.FaultLaws.{only-bare, only-beside, only-fine, only-bad}
+use Rattle.envelope_line.specs.ParameterLaws.{has-value, has-none, value-part}
+use mathlib.Core.Path.{sym, _∙_}
 use borrow.Author.Needs.{needs}
 use Rattle.envelope_line.proofs.faults.only_alt_fault.Statement.{statement}
 use Rattle.envelope_line.proofs.faults.only_alt_fault.Tie as tie
@@ -14,11 +17,11 @@ keyword-len-requires c κs = search needs
 
 -- src/faults.rt:17:9
 returns : tie.Need-returns
-returns c = ?
+returns c = only-bare _ _ (has-none _ _ (c .before .keyword-len .ensures) (c .if1 .taken))
 
 -- src/faults.rt:20:9
 returns-2 : tie.Need-returns-2
-returns-2 c = ?
+returns-2 c = only-beside _ _ (has-value _ _ (c .before .before .keyword-len .ensures) (c .before .if1 .left)) (c .if2 .taken)
 
 -- src/faults.rt:22:47
 value-start-requires : tie.Need-value-start-requires
@@ -34,11 +37,11 @@ is-alt-address-requires c κs = search needs
 
 -- src/faults.rt:23:9
 returns-3 : tie.Need-returns-3
-returns-3 c = ?
+returns-3 c = only-fine _ _ (has-value _ _ (c .before .before .before .before .before .before .keyword-len .ensures) (c .before .before .before .before .before .if1 .left)) (c .before .before .before .before .if2 .left) (value-part _ _ (c .before .before .part .ensures) (c .before .before .before .value-start .ensures)) (sym (c .before .is-alt-address .ensures) ∙ c .if3 .taken)
 
 -- src/faults.rt:13:1
 returns-4 : tie.Need-returns-4
-returns-4 c = ?
+returns-4 c = only-bad _ _ (has-value _ _ (c .before .before .before .before .before .before .keyword-len .ensures) (c .before .before .before .before .before .if1 .left)) (c .before .before .before .before .if2 .left) (value-part _ _ (c .before .before .part .ensures) (c .before .before .before .value-start .ensures)) (sym (c .before .is-alt-address .ensures) ∙ c .if3 .left)
 
 pub only-alt-fault-spec : {M : Type 1} → statement M
 only-alt-fault-spec =

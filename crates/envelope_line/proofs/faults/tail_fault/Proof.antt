@@ -1,3 +1,8 @@
+use Rattle.envelope_line.specs.FaultLaws.{onlyAltFault, tail-unspaced, tail-no-params, tail-plain, tail-high, tail-two-alts, tail-one-alt}
+use Rattle.envelope_line.specs.ParameterLaws.{no-alts, first-alt, param-part}
+use borrow.Author.Tests.{not-true, not-false}
+use mathlib.Core.List.{_∷_}
+use mathlib.Core.Path.{refl, sym, ap, _∙_}
 use borrow.Author.Needs.{needs}
 use Rattle.envelope_line.proofs.faults.tail_fault.Statement.{statement}
 use Rattle.envelope_line.proofs.faults.tail_fault.Tie as tie
@@ -16,7 +21,7 @@ is-spaced-requires c κs = search needs
 
 -- src/faults.rt:33:9
 returns : tie.Need-returns
-returns c = ?
+returns c = sym (tail-unspaced _ _ (sym (c .before .is-spaced .ensures) ∙ not-true _ (c .if1 .taken)))
 
 -- src/faults.rt:35:9
 are-params-requires : tie.Need-are-params-requires
@@ -24,7 +29,7 @@ are-params-requires c κs = search needs
 
 -- src/faults.rt:36:9
 returns-2 : tie.Need-returns-2
-returns-2 c = ?
+returns-2 c = sym (tail-no-params _ _ (sym (c .before .before .before .is-spaced .ensures) ∙ not-false _ (c .before .before .if1 .left)) (sym (c .before .are-params .ensures) ∙ not-true _ (c .if2 .taken)))
 
 -- src/faults.rt:38:9
 alt-place-requires : tie.Need-alt-place-requires
@@ -32,11 +37,11 @@ alt-place-requires c κs = search needs
 
 -- src/faults.rt:41:13
 returns-3 : tie.Need-returns-3
-returns-3 c = ?
+returns-3 c = tail-plain _ _ (sym (c .before .before .before .before .before .before .is-spaced .ensures) ∙ not-false _ (c .before .before .before .before .before .if1 .left)) (sym (c .before .before .before .before .are-params .ensures) ∙ not-false _ (c .before .before .before .if2 .left)) (no-alts (c .before .before .alt-place .ensures) (c .before .if3 .taken)) (c .if4 .taken)
 
 -- src/faults.rt:43:9
 returns-4 : tie.Need-returns-4
-returns-4 c = ?
+returns-4 c = tail-high _ _ (sym (c .before .before .before .before .before .before .is-spaced .ensures) ∙ not-false _ (c .before .before .before .before .before .if1 .left)) (sym (c .before .before .before .before .are-params .ensures) ∙ not-false _ (c .before .before .before .if2 .left)) (no-alts (c .before .before .alt-place .ensures) (c .before .if3 .taken)) (c .if4 .left)
 
 -- src/faults.rt:45:17
 add-start : tie.Need-add-start
@@ -52,7 +57,7 @@ alt-place-requires-2 c κs = search needs
 
 -- src/faults.rt:48:9
 returns-5 : tie.Need-returns-5
-returns-5 c = ?
+returns-5 c = sym (tail-two-alts _ _ (sym (c .before .before .before .before .before .before .before .before .is-spaced .ensures) ∙ not-false _ (c .before .before .before .before .before .before .before .if1 .left)) (sym (c .before .before .before .before .before .before .are-params .ensures) ∙ not-false _ (c .before .before .before .before .before .if2 .left)) (first-alt (c .before .before .before .before .alt-place .ensures) _ (c .before .before .param-end .ensures) (c .before .before .before .if3 .left) ∙ ap (λ more. _ ∷ more) (first-alt (c .before .alt-place2 .ensures) _ refl (c .if5 .taken))))
 
 -- src/faults.rt:50:20
 part-requires : tie.Need-part-requires
@@ -64,7 +69,7 @@ only-alt-fault-requires c κs = search needs
 
 -- src/faults.rt:29:1
 returns-6 : tie.Need-returns-6
-returns-6 c = ?
+returns-6 c = c .only-alt-fault .ensures ∙ ap (onlyAltFault _) (c .before .part .ensures ∙ param-part _ _ _ (c .before .before .before .before .param-end .ensures)) ∙ sym (tail-one-alt _ _ (sym (c .before .before .before .before .before .before .before .before .before .before .is-spaced .ensures) ∙ not-false _ (c .before .before .before .before .before .before .before .before .before .if1 .left)) (sym (c .before .before .before .before .before .before .before .before .are-params .ensures) ∙ not-false _ (c .before .before .before .before .before .before .before .if2 .left)) (first-alt (c .before .before .before .before .before .before .alt-place .ensures) _ (c .before .before .before .before .param-end .ensures) (c .before .before .before .before .before .if3 .left) ∙ ap (λ more. _ ∷ more) (no-alts (c .before .before .before .alt-place2 .ensures) (c .before .before .if5 .left))))
 
 pub tail-fault-spec : {M : Type 1} → statement M
 tail-fault-spec =

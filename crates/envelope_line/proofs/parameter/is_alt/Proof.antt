@@ -1,3 +1,5 @@
+use Rattle.envelope_line.specs.ParameterLaws.{alt-named}
+use Rattle.letter_case.specs.LetterCase.{bytes}
 use borrow.Author.Needs.{needs}
 use Rattle.envelope_line.proofs.parameter.is_alt.Statement.{statement}
 use Rattle.envelope_line.proofs.parameter.is_alt.Tie as tie
@@ -25,7 +27,8 @@ same-any-case-requires c κs = search needs
 
 -- src/parameter.rt:49:1
 returns : tie.Need-returns
-returns c = ?
+unfolding bytes
+returns c = alt-named _ (c .before .before .keyword-len .ensures) (c .before .part .ensures) (c .same-any-case .ensures)
 
 pub is-alt-spec : {M : Type 1} → statement M
 is-alt-spec =

@@ -1,3 +1,6 @@
+use Rattle.envelope_line.specs.ParameterLaws.{value-part, orcpt-other, orcpt-value}
+use borrow.Author.Tests.{not-true, not-false}
+use mathlib.Core.Path.{sym, _∙_}
 use borrow.Author.Needs.{needs}
 use Rattle.envelope_line.proofs.parameter.is_orcpt_clean.Statement.{statement}
 use Rattle.envelope_line.proofs.parameter.is_orcpt_clean.Tie as tie
@@ -14,7 +17,7 @@ is-orcpt-requires c κs = search needs
 
 -- src/parameter.rt:105:9
 returns : tie.Need-returns
-returns c = ?
+returns c = orcpt-other _ (sym (c .before .is-orcpt .ensures) ∙ not-true _ (c .if1 .taken))
 
 -- src/parameter.rt:107:31
 value-start-requires : tie.Need-value-start-requires
@@ -30,7 +33,7 @@ is-ascii-requires c κs = search needs
 
 -- src/parameter.rt:101:1
 returns-2 : tie.Need-returns-2
-returns-2 c = ?
+returns-2 c = orcpt-value _ (sym (c .before .before .before .before .is-orcpt .ensures) ∙ not-false _ (c .before .before .before .if1 .left)) (value-part _ _ (c .before .part .ensures) (c .before .before .value-start .ensures)) (c .is-ascii .ensures)
 
 pub is-orcpt-clean-spec : {M : Type 1} → statement M
 is-orcpt-clean-spec =

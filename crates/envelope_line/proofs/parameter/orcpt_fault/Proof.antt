@@ -1,3 +1,6 @@
+use Rattle.envelope_line.specs.EnvelopeLine.{params, orcptClean, orcptFault}
+use mathlib.Core.Path.{_≡_}
+use Rattle.utf8.specs.Lists.{all}
 use borrow.Author.Needs.{needs}
 use Rattle.envelope_line.proofs.parameter.orcpt_fault.Statement.{statement}
 use Rattle.envelope_line.proofs.parameter.orcpt_fault.Tie as tie
@@ -16,7 +19,8 @@ are-orcpt-clean-requires c κs = search needs
 
 -- src/parameter.rt:181:1
 returns : tie.Need-returns
-returns c = ?
+unfolding orcptFault
+returns c = rw (c .are-orcpt-clean .ensures, c .before .tail-start .ensures)
 
 pub orcpt-fault-spec : {M : Type 1} → statement M
 orcpt-fault-spec = tie.close (tie.spec tail-start-requires are-orcpt-clean-requires returns)

@@ -1,3 +1,5 @@
+use Rattle.envelope_line.specs.ParameterLaws.{value-from}
+use native.Mathlib.Omega.{arith}
 use borrow.Author.Needs.{needs}
 use Rattle.envelope_line.proofs.parameter.value_start.Statement.{statement}
 use Rattle.envelope_line.proofs.parameter.value_start.Tie as tie
@@ -16,7 +18,7 @@ place-after-requires c κs = search needs
 
 -- src/parameter.rt:35:1
 returns : tie.Need-returns
-returns c = ?
+returns c = value-from _ _ (c .before .keyword-len .ensures) _ (c .place-after .ensures) (omega arith)
 
 pub value-start-spec : {M : Type 1} → statement M
 value-start-spec = tie.close (tie.spec keyword-len-requires place-after-requires returns)
