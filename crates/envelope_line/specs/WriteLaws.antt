@@ -11,7 +11,8 @@ use Rattle.utf8.specs.Byte.{isAscii}
 use Rattle.utf8.specs.Run.{run}
 use Rattle.buffer.specs.Buffer.{Wrote, AppendedCapped, greatest}
 use Rattle.buffer.specs.BufferLaws.{capped-none, capped-then}
-use Rattle.address.specs.Xtext.{decoded, decodedAfter}
+use Rattle.address.specs.Xtext.{decoded}
+use Rattle.address.specs.XtextLaws.{decoded-end}
 use Rattle.envelope_line.specs.EnvelopeLine.{verbLen, pathLen, path, tail, notSpace, params, keywordLen, value, alt, altPlace, newPath, withoutAlt, writtenLine, replacement}
 use Rattle.envelope_line.specs.ParameterLaws.{paramAt, length-param, AltFrom, no-alt, alt-there}
 
@@ -26,8 +27,8 @@ capped-same e w = rw e at w
 
 module _ {s : List ℕ} {from r : ℕ} (k : AltFrom s from r) where
   pub decoded-none : length s ≤ r → [] ≡ decoded (value (alt (params (drop from s))))
-  unfolding decoded decodedAfter value
-  decoded-none h = rw (no-alt k h) (sym (ap (decodedAfter 0) (drop-of-length-le [] {i = keywordLen [] + 1} (omega arith))))
+  unfolding value
+  decoded-none h = rw (no-alt k h) (sym (decoded-end [] (keywordLen [] + 1) (omega arith)))
 
   pub decoded-some : {p : List ℕ} → r < length s → p ≡ paramAt s r → decoded (value p) ≡ decoded (value (alt (params (drop from s))))
   decoded-some h e = rw (e, alt-there k h)
@@ -52,6 +53,9 @@ module _ {s : List ℕ} {from r : ℕ} (k : AltFrom s from r) where
       rw (alt-there k h, m, drop-drop, q)
 
 -- ---- the line
+
+bracketed : (p n : List ℕ) → ((((60 ∷ []) ++ p) ++ (32 ∷ 60 ∷ [])) ++ n) ++ (62 ∷ 62 ∷ []) ≡ 60 ∷ (p ++ (32 ∷ 60 ∷ (n ++ (62 ∷ 62 ∷ []))))
+bracketed p n = ap (λ (l : List ℕ). 60 ∷ l) (append-assoc (p ++ (32 ∷ 60 ∷ [])) n (62 ∷ 62 ∷ []) ∙ append-assoc p (32 ∷ 60 ∷ []) (n ++ (62 ∷ 62 ∷ [])))
 
 module _ (mail : Bool) (line : List ℕ) where
   -- the path as code lends it
@@ -82,7 +86,7 @@ module _ (mail : Bool) (line : List ℕ) where
     pub replaced-high : r ≡ false → {new : List ℕ} → new ≡ newPath mail line
         → ((((60 ∷ []) ++ p) ++ (32 ∷ 60 ∷ [])) ++ new) ++ (62 ∷ 62 ∷ []) ≡ replacement mail line
     unfolding replacement
-    replaced-high h b = rw (path-test h, b, e) (simp append-assoc)
+    replaced-high h {new} b = bracketed p new ∙ rw (path-test h, b, e)
 
   -- the decoded ALT-ADDRESS from where the tail starts
   pub new-path : (r : ℕ) → drop r line ≡ tail mail line → decoded (value (alt (params (drop r line)))) ≡ newPath mail line

@@ -1,3 +1,8 @@
+use Rattle.envelope_line.specs.WriteLaws.{wrote-same}
+use Rattle.envelope_line.specs.ParameterLaws.{value-part}
+use Rattle.address.specs.Xtext.{decoded}
+use Rattle.buffer.specs.BufferLaws.{added-by}
+use mathlib.Core.Path.{ap}
 use borrow.Author.Needs.{needs}
 use Rattle.envelope_line.proofs.write.add_decoded.Statement.{statement}
 use Rattle.envelope_line.proofs.write.add_decoded.Tie as tie
@@ -47,7 +52,7 @@ same-length c = search needs
 
 -- src/write.rt:12:1
 returns : tie.Need-returns
-returns c = ?
+returns c = added-by _ _ _ _ _ (c .before .before .before .before .before .before .before .clip .ensures) (wrote-same (ap decoded (value-part _ _ (c .before .before .before .before .before .part .ensures) (c .before .before .before .before .before .before .value-start .ensures))) (c .before .before .before .put-decoded .ensures)) (c .place-after .ensures)
 
 pub add-decoded-spec : {M : Type 1} → statement M
 add-decoded-spec =

@@ -1,3 +1,5 @@
+use Rattle.buffer.specs.BufferLaws.{capped-then}
+use native.Mathlib.Omega.{arith}
 use borrow.Author.Needs.{needs}
 use Rattle.envelope_line.proofs.write.add_line.Statement.{statement}
 use Rattle.envelope_line.proofs.write.add_line.Tie as tie
@@ -24,7 +26,7 @@ same-length c = search needs
 
 -- src/write.rt:60:1
 returns : tie.Need-returns
-returns c = ?
+returns c = capped-then (c .before .before .before .before .before .before .before .add-text .ensures) (c .before .before .add-slice .ensures) (omega arith)
 
 pub add-line-spec : {M : Type 1} → statement M
 add-line-spec =

@@ -1,3 +1,8 @@
+use Rattle.envelope_line.specs.WriteLaws.{capped-same, decoded-none, decoded-some}
+use Rattle.envelope_line.specs.ParameterLaws.{param-part}
+use Rattle.buffer.specs.BufferLaws.{capped-none}
+use native.Mathlib.Omega.{arith}
+use mathlib.Core.Path.{_∙_}
 use borrow.Author.Needs.{needs}
 use Rattle.envelope_line.proofs.write.add_new_path.Statement.{statement}
 use Rattle.envelope_line.proofs.write.add_new_path.Tie as tie
@@ -14,7 +19,7 @@ alt-place-requires c κs = search needs
 
 -- src/write.rt:26:9
 returns : tie.Need-returns
-returns c = ?
+returns c = capped-same (decoded-none (c .before .alt-place .ensures) (c .if1 .taken)) (capped-none _ _ (omega arith))
 
 -- src/write.rt:28:17
 add-start : tie.Need-add-start
@@ -38,7 +43,7 @@ same-length c = search needs
 
 -- src/write.rt:21:1
 returns-2 : tie.Need-returns-2
-returns-2 c = ?
+returns-2 c = capped-same (decoded-some (c .before .before .before .before .before .before .before .alt-place .ensures) (c .before .before .before .before .before .before .if1 .left) (c .before .before .before .part .ensures ∙ param-part _ _ _ (c .before .before .before .before .param-end .ensures))) (c .before .before .add-decoded .ensures)
 
 pub add-new-path-spec : {M : Type 1} → statement M
 add-new-path-spec =

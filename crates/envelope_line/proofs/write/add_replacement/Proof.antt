@@ -1,3 +1,6 @@
+use Rattle.envelope_line.specs.WriteLaws.{capped-same, path-part, replaced-ascii, replaced-high, new-path}
+use Rattle.buffer.specs.BufferLaws.{capped-none, capped-then}
+use native.Mathlib.Omega.{arith}
 use borrow.Author.Needs.{needs}
 use Rattle.envelope_line.proofs.write.add_replacement.Statement.{statement}
 use Rattle.envelope_line.proofs.write.add_replacement.Tie as tie
@@ -30,7 +33,7 @@ is-ascii-requires c κs = search needs
 
 -- src/write.rt:75:9
 returns : tie.Need-returns
-returns c = ?
+returns c = capped-same (replaced-ascii _ _ (path-part _ _ _ _ (c .before .before .before .before .path-start .ensures) (c .before .before .before .path-end .ensures) (c .before .before .part .ensures)) (c .before .is-ascii .ensures) (c .if1 .taken)) (capped-none _ _ (omega arith))
 
 -- src/write.rt:77:9
 tail-start-requires : tie.Need-tail-start-requires
@@ -70,7 +73,7 @@ same-length c = search needs
 
 -- src/write.rt:68:1
 returns-2 : tie.Need-returns-2
-returns-2 c = ?
+returns-2 c = capped-same (replaced-high _ _ (path-part _ _ _ _ (c .before .before .before .before .before .before .before .before .before .before .before .before .before .before .before .before .before .before .before .before .before .before .before .before .before .before .before .path-start .ensures) (c .before .before .before .before .before .before .before .before .before .before .before .before .before .before .before .before .before .before .before .before .before .before .before .before .before .before .path-end .ensures) (c .before .before .before .before .before .before .before .before .before .before .before .before .before .before .before .before .before .before .before .before .before .before .before .before .before .part .ensures)) (c .before .before .before .before .before .before .before .before .before .before .before .before .before .before .before .before .before .before .before .before .before .before .before .before .is-ascii .ensures) (c .before .before .before .before .before .before .before .before .before .before .before .before .before .before .before .before .before .before .before .before .before .before .before .if1 .left) (new-path _ _ _ (c .before .before .before .before .before .before .before .before .before .before .before .before .before .before .before .before .before .before .before .before .before .before .tail-start .ensures))) (capped-then (capped-then (capped-then (capped-then (c .before .before .before .before .before .before .before .before .before .before .before .before .before .before .before .before .before .before .before .before .add-byte .ensures) (c .before .before .before .before .before .before .before .before .before .before .before .before .before .before .before .before .add-slice .ensures) (omega (arith, c .before .before .before .before .before .before .before .before .before .before .before .before .before .before .before .before .before .before .before .before .before .before .before .before .before .before .before .before .before .before .good .0 .0))) (c .before .before .before .before .before .before .before .before .before .before .before .add-slice2 .ensures) (omega (arith, c .before .before .before .before .before .before .before .before .before .before .before .before .before .before .before .before .before .before .before .before .before .before .before .before .before .before .before .before .before .before .good .0 .0))) (c .before .before .before .before .before .before .before .add-new-path .ensures) (omega (arith, c .before .before .before .before .before .before .before .before .before .before .before .before .before .before .before .before .before .before .before .before .before .before .before .before .before .before .before .before .before .before .good .0 .0))) (c .before .before .add-slice3 .ensures) (omega (arith, c .before .before .before .before .before .before .before .before .before .before .before .before .before .before .before .before .before .before .before .before .before .before .before .before .before .before .before .before .before .before .good .0 .0)))
 
 pub add-replacement-spec : {M : Type 1} → statement M
 add-replacement-spec =

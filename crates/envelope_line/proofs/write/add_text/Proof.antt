@@ -1,3 +1,7 @@
+use Rattle.envelope_line.specs.WriteLaws.{capped-same, path-part, front-part, written-ascii, written-high, new-path, rest-without}
+use Rattle.buffer.specs.BufferLaws.{capped-then}
+use native.Mathlib.Omega.{arith}
+use mathlib.Core.Path.{sym, _∙_}
 use borrow.Author.Needs.{needs}
 use Rattle.envelope_line.proofs.write.add_text.Statement.{statement}
 use Rattle.envelope_line.proofs.write.add_text.Tie as tie
@@ -39,7 +43,7 @@ same-length c = search needs
 
 -- src/write.rt:50:9
 returns : tie.Need-returns
-returns c = ?
+returns c = capped-same (written-ascii _ _ (path-part _ _ _ _ (c .before .before .before .before .before .before .before .before .path-start .ensures) (c .before .before .before .before .before .before .before .path-end .ensures) (c .before .before .before .before .before .before .part .ensures)) (c .before .before .before .before .before .is-ascii .ensures) (c .before .before .before .before .if1 .taken)) (c .before .before .add-slice .ensures)
 
 -- src/write.rt:52:9
 tail-start-requires : tie.Need-tail-start-requires
@@ -71,7 +75,7 @@ same-length-2 c = search needs
 
 -- src/write.rt:45:1
 returns-2 : tie.Need-returns-2
-returns-2 c = ?
+returns-2 c = capped-same (written-high _ _ (path-part _ _ _ _ (c .before .before .before .before .before .before .before .before .before .before .before .before .before .before .before .before .before .before .before .before .before .before .path-start .ensures) (c .before .before .before .before .before .before .before .before .before .before .before .before .before .before .before .before .before .before .before .before .before .path-end .ensures) (c .before .before .before .before .before .before .before .before .before .before .before .before .before .before .before .before .before .before .before .before .part .ensures)) (c .before .before .before .before .before .before .before .before .before .before .before .before .before .before .before .before .before .before .before .is-ascii .ensures) (c .before .before .before .before .before .before .before .before .before .before .before .before .before .before .before .before .before .before .if1 .left) (front-part _ _ _ (c .before .before .before .before .before .before .before .before .before .before .before .before .before .before .before .before .before .before .before .before .before .before .path-start .ensures) (c .before .before .before .before .before .before .before .before .before .before .before .before .before .before .before .part2 .ensures)) (new-path _ _ _ (c .before .before .before .before .before .before .before .before .before .before .before .before .before .before .before .before .before .tail-start .ensures)) (rest-without _ _ _ (c .before .before .before .before .before .before .before .before .before .before .before .before .before .before .before .before .before .tail-start .ensures))) (capped-then (capped-then (capped-then (c .before .before .before .before .before .before .before .before .before .before .before .before .before .before .add-slice2 .ensures) (c .before .before .before .before .before .before .before .before .before .before .add-new-path .ensures) (omega (arith, c .before .before .before .before .before .before .before .before .before .before .before .before .before .before .before .before .before .before .before .before .before .before .before .before .before .good .0 .0))) (c .before .before .before .before .before .before .add-byte .ensures) (omega (arith, c .before .before .before .before .before .before .before .before .before .before .before .before .before .before .before .before .before .before .before .before .before .before .before .before .before .good .0 .0))) (c .before .before .add-without-alt .ensures) (omega (arith, c .before .before .before .before .before .before .before .before .before .before .before .before .before .before .before .before .before .before .before .before .before .before .before .before .before .good .0 .0)))
 
 pub add-text-spec : {M : Type 1} → statement M
 add-text-spec =

@@ -1,3 +1,8 @@
+use Rattle.envelope_line.specs.WriteLaws.{capped-same, without-none, without-some}
+use Rattle.line.specs.LineLaws.{part-rest}
+use Rattle.buffer.specs.BufferLaws.{capped-then}
+use native.Mathlib.Omega.{arith}
+use mathlib.Core.Path.{sym, _∙_}
 use borrow.Author.Needs.{needs}
 use Rattle.envelope_line.proofs.write.add_without_alt.Statement.{statement}
 use Rattle.envelope_line.proofs.write.add_without_alt.Tie as tie
@@ -26,7 +31,7 @@ same-length c = search needs
 
 -- src/write.rt:38:9
 returns : tie.Need-returns
-returns c = ?
+returns c = capped-same (c .before .before .before .part .ensures ∙ part-rest _ _ ∙ sym (without-none (c .before .before .before .before .before .before .alt-place .ensures) (c .before .before .before .before .before .if1 .taken))) (c .before .before .add-slice .ensures)
 
 -- src/write.rt:40:43
 part-requires-2 : tie.Need-part-requires-2
@@ -58,7 +63,7 @@ same-length-2 c = search needs
 
 -- src/write.rt:33:1
 returns-2 : tie.Need-returns-2
-returns-2 c = ?
+returns-2 c = capped-same (rw (c .before .before .before .before .before .before .before .before .before .part2 .ensures, c .before .before .before .part3 .ensures, part-rest) (sym (without-some (c .before .before .before .before .before .before .before .before .before .before .before .before .alt-place .ensures) _ (c .before .before .before .before .param-end .ensures) (c .before .before .before .before .before .before .before .before .before .before .before .if1 .left)))) (capped-then (c .before .before .before .before .before .before .before .before .add-slice2 .ensures) (c .before .before .add-slice3 .ensures) (omega arith))
 
 pub add-without-alt-spec : {M : Type 1} → statement M
 add-without-alt-spec =
