@@ -131,6 +131,13 @@ module _ {s : List ℕ} {at r : ℕ} (k : AltFrom s at r) where
   unfolding alt
   alt-there h = rw (first-alt (r + 1 + run notSpace (drop (r + 1) s)) refl h)
 
+  module _ (e : ℕ) (d : e ≡ r + 1 + run notSpace (drop (r + 1) s)) (h : r < length s) {m : ℕ} (n : AltFrom s e m) where
+    pub one-alt : length s ≤ m → alts (params (drop at s)) ≡ paramAt s r ∷ []
+    one-alt l = first-alt e d h ∙ ap (λ more. paramAt s r ∷ more) (n .same ∙ alts-end s m l)
+
+    pub two-alts : m < length s → alts (params (drop at s)) ≡ paramAt s r ∷ paramAt s m ∷ alts (params (drop (paramEnd s m) s))
+    two-alts l = first-alt e d h ∙ ap (λ more. paramAt s r ∷ more) (n .same ∙ alts-here s m l (n .here l))
+
 -- ---- spaces
 
 module _ (s : List ℕ) (i : ℕ) where

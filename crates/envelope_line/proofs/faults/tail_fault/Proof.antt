@@ -1,3 +1,4 @@
+use Rattle.envelope_line.specs.ParameterLaws.{one-alt, two-alts}
 use Rattle.envelope_line.specs.FaultLaws.{onlyAltFault, tail-unspaced, tail-no-params, tail-plain, tail-high, tail-two-alts, tail-one-alt}
 use Rattle.envelope_line.specs.ParameterLaws.{no-alts, first-alt, param-part}
 use borrow.Author.Tests.{not-true, not-false}
@@ -57,7 +58,7 @@ alt-place-requires-2 c κs = search needs
 
 -- src/faults.rt:48:9
 returns-5 : tie.Need-returns-5
-returns-5 c = sym (tail-two-alts _ _ (sym (c .before .before .before .before .before .before .before .before .is-spaced .ensures) ∙ not-false _ (c .before .before .before .before .before .before .before .if1 .left)) (sym (c .before .before .before .before .before .before .are-params .ensures) ∙ not-false _ (c .before .before .before .before .before .if2 .left)) (first-alt (c .before .before .before .before .alt-place .ensures) _ (c .before .before .param-end .ensures) (c .before .before .before .if3 .left) ∙ ap (λ more. _ ∷ more) (first-alt (c .before .alt-place2 .ensures) _ refl (c .if5 .taken))))
+returns-5 c = sym (tail-two-alts _ _ (sym (c .before .before .before .before .before .before .before .before .is-spaced .ensures) ∙ not-false _ (c .before .before .before .before .before .before .before .if1 .left)) (sym (c .before .before .before .before .before .before .are-params .ensures) ∙ not-false _ (c .before .before .before .before .before .if2 .left)) (two-alts (c .before .before .before .before .alt-place .ensures) _ (c .before .before .param-end .ensures) (c .before .before .before .if3 .left) (c .before .alt-place2 .ensures) (c .if5 .taken)))
 
 -- src/faults.rt:50:20
 part-requires : tie.Need-part-requires
@@ -69,7 +70,7 @@ only-alt-fault-requires c κs = search needs
 
 -- src/faults.rt:29:1
 returns-6 : tie.Need-returns-6
-returns-6 c = c .only-alt-fault .ensures ∙ ap (onlyAltFault _) (c .before .part .ensures ∙ param-part _ _ _ (c .before .before .before .before .param-end .ensures)) ∙ sym (tail-one-alt _ _ (sym (c .before .before .before .before .before .before .before .before .before .before .is-spaced .ensures) ∙ not-false _ (c .before .before .before .before .before .before .before .before .before .if1 .left)) (sym (c .before .before .before .before .before .before .before .before .are-params .ensures) ∙ not-false _ (c .before .before .before .before .before .before .before .if2 .left)) (first-alt (c .before .before .before .before .before .before .alt-place .ensures) _ (c .before .before .before .before .param-end .ensures) (c .before .before .before .before .before .if3 .left) ∙ ap (λ more. _ ∷ more) (no-alts (c .before .before .before .alt-place2 .ensures) (c .before .before .if5 .left))))
+returns-6 c = c .only-alt-fault .ensures ∙ ap (onlyAltFault _) (c .before .part .ensures ∙ param-part _ _ _ (c .before .before .before .before .param-end .ensures)) ∙ sym (tail-one-alt _ _ (sym (c .before .before .before .before .before .before .before .before .before .before .is-spaced .ensures) ∙ not-false _ (c .before .before .before .before .before .before .before .before .before .if1 .left)) (sym (c .before .before .before .before .before .before .before .before .are-params .ensures) ∙ not-false _ (c .before .before .before .before .before .before .before .if2 .left)) (one-alt (c .before .before .before .before .before .before .alt-place .ensures) _ (c .before .before .before .before .param-end .ensures) (c .before .before .before .before .before .if3 .left) (c .before .before .before .alt-place2 .ensures) (c .before .before .if5 .left)))
 
 pub tail-fault-spec : {M : Type 1} → statement M
 tail-fault-spec =

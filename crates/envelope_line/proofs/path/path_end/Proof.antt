@@ -22,12 +22,12 @@ enum-known-n-2 c = search needs
 -- src/path.rt:45:1
 returns : tie.Need-returns
 unfolding pathAt
-returns c = path-end-to _ _ _ (sym (c .before .n .given .1) ∙ c .before .before .before .path .ensures)
+returns c = path-end-to (c .before .before .before .before .before .args .mail) (c .before .before .before .before .before .args .line .now) _ (sym (c .before .n .given .1) ∙ c .before .before .before .path .ensures)
 
 -- src/path.rt:45:1
 returns-2 : tie.Need-returns-2
 unfolding pathAt
-returns-2 c = path-end-stop _ _ _ (sym (c .before .n2 .given .1) ∙ c .before .before .before .path .ensures)
+returns-2 c = path-end-stop (c .before .before .before .before .before .args .mail) (c .before .before .before .before .before .args .line .now) _ (sym (c .before .n2 .given .1) ∙ c .before .before .before .path .ensures)
 
 pub path-end-spec : {M : Type 1} → statement M
 path-end-spec = tie.close (tie.spec path-requires enum-known-n enum-known-n-2 returns returns-2)

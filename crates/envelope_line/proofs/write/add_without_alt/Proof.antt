@@ -31,7 +31,7 @@ same-length c = search needs
 
 -- src/write.rt:38:9
 returns : tie.Need-returns
-returns c = capped-same (c .before .before .before .part .ensures ∙ part-rest _ _ ∙ sym (without-none (c .before .before .before .before .before .before .alt-place .ensures) (c .before .before .before .before .before .if1 .taken))) (c .before .before .add-slice .ensures)
+returns c = capped-same (c .before .before .before .part .ensures ∙ part-rest (c .before .before .before .before .before .before .before .before .before .args .line .now) (c .before .before .before .before .before .before .before .before .before .args .from) ∙ sym (without-none (c .before .before .before .before .before .before .alt-place .ensures) (c .before .before .before .before .before .if1 .taken))) (c .before .before .add-slice .ensures)
 
 -- src/write.rt:40:43
 part-requires-2 : tie.Need-part-requires-2
