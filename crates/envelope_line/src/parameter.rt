@@ -6,9 +6,9 @@ ghost use Rattle.utf8.specs.Lists.{all};
 ghost use Rattle.utf8.specs.Run.{run};
 ghost use Rattle.envelope_line.specs.EnvelopeLine.{notSpace, params, spaced, isKeywordByte, keywordLen, value, isOrcpt as namesOrcpt, isAlt as namesAlt, isValueByte, isParam, orcptClean, orcptFault};
 ghost use Rattle.envelope_line.specs.ParameterLaws.{AltFrom};
+use crate::path::tail_start;
 use letter_case::same_any_case;
 use line::part;
-use crate::path::tail_start;
 
 // Whether a byte is a letter, a digit or a hyphen. Without branches.
 fn is_keyword_byte(b: u8) -> bool
@@ -125,7 +125,11 @@ pub(crate) fn param_end(line: &[u8], at: usize) -> usize
 pub(crate) fn is_spaced(line: &[u8], at: usize) -> bool
     ensures { λ r. ⌜ r ≡ spaced (drop at (now (line .entry))) ⌝ }
 {
-    if at < line.len() { line[at] == 32 } else { true }
+    if at < line.len() {
+        line[at] == 32
+    } else {
+        true
+    }
 }
 
 // Whether what stands after each space from a place on is a parameter.

@@ -4,9 +4,13 @@ ghost use lib.ListN.{drop};
 ghost use Rattle.buffer.specs.Buffer.{AppendedCapped};
 ghost use Rattle.address.specs.Xtext.{decoded};
 ghost use Rattle.envelope_line.specs.EnvelopeLine.{params, value, alt, withoutAlt, writtenLine, replacement};
+use crate::parameter::alt_place;
+use crate::parameter::param_end;
+use crate::parameter::value_start;
+use crate::path::path_end;
+use crate::path::path_start;
+use crate::path::tail_start;
 use line::part;
-use crate::parameter::{alt_place, param_end, value_start};
-use crate::path::{path_end, path_start, tail_start};
 
 // Writes a parameter's value, decoded.
 fn add_decoded(out: &mut [u8], at: usize, p: &[u8]) -> usize
@@ -38,7 +42,11 @@ fn add_without_alt(out: &mut [u8], at: usize, line: &[u8], from: usize) -> usize
         return buffer::add_slice(out, at, part(line, from, line.len()));
     }
     let next = buffer::add_slice(out, at, part(line, from, place));
-    buffer::add_slice(out, next, part(line, param_end(line, place + 1), line.len()))
+    buffer::add_slice(
+        out,
+        next,
+        part(line, param_end(line, place + 1), line.len()),
+    )
 }
 
 // Writes a line, its path replaced where that is not ASCII.

@@ -3,11 +3,18 @@ ghost use mathlib.Core.Path.{_≡_};
 ghost use lib.ListN.{drop};
 ghost use Rattle.envelope_line.specs.EnvelopeLine.{lineFault};
 ghost use Rattle.envelope_line.specs.FaultLaws.{onlyAltFault, tailFault};
+use crate::Fault;
+use crate::parameter::alt_place;
+use crate::parameter::are_params;
+use crate::parameter::is_spaced;
+use crate::parameter::keyword_len;
+use crate::parameter::param_end;
+use crate::parameter::value_start;
+use crate::path::has_verb;
+use crate::path::path;
+use crate::path::path_start;
 use address::Scan;
 use line::part;
-use crate::Fault;
-use crate::parameter::{alt_place, are_params, is_spaced, keyword_len, param_end, value_start};
-use crate::path::{has_verb, path, path_start};
 
 // The fault of a line whose parameters are well-formed and of which p is the only ALT-ADDRESS.
 fn only_alt_fault(p: &[u8], ascii: bool) -> Fault
@@ -69,5 +76,9 @@ pub fn line_fault(line: &[u8], mail: bool) -> Fault
     if line::byte_at(line, end) != b'>' {
         return Fault::Malformed;
     }
-    tail_fault(line, end + 1, address::is_ascii(part(line, path_start(mail), end)))
+    tail_fault(
+        line,
+        end + 1,
+        address::is_ascii(part(line, path_start(mail), end)),
+    )
 }
