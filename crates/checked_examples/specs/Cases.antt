@@ -124,4 +124,3 @@ cases =
     ∷ Case.taken (named 76)
     ∷ Case.refused (named 77) 0
     ∷ []
-

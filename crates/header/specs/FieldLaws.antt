@@ -14,15 +14,14 @@ use Rattle.utf8.specs.Lists.{cond-has, yes-true, true-yes, no-false, all, joine
 use Rattle.utf8.specs.Byte.{isAscii}
 use Rattle.utf8.specs.Run.{run, run-le, run-all}
 use Rattle.header_name.specs.Names.{kindOf}
-use Rattle.header.specs.Lines.{crlf, blank, nameByte, nameLen}
+use Rattle.header.specs.Lines.{blank, nameByte, nameLen}
+use Rattle.line.specs.Line.{crlf}
+use Rattle.line.specs.LineLaws.{notCr}
 use Rattle.header.specs.LineLaws.{crlf-inside}
 use Rattle.header.specs.Fields.{fold, fieldLen, fieldsAfter, fieldsOf, nameOf, valueOf, lineCount, isHeld, refused, heldFrom, heldOf}
 use Rattle.header.specs.declared.HeldField.the-variants.{Absent, At}
 
 -- ---- where a field ends
-
-unfoldable pub notCr : ℕ → Bool
-notCr b = not (eqb b 13)
 
 -- the CRLF that ends a field stands at the front
 unfoldable pub ends : List ℕ → Bool
@@ -41,7 +40,7 @@ unfolding fieldLen ends
 len-cons b rest = refl
 
 pub no-end : (b : ℕ) (rest : List ℕ) → T (notCr b) → ends (b ∷ rest) ≡ false
-unfolding notCr ends crlf
+unfolding ends crlf
 no-end b rest t = rw (no-false (eqb b 13) t)
 
 pub len-past : (a b : List ℕ) → T (all notCr a) → fieldLen (a ++ b) ≡ length a + fieldLen b

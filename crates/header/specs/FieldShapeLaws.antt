@@ -14,10 +14,12 @@ use Rattle.utf8.specs.Byte.{isAscii, within}
 use Rattle.utf8.specs.Run.{run, run-all, run-past}
 use Rattle.utf8.specs.Utf8.{utf8}
 use Rattle.utf8.specs.Utf8Laws.{utf8-right, utf8-append, utf8-ascii, utf8-cut}
-use Rattle.header.specs.Lines.{crlf, lineLen, lineByte, blank, nameByte, nameLen, named, continuation, wellFormed, lineOk, linesFrom, linesOf}
+use Rattle.header.specs.Lines.{lineByte, blank, nameByte, nameLen, named, continuation, wellFormed, lineOk, linesFrom, linesOf}
+use Rattle.line.specs.Line.{crlf, lineLen}
 use Rattle.header.specs.LineLaws.{crlf-inside, front-good, front-bad}
 use Rattle.header.specs.Fields.{fold, fieldLen, fieldsOf, nameOf, valueOf, unfoldedAfter, trimmed, textOf}
-use Rattle.header.specs.FieldLaws.{notCr, ends, len-cons, len-past, fields-nil, fields-front}
+use Rattle.header.specs.FieldLaws.{ends, len-cons, len-past, fields-nil, fields-front}
+use Rattle.line.specs.LineLaws.{notCr}
 use Rattle.header.specs.FieldShape.{piece, continued, folded, Shaped, Each, withoutBreaks}
 use Rattle.header.specs.declared.Lines.the-variants.{WellFormed, Malformed}
 
@@ -52,7 +54,7 @@ not-break b t =
     (λ u. by-test (eqb b 10) (λ v. absurd (rw (eqb→eq b 10 v) at t)) (λ v. rw (no-false (eqb b 13) u, no-false (eqb b 10) v)))
 
 pub line-not-cr : (b : ℕ) → T (lineByte b) → T (notCr b)
-unfolding notCr lineByte
+unfolding lineByte
 line-not-cr b t = by-test (eqb b 13) (λ u. absurd (rw (eqb→eq b 13 u) at t)) (λ u. u)
 
 -- the front of a folded value is that of its first line
@@ -337,7 +339,7 @@ fields-shaped (b ∷ rest) e =
 -- ---- the text
 
 unfold-past : (a b : List ℕ) → T (all lineByte a) → unfoldedAfter 0 (a ++ b) ≡ a ++ unfoldedAfter 0 b
-unfolding unfoldedAfter fold crlf notCr
+unfolding unfoldedAfter fold crlf
 unfold-past [] b t = refl
 unfold-past (x ∷ a) b t =
     let both = and-yes (lineByte x) (all lineByte a) t in

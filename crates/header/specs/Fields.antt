@@ -9,7 +9,8 @@ use Rattle.utf8.specs.Run.{run}
 use Rattle.header_name.specs.declared.Kind.{Kind}
 use Rattle.header_name.specs.declared.Kind.the-variants.{Address, PlainText, Held, Other}
 use Rattle.header_name.specs.Names.{kindOf}
-use Rattle.header.specs.Lines.{crlf, blank, nameLen}
+use Rattle.header.specs.Lines.{blank, nameLen}
+use Rattle.line.specs.Line.{crlf}
 use Rattle.header.specs.declared.HeldField.{HeldField}
 use Rattle.header.specs.declared.HeldField.the-variants.{Absent, At}
 

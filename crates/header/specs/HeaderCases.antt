@@ -8,8 +8,10 @@ use lib.ListN.{replicate}
 use Rattle.utf8.specs.Lists.{joined}
 use Rattle.utf8.specs.Run.{run}
 use Rattle.utf8.specs.Utf8.{leadingOnes, charLen, charsAfter, chars, isChar, secondLow, secondHigh, utf8}
-use Rattle.header_name.specs.Names.{bytes, lower, sameName, six, addressNames, plainTextNames, heldNames, among, kindOf}
-use Rattle.header.specs.Lines.{crlf, lineLen, lineByte, blank, nameByte, nameLen, named, continuation, wellFormed, lineOk, linesFrom, linesOf}
+use Rattle.header_name.specs.Names.{six, addressNames, plainTextNames, heldNames, among, kindOf}
+use Rattle.letter_case.specs.LetterCase.{bytes, lower, sameAnyCase}
+use Rattle.header.specs.Lines.{lineByte, blank, nameByte, nameLen, named, continuation, wellFormed, lineOk, linesFrom, linesOf}
+use Rattle.line.specs.Line.{crlf, lineLen}
 use Rattle.header.specs.Fields.{fold, fieldLen, fieldsAfter, fieldsOf, nameOf, valueOf, unfoldedAfter, trimmed, textOf, lineCount, isHeld, refused, heldFrom, heldOf}
 use Rattle.header.specs.declared.Lines.{Lines}
 use Rattle.header.specs.declared.Lines.the-variants.{WellFormed, Malformed}
@@ -89,5 +91,5 @@ fieldCases =
     ∷ []
 
 pub field-cases-right : AllRight fieldCases
-unfolding bytes run crlf blank nameByte nameLen fold fieldLen fieldsAfter fieldsOf nameOf valueOf unfoldedAfter trimmed textOf lineCount isHeld refused heldFrom heldOf lower sameName six addressNames plainTextNames heldNames among kindOf
+unfolding bytes run crlf blank nameByte nameLen fold fieldLen fieldsAfter fieldsOf nameOf valueOf unfoldedAfter trimmed textOf lineCount isHeld refused heldFrom heldOf lower sameAnyCase six addressNames plainTextNames heldNames among kindOf
 field-cases-right = (refl, (refl, (refl, (refl, (refl, (refl, (refl, (refl, tt))))))))

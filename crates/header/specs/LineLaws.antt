@@ -17,7 +17,8 @@ use Rattle.utf8.specs.Run.{run, run-le, run-all, run-step}
 use Rattle.utf8.specs.Utf8.{charLen, isChar, charAt, utf8}
 use Rattle.utf8.specs.Utf8Laws.{char-len-some, char-high, utf8-right, utf8-ascii, utf8-char, utf8-of}
 use Rattle.utf8.specs.Utf8At.{whole-char, char-at-some, char-at-within, utf8-stop}
-use Rattle.header.specs.Lines.{crlf, lineLen, lineByte, blank, nameByte, nameLen, named, continuation, wellFormed, lineOk, linesFrom, linesOf}
+use Rattle.header.specs.Lines.{lineByte, blank, nameByte, nameLen, named, continuation, wellFormed, lineOk, linesFrom, linesOf}
+use Rattle.line.specs.Line.{crlf, lineLen}
 use Rattle.header.specs.declared.Lines.the-variants.{WellFormed, Malformed}
 
 -- ---- the text of a line

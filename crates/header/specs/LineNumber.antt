@@ -9,15 +9,15 @@ use lib.ListN.{length, take}
 use lib.Seq.{take-append-add}
 use mir.Facts.{and-yes, leb-yes, leb-no}
 use Rattle.utf8.specs.Lists.{by-test, no-false, all}
-use Rattle.header.specs.Lines.{crlf, lineByte, lineOk, linesFrom, linesOf}
+use Rattle.header.specs.Lines.{lineByte, lineOk, linesFrom, linesOf}
+use Rattle.line.specs.Line.{crlf}
 use Rattle.header.specs.LineLaws.{front-bad}
 use Rattle.header.specs.Fields.{lineCount}
-use Rattle.header.specs.FieldLaws.{notCr}
 use Rattle.header.specs.FieldShapeLaws.{Cut, cut-line, well-piece, piece-bytes, line-not-cr}
 use Rattle.header.specs.declared.Lines.the-variants.{WellFormed, Malformed}
 
 count-past : (a b : List ℕ) → T (all lineByte a) → lineCount (a ++ b) ≡ lineCount b
-unfolding lineCount crlf notCr
+unfolding lineCount crlf
 count-past [] b t = refl
 count-past (x ∷ a) b t =
     let both = and-yes (lineByte x) (all lineByte a) t in

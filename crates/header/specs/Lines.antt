@@ -8,17 +8,9 @@ use Rattle.utf8.specs.Lists.{all}
 use Rattle.utf8.specs.Byte.{within}
 use Rattle.utf8.specs.Run.{run}
 use Rattle.utf8.specs.Utf8.{utf8}
+use Rattle.line.specs.Line.{crlf, lineLen}
 use Rattle.header.specs.declared.Lines.{Lines}
 use Rattle.header.specs.declared.Lines.the-variants.{WellFormed, Malformed}
-
--- CRLF stands at the front
-unfoldable pub crlf : List ℕ → Bool
-crlf h = eqb (getD h 0 0) 13 && eqb (getD h 1 0) 10
-
--- how many bytes stand before the first CRLF; all bytes where there is none
-unfoldable pub lineLen : List ℕ → ℕ
-lineLen [] = 0
-lineLen (b ∷ rest) = cond (crlf (b ∷ rest)) 0 (suc (lineLen rest))
 
 -- "holds no NUL, lone CR or lone LF": a line is cut at its first CRLF, so each CR and LF in it is a lone one
 unfoldable pub lineByte : ℕ → Bool

@@ -1,6 +1,6 @@
 // The lines and fields of a header section.
+pub mod checking;
 pub mod field;
-pub mod line;
 
 ghost use mathlib.Core.Path.{_≡_};
 ghost use Rattle.header.specs.Lines.{linesOf};
@@ -25,7 +25,7 @@ pub fn check(h: &[u8]) -> Lines
     let mut at: usize = 0;
     let mut n: usize = 0;
     while at < h.len() {
-        let next = line::line_end(h, at, n == 0);
+        let next = checking::line_end(h, at, n == 0);
         if next == at {
             return Lines::Malformed(n, at);
         }

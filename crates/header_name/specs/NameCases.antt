@@ -3,7 +3,8 @@ use mathlib.Core.Path.{_≡_, refl}
 use mathlib.Core.List.{List, [], _∷_, map}
 use Prim.Native.String.{String}
 use lib.ListN.{length}
-use Rattle.header_name.specs.Names.{bytes, lower, sameName, six, addressNames, plainTextNames, heldNames, among, kindOf}
+use Rattle.header_name.specs.Names.{six, addressNames, plainTextNames, heldNames, among, kindOf}
+use Rattle.letter_case.specs.LetterCase.{bytes, lower, sameAnyCase}
 use Rattle.header_name.specs.declared.Kind.{Kind}
 use Rattle.header_name.specs.declared.Kind.the-variants.{Address, PlainText, Held, Other}
 
@@ -13,20 +14,20 @@ kindsOf names = map (λ name. kindOf (bytes name)) names
 
 address : kindsOf ("From" ∷ "to" ∷ "BCC" ∷ "rEPLY-tO" ∷ "Resent-Cc" ∷ "RESENT-SENDER" ∷ "return-path" ∷ "Disposition-notification-to" ∷ [])
     ≡ Address ∷ Address ∷ Address ∷ Address ∷ Address ∷ Address ∷ Address ∷ Address ∷ []
-unfolding bytes lower sameName six addressNames plainTextNames heldNames among kindOf
+unfolding bytes lower sameAnyCase six addressNames plainTextNames heldNames among kindOf
 address = refl
 
 plain-text : kindsOf ("subject" ∷ "COMMENTS" ∷ "Content-description" ∷ []) ≡ PlainText ∷ PlainText ∷ PlainText ∷ []
-unfolding bytes lower sameName six addressNames plainTextNames heldNames among kindOf
+unfolding bytes lower sameAnyCase six addressNames plainTextNames heldNames among kindOf
 plain-text = refl
 
 held : kindsOf ("received" ∷ "DATE" ∷ "resent-date" ∷ "message-id" ∷ "Mime-version" ∷ "content-ID" ∷ "keyWords" ∷ []) ≡ Held ∷ Held ∷ Held ∷ Held ∷ Held ∷ Held ∷ Held ∷ []
-unfolding bytes lower sameName six addressNames plainTextNames heldNames among kindOf
+unfolding bytes lower sameAnyCase six addressNames plainTextNames heldNames among kindOf
 held = refl
 
 -- a part of a name, a longer one, one with a space, and one that lies 32 beside `-`
 other : kindsOf ("Fro" ∷ "From1" ∷ "Date " ∷ "X-Note" ∷ "Resent-Subject" ∷ "Resent-Keywords" ∷ "Reply\rTo" ∷ "" ∷ []) ≡ Other ∷ Other ∷ Other ∷ Other ∷ Other ∷ Other ∷ Other ∷ Other ∷ []
-unfolding bytes lower sameName six addressNames plainTextNames heldNames among kindOf
+unfolding bytes lower sameAnyCase six addressNames plainTextNames heldNames among kindOf
 other = refl
 
 -- 14, 3 and 15 names: 32 in all

@@ -7,7 +7,8 @@ use lib.ListN.{length}
 use Rattle.utf8.specs.Lists.{joined}
 use Rattle.header_name.specs.declared.Kind.{Kind}
 use Rattle.header_name.specs.declared.Kind.the-variants.{Address, PlainText, Held, Other}
-use Rattle.header_name.specs.Names.{bytes, six, sameName, addressNames, plainTextNames, heldNames}
+use Rattle.header_name.specs.Names.{six, addressNames, plainTextNames, heldNames}
+use Rattle.letter_case.specs.LetterCase.{bytes, sameAnyCase}
 
 -- a name, and the letter that stands for its kind: A address, P plain text, H held
 pub record Entry : Type 0 where
@@ -26,7 +27,7 @@ entries = map (entry 65) addressNames ++ (map (entry 80) plainTextNames ++ map (
 -- the kind of the first entry with that name
 unfoldable pub kindIn : List Entry → List ℕ → Kind
 kindIn [] name = Other
-kindIn (e ∷ es) name = cond (sameName (e .name) name) (lettered (e .kind)) (kindIn es name)
+kindIn (e ∷ es) name = cond (sameAnyCase (e .name) name) (lettered (e .kind)) (kindIn es name)
 
 -- where each name starts in the names joined, and where the last one ends
 unfoldable pub startsFrom : ℕ → List Entry → List ℕ

@@ -1,19 +1,19 @@
--- Laws of the table: it gives the kind of each name; its lists agree at each entry; names compared byte by byte. Assumes nothing.
-use mathlib.Core.Path.{_≡_, refl, ap, sym, _∙_}
-use mathlib.Core.Bool.{Bool, true, false, cond, _&&_, and-false}
+-- Laws of the table: it gives the kind of each name; its lists agree at each entry. Assumes nothing.
+use mathlib.Core.Path.{_≡_, refl, sym, _∙_}
+use mathlib.Core.Bool.{Bool, true, false, cond, _&&_}
 use mathlib.Core.List.{List, [], _∷_, _++_, map, append-nil}
-use Prim.Native.Nat.{ℕ, suc, _+_, _-_, _≤_, _<_}
+use Prim.Native.Nat.{ℕ, _+_, _-_, _≤_, _<_}
 use native.Mathlib.Numerals.{add-one}
 use native.Mathlib.Omega.{arith}
 use lib.Dec.{T, leb, eqb, leb→le, eqb→eq}
 use lib.ListN.{length, take, drop, getD, drop-of-length-le}
 use lib.Seq.{drop-cons}
-use borrow.Author.Tests.{eq-eqb, ne-eqb}
 use mir.Facts.{and-yes}
 use Rattle.utf8.specs.Lists.{by-test, yes-true, no-false}
 use Rattle.utf8.specs.Byte.{below}
 use Rattle.header_name.specs.declared.Kind.the-variants.{Held, Other}
-use Rattle.header_name.specs.Names.{bytes, six, lower, sameName, addressNames, plainTextNames, heldNames, among, kindOf}
+use Rattle.header_name.specs.Names.{six, addressNames, plainTextNames, heldNames, among, kindOf}
+use Rattle.letter_case.specs.LetterCase.{bytes, sameAnyCase}
 use Rattle.header_name.specs.NameTable.{Entry, entry, lettered, entries, kindIn, startsFrom, starts, names, kinds}
 
 -- ---- the table gives the kind of each name
@@ -23,7 +23,7 @@ kind-part : (k : ℕ) (group : List (List ℕ)) (es : List Entry) (name : List �
 unfolding kindIn among
 kind-part k [] es name = refl
 kind-part k (n ∷ group) es name =
-    by-test (sameName n name) (λ t. rw (yes-true (sameName n name) t)) (λ t. rw (no-false (sameName n name) t) (kind-part k group es name))
+    by-test (sameAnyCase n name) (λ t. rw (yes-true (sameAnyCase n name) t)) (λ t. rw (no-false (sameAnyCase n name) t) (kind-part k group es name))
 
 pub kind-table : (name : List ℕ) → kindOf name ≡ kindIn entries name
 unfolding kindOf entries kindIn lettered
@@ -122,36 +122,14 @@ module _ {ns ss ks : List ℕ} {k : ℕ} (r : Row ns ss ks k) (h : k < 32) where
   abbrev part : List ℕ
   part = take (getD ss (k + 1) 0 - getD ss k 0) (drop (getD ss k 0) ns)
 
-  pub sought-found : {name : List ℕ} → sameName part name ≡ true → Sought name k → lettered (getD ks k 0) ≡ kindOf name
+  pub sought-found : {name : List ℕ} → sameAnyCase part name ≡ true → Sought name k → lettered (getD ks k 0) ≡ kindOf name
   unfolding kindIn
   sought-found {name} e s =
-      let same : sameName (getD entries k none .name) name ≡ true = rw (r .name) at e in
+      let same : sameAnyCase (getD entries k none .name) name ≡ true = rw (r .name) at e in
       sym (s .left ∙ rw (drop-cons entries k none (rw count h), same, r .kind))
 
-  pub sought-next : {name : List ℕ} → sameName part name ≡ false → Sought name k → Sought name (k + 1)
+  pub sought-next : {name : List ℕ} → sameAnyCase part name ≡ false → Sought name k → Sought name (k + 1)
   unfolding kindIn
   sought-next {name} e s =
-      let same : sameName (getD entries k none .name) name ≡ false = rw (r .name) at e in
+      let same : sameAnyCase (getD entries k none .name) name ≡ false = rw (r .name) at e in
       record { left = s .left ∙ rw (add-one, drop-cons entries k none (rw count h), same) }
-
--- ---- names compared byte by byte
-
-pub other-length : (xs ys : List ℕ) → (length xs ≡ length ys → ⊥) → sameName xs ys ≡ false
-unfolding sameName
-other-length [] [] h = absurd (h refl)
-other-length [] (y ∷ ys) h = refl
-other-length (x ∷ xs) [] h = refl
-other-length (x ∷ xs) (y ∷ ys) h = rw (other-length xs ys (λ e. h (ap suc e)), and-false)
-
-module _ (xs ys : List ℕ) (i : ℕ) where
-  pub other-byte : i < length xs → i < length ys → (lower (getD xs i 0) ≡ lower (getD ys i 0) → ⊥) → sameName (drop i xs) (drop i ys) ≡ false
-  unfolding sameName
-  other-byte h k e = rw (drop-cons xs i 0 h, drop-cons ys i 0 k, ne-eqb _ _ e)
-
-  pub same-byte : i < length xs → i < length ys → lower (getD xs i 0) ≡ lower (getD ys i 0) → sameName (drop i xs) (drop i ys) ≡ sameName (drop (i + 1) xs) (drop (i + 1) ys)
-  unfolding sameName
-  same-byte h k e = rw (add-one, drop-cons xs i 0 h, drop-cons ys i 0 k, eq-eqb _ _ e)
-
-  pub same-end : length xs ≤ i → length ys ≤ i → sameName (drop i xs) (drop i ys) ≡ true
-  unfolding sameName
-  same-end h k = rw (drop-of-length-le xs {i = i} h, drop-of-length-le ys {i = i} k)

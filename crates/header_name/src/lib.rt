@@ -1,7 +1,7 @@
 // The names of fields: a constant table of the 32 named fields with their kinds, in which names are looked up without regard to
 // letter case.
 ghost use mathlib.Core.Path.{_≡_};
-ghost use Rattle.header_name.specs.Names.{lower as lowered, sameName, kindOf};
+ghost use Rattle.header_name.specs.Names.{kindOf};
 ghost use Rattle.header_name.specs.NameTable.{lettered as kindLettered, starts as startsList, names as namesList, kinds as kindsList};
 
 // What becomes of a field with non-ASCII in its value, by its name.
@@ -68,30 +68,6 @@ const STARTS: [usize; 33] = [
     354,
 ];
 
-// A capital letter's small one; any other byte itself.
-fn lower(b: u8) -> u8
-    ensures { λ r. ⌜ r ≡ lowered b ⌝ }
-{
-    if (65 <= b) & (b <= 90) { b + 32 } else { b }
-}
-
-// Whether two names are the same without regard to letter case.
-pub fn same_name(a: &[u8], b: &[u8]) -> bool
-    ensures { λ r. ⌜ r ≡ sameName (now (a .entry)) (now (b .entry)) ⌝ }
-{
-    if a.len() != b.len() {
-        return false;
-    }
-    let mut i = 0;
-    while i < a.len() {
-        if lower(a[i]) != lower(b[i]) {
-            return false;
-        }
-        i += 1;
-    }
-    true
-}
-
 // The kind that a letter of the table stands for.
 fn lettered(k: u8) -> Kind
     ensures { λ r. ⌜ r ≡ kindLettered k ⌝ }
@@ -117,7 +93,7 @@ fn kind_in(names: &[u8], starts: &[usize], kinds: &[u8], name: &[u8]) -> Kind
     while k < 32 {
         let a = starts[k];
         let e = starts[k + 1];
-        if same_name(&names[a..e], name) {
+        if letter_case::same_any_case(&names[a..e], name) {
             return lettered(kinds[k]);
         }
         k += 1;

@@ -1,12 +1,12 @@
 -- Laws of lines: by position, as code goes from CR to CR. Assumes nothing.
-use mathlib.Core.Path.{_≡_, refl, ap, sym, _∙_}
-use mathlib.Core.Bool.{Bool, true, false, not, cond, _&&_, and-false}
+use mathlib.Core.Path.{_≡_, refl}
+use mathlib.Core.Bool.{Bool, true, false, not, _&&_, and-false}
 use mathlib.Core.List.{List, [], _∷_}
 use Prim.Native.Nat.{ℕ, suc, _+_, _-_, _≤_, _<_, min}
-use native.Mathlib.Nat.{add-zero, not-suc-le-zero}
+use native.Mathlib.Nat.{add-zero}
 use native.Mathlib.Numerals.{add-one}
 use native.Mathlib.Omega.{arith}
-use lib.Dec.{leb, ltb, eqb, T, eqb→eq}
+use lib.Dec.{leb, ltb, eqb, eqb→eq}
 use lib.ListN.{length, take, drop, getD, length-drop, drop-of-length-le}
 use lib.Seq.{take-all, take-nil, drop-cons, drop-drop, getD-drop}
 use borrow.Author.Tests.{not-false}
@@ -20,12 +20,12 @@ abbrev pub notCr : ℕ → Bool
 notCr b = not (eqb b 13)
 
 -- how many bytes stand before the first CR
-unfoldable pub crRun : List ℕ → ℕ
+abbrev pub crRun : List ℕ → ℕ
 crRun s = run notCr s
 
 -- no CRLF stands before the first CR
 pub line-cr : (s : List ℕ) → lineLen s ≡ crRun s + lineLen (drop (crRun s) s)
-unfolding lineLen crlf crRun run
+unfolding lineLen crlf run
 line-cr [] = refl
 line-cr (b ∷ s) =
     by-test (eqb b 13) (λ t. here (crRun (b ∷ s)) (rw (yes-true (eqb b 13) t)))
@@ -54,7 +54,6 @@ module _ (s : List ℕ) (i : ℕ) where
 
   -- the byte there
   pub cr-there : (r : ℕ) → r ≡ i + crRun (drop i s) → r < length s → getD s r 0 ≡ 13
-  unfolding crRun
   cr-there r e h =
       let n = run notCr (drop i s) in
       let k : n < length (drop i s) = rw length-drop (omega arith) in

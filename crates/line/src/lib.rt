@@ -51,11 +51,13 @@ fn no_cr_blocks(s: &[u8], at: usize) -> usize
     i
 }
 
-// The place of the first CR from `at` on; the length where there is none.
-fn next_cr(s: &[u8], at: usize) -> usize
-    requires { ⌜ at ≤ length (now s) ⌝ }
+// The place of the first CR from `at` on; where there is none, the length, or `at` where that lies past it.
+pub fn next_cr(s: &[u8], at: usize) -> usize
     ensures { λ r. ⌜ r ≡ at + crRun (drop at (now (s .entry))) ⌝ }
 {
+    if s.len() <= at {
+        return at;
+    }
     let mut i = no_cr_blocks(s, at);
     while i < s.len() {
         if s[i] == 13 {

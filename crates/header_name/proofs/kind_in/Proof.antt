@@ -30,17 +30,17 @@ mul-e c = omega arith
 shared-slice-read-e : tie.Need-shared-slice-read-e Inv-loop μ-loop
 shared-slice-read-e c = omega (arith, row _ _ _ _ (c .before .before .before .before .before .before .before .before .pre .0) (c .before .before .before .before .before .before .before .before .pre .1) (c .before .before .before .before .before .before .before .before .pre .2) (c .before .before .loop-test .taken) .start)
 
-sub-same-name : tie.Need-sub-same-name Inv-loop μ-loop
-sub-same-name c = row _ _ _ _ (c .before .before .before .before .before .before .before .before .pre .0) (c .before .before .before .before .before .before .before .before .pre .1) (c .before .before .before .before .before .before .before .before .pre .2) (c .before .before .loop-test .taken) .up
+sub-same-any-case : tie.Need-sub-same-any-case Inv-loop μ-loop
+sub-same-any-case c = row _ _ _ _ (c .before .before .before .before .before .before .before .before .pre .0) (c .before .before .before .before .before .before .before .before .pre .1) (c .before .before .before .before .before .before .before .before .pre .2) (c .before .before .loop-test .taken) .up
 
-part-same-name-start : tie.Need-part-same-name-start Inv-loop μ-loop
-part-same-name-start c = row _ _ _ _ (c .before .before .before .before .before .before .before .before .pre .0) (c .before .before .before .before .before .before .before .before .pre .1) (c .before .before .before .before .before .before .before .before .pre .2) (c .before .before .loop-test .taken) .up
+part-same-any-case-start : tie.Need-part-same-any-case-start Inv-loop μ-loop
+part-same-any-case-start c = row _ _ _ _ (c .before .before .before .before .before .before .before .before .pre .0) (c .before .before .before .before .before .before .before .before .pre .1) (c .before .before .before .before .before .before .before .before .pre .2) (c .before .before .loop-test .taken) .up
 
-part-same-name-end : tie.Need-part-same-name-end Inv-loop μ-loop
-part-same-name-end c = row _ _ _ _ (c .before .before .before .before .before .before .before .before .pre .0) (c .before .before .before .before .before .before .before .before .pre .1) (c .before .before .before .before .before .before .before .before .pre .2) (c .before .before .loop-test .taken) .inside
+part-same-any-case-end : tie.Need-part-same-any-case-end Inv-loop μ-loop
+part-same-any-case-end c = row _ _ _ _ (c .before .before .before .before .before .before .before .before .pre .0) (c .before .before .before .before .before .before .before .before .pre .1) (c .before .before .before .before .before .before .before .before .pre .2) (c .before .before .loop-test .taken) .inside
 
-same-name-requires : tie.Need-same-name-requires Inv-loop μ-loop
-same-name-requires c κs = search needs
+same-any-case-requires : tie.Need-same-any-case-requires Inv-loop μ-loop
+same-any-case-requires c κs = search needs
 
 shared-slice-read-lettered : tie.Need-shared-slice-read-lettered Inv-loop μ-loop
 shared-slice-read-lettered c = row _ _ _ _ (c .before .before .before .before .before .before .before .before .before .before .before .before .pre .0) (c .before .before .before .before .before .before .before .before .before .before .before .before .pre .1) (c .before .before .before .before .before .before .before .before .before .before .before .before .pre .2) (c .before .before .before .before .before .before .loop-test .taken) .kind-there
@@ -49,7 +49,7 @@ lettered-requires : tie.Need-lettered-requires Inv-loop μ-loop
 lettered-requires c κs = search needs
 
 returns : tie.Need-returns Inv-loop μ-loop
-returns c = c .lettered .ensures ∙ sought-found (row _ _ _ _ (c .before .before .before .before .before .before .before .before .before .before .before .before .before .pre .0) (c .before .before .before .before .before .before .before .before .before .before .before .before .before .pre .1) (c .before .before .before .before .before .before .before .before .before .before .before .before .before .pre .2) (c .before .before .before .before .before .before .before .loop-test .taken)) (c .before .before .before .before .before .before .before .loop-test .taken) (sym (c .before .before .before .same-name .ensures) ∙ c .before .before .if1 .taken) (c .before .before .before .before .before .before .before .before .loop .inv)
+returns c = c .lettered .ensures ∙ sought-found (row _ _ _ _ (c .before .before .before .before .before .before .before .before .before .before .before .before .before .pre .0) (c .before .before .before .before .before .before .before .before .before .before .before .before .before .pre .1) (c .before .before .before .before .before .before .before .before .before .before .before .before .before .pre .2) (c .before .before .before .before .before .before .before .loop-test .taken)) (c .before .before .before .before .before .before .before .loop-test .taken) (sym (c .before .before .before .same-any-case .ensures) ∙ c .before .before .if1 .taken) (c .before .before .before .before .before .before .before .before .loop .inv)
 
 add-k : tie.Need-add-k Inv-loop μ-loop
 add-k c = omega arith
@@ -58,7 +58,7 @@ loop-less : tie.Need-loop-less Inv-loop μ-loop
 loop-less c = omega arith
 
 loop-again : tie.Need-loop-again Inv-loop μ-loop
-loop-again c = sought-next (row _ _ _ _ (c .before .before .before .before .before .before .before .before .before .before .before .pre .0) (c .before .before .before .before .before .before .before .before .before .before .before .pre .1) (c .before .before .before .before .before .before .before .before .before .before .before .pre .2) (c .before .before .before .before .before .loop-test .taken)) (c .before .before .before .before .before .loop-test .taken) (sym (c .before .same-name .ensures) ∙ c .if1 .left) (c .before .before .before .before .before .before .loop .inv)
+loop-again c = sought-next (row _ _ _ _ (c .before .before .before .before .before .before .before .before .before .before .before .pre .0) (c .before .before .before .before .before .before .before .before .before .before .before .pre .1) (c .before .before .before .before .before .before .before .before .before .before .before .pre .2) (c .before .before .before .before .before .loop-test .taken)) (c .before .before .before .before .before .loop-test .taken) (sym (c .before .same-any-case .ensures) ∙ c .if1 .left) (c .before .before .before .before .before .before .loop .inv)
 
 returns-2 : tie.Need-returns-2 Inv-loop μ-loop
 returns-2 c = sought-end (c .loop-test .left) (c .before .loop .inv)
@@ -75,10 +75,10 @@ kind-in-spec =
     add-e
     mul-e
     shared-slice-read-e
-    sub-same-name
-    part-same-name-start
-    part-same-name-end
-    same-name-requires
+    sub-same-any-case
+    part-same-any-case-start
+    part-same-any-case-end
+    same-any-case-requires
     shared-slice-read-lettered
     lettered-requires
     returns

@@ -25,7 +25,7 @@ returns c = sym (line-past _ _ (c .if1 .taken))
 
 -- src/lib.rt:67:9
 next-cr-requires : tie.Need-next-cr-requires Inv-loop μ-loop
-next-cr-requires c κs = omega arith
+next-cr-requires c κs = search needs
 
 -- src/lib.rt:68:5
 loop-holds : tie.Need-loop-holds Inv-loop μ-loop
@@ -45,7 +45,7 @@ returns-2 c = sym (c .before .before .before .loop .inv .0 ∙ line-here _ _ (c 
 
 -- src/lib.rt:73:9
 next-cr-requires-2 : tie.Need-next-cr-requires-2 Inv-loop μ-loop
-next-cr-requires-2 c κs = omega arith
+next-cr-requires-2 c κs = search needs
 
 -- src/lib.rt:68:5
 loop-less : tie.Need-loop-less Inv-loop μ-loop

@@ -1,10 +1,10 @@
-use native.Mathlib.Omega.{arith}
-use Prim.Native.Nat.{_+_, _-_}
-use mathlib.Core.Path.{_≡_, sym, _∙_}
-use lib.ListN.{length, drop}
-use borrow.Author.Tests.{eq-eqb, ne-eqb}
-use Rattle.utf8.specs.Run.{run-step, run-stop, run-end}
 use Rattle.line.specs.LineLaws.{notCr, crRun}
+use Rattle.utf8.specs.Run.{run-step, run-stop, run-end}
+use borrow.Author.Tests.{eq-eqb, ne-eqb}
+use lib.ListN.{length, drop}
+use mathlib.Core.Path.{_≡_, sym, _∙_}
+use Prim.Native.Nat.{_+_, _-_}
+use native.Mathlib.Omega.{arith}
 use Rattle.line.proofs.next_cr.Statement.{statement}
 use Rattle.line.proofs.next_cr.Tie as tie
 use Rattle.line.proofs.next_cr.Reads as reads
@@ -17,40 +17,41 @@ Inv-loop s at i₀ i = at + crRun (drop at s) ≡ i + crRun (drop i s)
 abbrev μ-loop : tie.MeasureT-loop
 μ-loop s at i₀ i = length s - i
 
--- src/lib.rt:44:9
+-- src/lib.rt:59:9
+returns : tie.Need-returns Inv-loop μ-loop
+returns c = sym (run-end notCr _ _ (c .if1 .taken))
+
+-- src/lib.rt:61:9
 no-cr-blocks-requires : tie.Need-no-cr-blocks-requires Inv-loop μ-loop
 no-cr-blocks-requires c κs = omega arith
 
--- src/lib.rt:45:5
+-- src/lib.rt:62:5
 loop-holds : tie.Need-loop-holds Inv-loop μ-loop
 loop-holds c = c .no-cr-blocks .ensures .1
 
--- src/lib.rt:46:12
-shared-slice-read-if1 : tie.Need-shared-slice-read-if1 Inv-loop μ-loop
-shared-slice-read-if1 c = omega arith
+-- src/lib.rt:63:12
+shared-slice-read-if2 : tie.Need-shared-slice-read-if2 Inv-loop μ-loop
+shared-slice-read-if2 c = omega arith
 
--- src/lib.rt:47:13
-returns : tie.Need-returns Inv-loop μ-loop
-unfolding crRun
-returns c = sym (c .before .before .before .loop .inv ∙ run-stop notCr _ _ (c .before .before .loop-test .taken) (rw (eq-eqb _ _ (c .if1 .taken))))
+-- src/lib.rt:64:13
+returns-2 : tie.Need-returns-2 Inv-loop μ-loop
+returns-2 c = sym (c .before .before .before .loop .inv ∙ run-stop notCr _ _ (c .before .before .loop-test .taken) (rw (eq-eqb _ _ (c .if2 .taken))))
 
--- src/lib.rt:49:9
+-- src/lib.rt:66:9
 add-i : tie.Need-add-i Inv-loop μ-loop
 add-i c = omega arith
 
--- src/lib.rt:45:5
+-- src/lib.rt:62:5
 loop-less : tie.Need-loop-less Inv-loop μ-loop
 loop-less c = omega arith
 
--- src/lib.rt:45:5
+-- src/lib.rt:62:5
 loop-again : tie.Need-loop-again Inv-loop μ-loop
-unfolding crRun
-loop-again c = c .before .before .before .loop .inv ∙ run-step notCr _ _ (c .before .before .loop-test .taken) (rw (ne-eqb _ _ (c .if1 .left)))
+loop-again c = c .before .before .before .loop .inv ∙ run-step notCr _ _ (c .before .before .loop-test .taken) (rw (ne-eqb _ _ (c .if2 .left)))
 
--- src/lib.rt:40:1
-returns-2 : tie.Need-returns-2 Inv-loop μ-loop
-unfolding crRun
-returns-2 c = sym (c .before .loop .inv ∙ run-end notCr _ _ (c .loop-test .left))
+-- src/lib.rt:55:1
+returns-3 : tie.Need-returns-3 Inv-loop μ-loop
+returns-3 c = sym (c .before .loop .inv ∙ run-end notCr _ _ (c .loop-test .left))
 
 pub next-cr-spec : {M : Type 1} → statement M
 next-cr-spec =
@@ -58,11 +59,12 @@ next-cr-spec =
     (tie.spec
     Inv-loop
     μ-loop
+    returns
     no-cr-blocks-requires
     loop-holds
-    shared-slice-read-if1
-    returns
+    shared-slice-read-if2
+    returns-2
     add-i
     loop-less
     loop-again
-    returns-2)
+    returns-3)

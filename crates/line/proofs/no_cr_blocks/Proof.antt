@@ -33,7 +33,6 @@ loop-less : tie.Need-loop-less Inv-loop μ-loop
 loop-less c = omega arith
 
 loop-again : tie.Need-loop-again Inv-loop μ-loop
-unfolding crRun
 loop-again c = (omega arith, c .before .before .before .loop .inv .1 ∙ run-block notCr _ _ 32 (omega arith) (sym (c .before .no-cr32 .ensures) ∙ not-false _ (c .if1 .left)))
 
 returns-2 : tie.Need-returns-2 Inv-loop μ-loop
