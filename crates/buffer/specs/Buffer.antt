@@ -29,7 +29,7 @@ abbrev pub greatest : ℕ
 greatest = 18446744073709551615
 
 -- The same for every place: a place after the text that no usize holds is answered as the greatest.
-pub record Added (text : List ℕ) (at : ℕ) (before after : List ℕ) (next : ℕ) : Type 0 where
+pub record AppendedCapped (text : List ℕ) (at : ℕ) (before after : List ℕ) (next : ℕ) : Type 0 where
   pub place : next ≡ min (at + length text) greatest
   pub bytes : after ≡ overlayAt at text before
 

@@ -2,12 +2,12 @@
 use mathlib.Core.Path.{_≡_, refl, ap, sym, _∙_}
 use mathlib.Core.List.{List, [], _∷_, _++_, append-nil, append-assoc}
 use Prim.Native.Nat.{ℕ, zero, suc, _+_, _-_, _≤_, _<_, min}
-use native.Mathlib.Nat.{not-suc-le-zero, le-of-suc-le-suc, suc-add, zero-add}
+use native.Mathlib.Nat.{not-suc-le-zero, le-of-suc-le-suc, suc-add}
 use native.Mathlib.Numerals.{unary-clauses, add-one}
 use native.Mathlib.Omega.{arith}
 use lib.ListN.{length, take, drop, set, getD, length-drop, drop-of-length-le, length-append, length-take, take-append-drop}
 use lib.Seq.{take-all, take-nil, drop-nil}
-use Rattle.buffer.specs.Buffer.{overlay, overlayAt, Wrote, Appended, Added, greatest, Reached}
+use Rattle.buffer.specs.Buffer.{overlay, overlayAt, Wrote, Appended, AppendedCapped, greatest, Reached}
 
 -- ---- text over the front
 
@@ -163,14 +163,14 @@ module _ (text before last : List ℕ) (at a : ℕ) (ha : a ≡ min at (length b
   appended-by w = record { place = rw (w .size); bytes = lent (w .bytes) }
 
   pub added-by : {r s : ℕ} → Wrote text (take (length before - a) (drop a before)) last r → s ≡ min (at + r) greatest
-      → Added text at before (take a before ++ (last ++ drop (length before - a) (drop a before))) s
+      → AppendedCapped text at before (take a before ++ (last ++ drop (length before - a) (drop a before))) s
   added-by w e = record { place = rw (← w .size) e; bytes = lent (w .bytes) }
 
-pub length-added : {text before after : List ℕ} {at r : ℕ} → Added text at before after r → length after ≡ length before
+pub length-added : {text before after : List ℕ} {at r : ℕ} → AppendedCapped text at before after r → length after ≡ length before
 length-added {text} {before} {after} {at} {r} a = rw (a .bytes) (length-overlay-at at text before)
 
 -- where the place after the text is a usize
-pub appended-of : {text before after : List ℕ} {at r : ℕ} → Added text at before after r → at + length text ≤ greatest → Appended text at before after r
+pub appended-of : {text before after : List ℕ} {at r : ℕ} → AppendedCapped text at before after r → at + length text ≤ greatest → Appended text at before after r
 appended-of {text} {before} {after} {at} {r} a h = record { place = omega (arith, a .place, h); bytes = a .bytes }
 
 -- ---- a loop that writes

@@ -3,7 +3,7 @@
 ghost use mathlib.Core.Path.{_≡_};
 ghost use mathlib.Core.List.{[], _∷_};
 ghost use Prim.Native.Nat.{min, _+_};
-ghost use Rattle.buffer.specs.Buffer.{Wrote, Added, greatest};
+ghost use Rattle.buffer.specs.Buffer.{Wrote, AppendedCapped, greatest};
 
 // The lesser of two numbers: a place clipped to a buffer's length.
 pub fn clip(n: usize, m: usize) -> usize
@@ -48,7 +48,7 @@ pub fn put_slice(out: &mut [u8], src: &[u8]) -> usize
 
 // Writes a byte at a place, where it fits; answers the place after it.
 pub fn add_byte(out: &mut [u8], at: usize, b: u8) -> usize
-    ensures { λ r. ⌜ Added (b ∷ []) at (now (out .entry)) (now (out .exit)) r ⌝ }
+    ensures { λ r. ⌜ AppendedCapped (b ∷ []) at (now (out .entry)) (now (out .exit)) r ⌝ }
 {
     let a = clip(at, out.len());
     place_after(at, put_byte(&mut out[a..], b))
@@ -56,7 +56,7 @@ pub fn add_byte(out: &mut [u8], at: usize, b: u8) -> usize
 
 // Writes src from a place on, as far as it fits; answers the place after it.
 pub fn add_slice(out: &mut [u8], at: usize, src: &[u8]) -> usize
-    ensures { λ r. ⌜ Added (now (src .entry)) at (now (out .entry)) (now (out .exit)) r ⌝ }
+    ensures { λ r. ⌜ AppendedCapped (now (src .entry)) at (now (out .entry)) (now (out .exit)) r ⌝ }
 {
     let start = clip(at, out.len());
     place_after(at, put_slice(&mut out[start..], src))

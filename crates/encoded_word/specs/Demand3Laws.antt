@@ -8,7 +8,7 @@ use native.Mathlib.Omega.{arith}
 use lib.ListN.{length, length-append, length-map}
 use lib.Dec.{T, leb→le, le→leb, lit≤}
 use mir.Facts.{and-yes}
-use Rattle.utf8.specs.Lists.{all, all-append, all-joined, nonempty, joined, joined-append, joined-map}
+use Rattle.utf8.specs.Lists.{all, all-append, all-joined, all-mem, nonempty, joined, joined-append, joined-map}
 use Rattle.utf8.specs.Byte.{isByte}
 use Rattle.utf8.specs.Utf8.{isChar, chars, utf8}
 use Rattle.utf8.specs.Utf8Laws.{chars-joined, chars-of, utf8-of, utf8-bytes, char-length}
@@ -182,11 +182,6 @@ run-some : (run : List (List ℕ)) → T (nonempty run) → T (all isChar run) �
 run-some [] n t = absurd n
 run-some (c ∷ run) n t =
     omega (arith, length-spell-append c (joined run), spell-some c (and-yes (isChar c) (all isChar run) t .0))
-
--- what holds of all holds of a member
-all-mem : {A : Type 0} (f : A → Bool) {xs : List A} {x : A} → T (all f xs) → List·Memᴰ x xs → T (f x)
-all-mem f h (List·Memᴰ·head {x} {xs} e) = rw e (and-yes (f x) (all f xs) h .0)
-all-mem f h (List·Memᴰ·tail {x} {xs} m) = all-mem f (and-yes (f x) (all f xs) h .1) m
 
 fit-mem : (room k : ℕ) {rs : List (List (List ℕ))} {run : List (List ℕ)} → AllFit (fitsRoom room) k rs → List·Memᴰ run rs
     → length (spell (joined run)) ≤ room

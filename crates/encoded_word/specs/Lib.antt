@@ -13,3 +13,5 @@ pub mod Stream
 pub mod StreamLaws
 pub mod ReadingCases
 pub mod Cases
+pub mod Segments
+pub mod SegmentsLaws

@@ -1,17 +1,17 @@
 -- Laws of the spelling. Assumes nothing.
 use mathlib.Core.Path.{_≡_, refl, sym, ap, _∙_}
-use mathlib.Core.Bool.{Bool, true, false, not, cond, _||_}
+use mathlib.Core.Bool.{not, _||_}
 use mathlib.Core.List.{List, [], _∷_, _++_, append-assoc, append-nil}
-use Prim.Native.Nat.{ℕ, zero, suc, _+_, _*_, _/_, _%_, _≤_, _<_}
+use Prim.Native.Nat.{ℕ, _+_, _*_, _≤_, _<_}
 use native.Mathlib.Numerals.{add-one}
 use native.Mathlib.Omega.{arith}
-use lib.ListN.{length, take, drop, getD, length-append, drop-of-length-le}
-use lib.Seq.{drop-cons, take-suc}
-use lib.Dec.{T, leb, eqb, eqb→eq, lit≤, ltb→lt}
-use mir.Facts.{and-yes, yes-leb, no-eqb}
+use lib.ListN.{length, drop, getD, length-append, drop-of-length-le}
+use lib.Seq.{drop-cons}
+use lib.Dec.{T, eqb, eqb→eq, lit≤}
+use mir.Facts.{and-yes, no-eqb}
 use Rattle.utf8.specs.Lists.{by-test, cond-yes, cond-no, all, joined, joined-append}
-use Rattle.utf8.specs.Byte.{within, within-low, within-high, below, implies}
-use Rattle.encoded_word.specs.Spelling.{bare, hexDigit, high, escape, spellByte, spell}
+use Rattle.utf8.specs.Byte.{within-low, within-high, below, implies}
+use Rattle.encoded_word.specs.Spelling.{bare, high, escape, spellByte, spell}
 
 pub spell-bare : (b : ℕ) → T (bare b) → spellByte b ≡ b ∷ []
 unfolding spellByte

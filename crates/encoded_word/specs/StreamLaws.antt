@@ -2,26 +2,26 @@
 use mathlib.Core.Path.{_≡_, refl, sym, ap, _∙_}
 use mathlib.Core.Bool.{Bool, true, false, not, cond, _&&_}
 use mathlib.Core.List.{List, [], _∷_, _++_, append-assoc, append-nil, map}
-use Prim.Native.Nat.{ℕ, zero, suc, pred, _+_, _-_, _*_, _/_, _%_, _≤_, _<_, min}
+use Prim.Native.Nat.{ℕ, zero, suc, pred, _+_, _-_, _*_, _≤_, _<_, min}
 use native.Mathlib.Nat.{add-zero, add-suc, suc-add, zero-add, le-of-suc-le-suc, not-suc-le-zero}
 use native.Mathlib.Numerals.{add-one, unary-clauses}
 use native.Mathlib.Omega.{arith}
-use lib.ListN.{length, take, drop, getD, length-append, length-take, length-drop, drop-of-length-le}
+use lib.ListN.{length, take, drop, getD, length-append, length-take, length-drop}
 use lib.Seq.{drop-cons}
 use lib.Dec.{T, leb, ltb, eqb, eqb→eq, leb→le, le→leb, lit≤, lt→ltb}
-use mir.Facts.{and-yes, yes-and, no-leb, leb-no, ltb-yes, ltb-no}
+use mir.Facts.{and-yes, yes-and, leb-no, ltb-yes, ltb-no}
 use borrow.Author.Tests.{le-leb, lt-leb, leb-true, ltb-true, eqb-true, eqb-false, not-true}
 use Rattle.utf8.specs.Lists.{by-test, cond-yes, cond-no, all, joined, joined-append}
 use Rattle.utf8.specs.Byte.{to-within}
 use Rattle.utf8.specs.Utf8.{charLen, charsAfter, chars}
-use Rattle.buffer.specs.Buffer.{Wrote, Appended, Added, Reached, greatest}
-use Rattle.buffer.specs.BufferLaws.{overlay-front, wrote-from, appended-from, appended-of, appended-then, length-appended, reached-start, reached-then, reached-last}
+use Rattle.buffer.specs.Buffer.{Wrote, Appended, AppendedCapped, Reached, greatest}
+use Rattle.buffer.specs.BufferLaws.{overlay-front, wrote-from, appended-from, appended-of, appended-then, length-appended, reached-then, reached-last}
 use Rattle.utf8.specs.Utf8Laws.{char-len-some, char-len-le, chars-cons, chars-at, chars-end, chars-nil}
 use Rattle.encoded_word.specs.Cut.{cut}
 use Rattle.encoded_word.specs.CutLaws.{cut-more, cut-next}
 use Rattle.encoded_word.specs.Spelling.{bare, high, hexDigit, escape, spellByte, spell}
 use Rattle.encoded_word.specs.SpellingLaws.{spell-append, spell-bare, spell-space, spell-hex, spell-one, spell-at, spell-end, length-spell, escapes, spell-high, length-escapes}
-use Rattle.encoded_word.specs.Reading.{opening, closing}
+use Rattle.encoded_word.specs.Reading.{closing}
 use Rattle.encoded_word.specs.Row.{fitsRoom, runs, word, lines, rowIn, bounded}
 use Rattle.encoded_word.specs.Stream.{cost, start, gap, leftAfter, onwards, onwardsAt, byteCost, firstChar, firstChars, hexDigits, from, HighChar, Turned, MeasuredTurn, PutTurn}
 
@@ -502,7 +502,7 @@ onwards-ended s i left h g e = reached-last g (rw (onwards-end s i left h) e)
 
 -- a turn that is written into a piece of its own, and copied from there
 pub copied-on : {whole s before mid after piece piece′ : List ℕ} {at₀ at i left i′ left′ n r : ℕ} → Reached whole (onwardsAt s i left) at₀ before mid at
-    → length piece ≡ 39 → PutTurn s i left 0 piece piece′ i′ left′ n → Added (take n piece′) at mid after r → at + 39 ≤ greatest
+    → length piece ≡ 39 → PutTurn s i left 0 piece piece′ i′ left′ n → AppendedCapped (take n piece′) at mid after r → at + 39 ≤ greatest
     → Reached whole (onwardsAt s i′ left′) at₀ before after r × (r ≤ at + 18 * (i′ - i))
 copied-on {mid = mid} {after = after} {piece = piece} {piece′ = piece′} {at = at} {n = n} {r = r} g size t a h =
     let w = wrote-from (t .wrote) in

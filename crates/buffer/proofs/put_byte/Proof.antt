@@ -4,22 +4,16 @@ use native.Mathlib.Omega.{arith}
 use borrow.Author.Needs.{needs}
 use Rattle.buffer.proofs.put_byte.Statement.{statement}
 use Rattle.buffer.proofs.put_byte.Tie as tie
-use Rattle.buffer.proofs.put_byte.Reads as reads
-use Rattle.buffer.proofs.put_byte.Lts as lts
 
--- src/lib.rt:31:9
 slice-write-out : tie.Need-slice-write-out
 slice-write-out c = search needs
 
--- src/lib.rt:27:1
 same-length : tie.Need-same-length
 same-length c = search needs
 
--- src/lib.rt:27:1
 returns : tie.Need-returns
 returns c = wrote-from (appended-byte 0 _ _)
 
--- src/lib.rt:27:1
 returns-2 : tie.Need-returns-2
 returns-2 c = wrote-empty (omega arith) refl
 

@@ -3,13 +3,10 @@ use borrow.Author.Needs.{needs}
 use Rattle.buffer.specs.Buffer.{overlay}
 use lib.ListN.{length, take, length-set}
 use native.Mathlib.Omega.{arith}
-use Prim.Native.Nat.{_+_, _-_, _≤_}
+use Prim.Native.Nat.{_-_, _≤_}
 use mathlib.Core.Path.{_≡_, refl, _∙_}
 use Rattle.buffer.proofs.put_slice.Statement.{statement}
 use Rattle.buffer.proofs.put_slice.Tie as tie
-use Rattle.buffer.proofs.put_slice.Reads as reads
-use Rattle.buffer.proofs.put_slice.Lts as lts
-use Rattle.buffer.proofs.clip.Reads as clip-reads
 
 abbrev Inv-loop : tie.InvT-loop
 Inv-loop out₀ src n i₀ out i = (i ≤ n) × (length out ≡ length out₀) × (out ≡ overlay (take i src) out₀)
@@ -17,40 +14,31 @@ Inv-loop out₀ src n i₀ out i = (i ≤ n) × (length out ≡ length out₀) �
 abbrev μ-loop : tie.MeasureT-loop
 μ-loop out₀ src n i₀ out i = n - i
 
--- src/lib.rt:40:9
 clip-requires : tie.Need-clip-requires Inv-loop μ-loop
 clip-requires c κs = search needs
 
--- src/lib.rt:42:5
 loop-holds : tie.Need-loop-holds Inv-loop μ-loop
 unfolding overlay
 loop-holds c = (search needs, refl, refl)
 
--- src/lib.rt:43:18
 shared-slice-read-out : tie.Need-shared-slice-read-out Inv-loop μ-loop
 shared-slice-read-out c = omega arith
 
--- src/lib.rt:43:9
 slice-write-out : tie.Need-slice-write-out Inv-loop μ-loop
 slice-write-out c = omega arith
 
--- src/lib.rt:44:9
 add-i : tie.Need-add-i Inv-loop μ-loop
 add-i c = omega arith
 
--- src/lib.rt:42:5
 loop-less : tie.Need-loop-less Inv-loop μ-loop
 loop-less c = omega arith
 
--- src/lib.rt:42:5
 loop-again : tie.Need-loop-again Inv-loop μ-loop
 loop-again c = (omega arith, simp length-set (omega arith), overlay-turn _ _ _ _ _ (c .before .before .before .clip .ensures) (c .before .loop-test .taken) (c .before .before .loop .inv .2))
 
--- src/lib.rt:37:1
 same-length : tie.Need-same-length Inv-loop μ-loop
 same-length c = omega arith
 
--- src/lib.rt:37:1
 returns : tie.Need-returns Inv-loop μ-loop
 returns c = record { size = refl; bytes = c .before .loop .inv .2 ∙ overlay-clip _ _ (c .before .loop .i) (omega arith) }
 

@@ -6,24 +6,17 @@ use Rattle.encoded_word.specs.StreamLaws.{row-long, bounded-short}
 use borrow.Author.Needs.{needs}
 use Rattle.encoded_word.proofs.write.Statement.{statement}
 use Rattle.encoded_word.proofs.write.Tie as tie
-use Rattle.encoded_word.proofs.write.Reads as reads
-use Rattle.encoded_word.proofs.write.Lts as lts
-use Rattle.encoded_word.proofs.row.put_row.Reads as put-row-reads
 
--- src/lib.rt:32:9
 returns : tie.Need-returns
 returns c = rw (row-long _ (c .if1 .taken)) (wrote-nothing _)
 
--- src/lib.rt:34:5
 put-row-requires : tie.Need-put-row-requires
 unfolding firstChars firstChar hexDigits hexDigit from bare
 put-row-requires c κs = (refl, c .before .before .before .if1 .left, refl)
 
--- src/lib.rt:28:1
 same-length : tie.Need-same-length
 same-length c = search needs
 
--- src/lib.rt:28:1
 returns-2 : tie.Need-returns-2
 returns-2 c = rw (bounded-short _ (c .before .before .before .before .before .before .if1 .left)) (c .before .before .put-row .ensures)
 

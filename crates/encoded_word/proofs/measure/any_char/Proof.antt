@@ -4,37 +4,25 @@ use Rattle.encoded_word.specs.StreamLaws.{measured, char-size, char-cost
 use borrow.Author.Needs.{needs}
 use Rattle.encoded_word.proofs.measure.any_char.Statement.{statement}
 use Rattle.encoded_word.proofs.measure.any_char.Tie as tie
-use Rattle.encoded_word.proofs.measure.any_char.Reads as reads
-use Rattle.encoded_word.proofs.measure.any_char.Lts as lts
-use Rattle.encoded_word.proofs.measure.with_cost.Reads as with-cost-reads
-use Rattle.encoded_word.proofs.spelling.char_cost.Reads as char-cost-reads
-use Rattle.encoded_word.proofs.spelling.char_end.Reads as char-end-reads
 
--- src/measure.rt:44:9
 char-end-requires : tie.Need-char-end-requires
 char-end-requires c κs = search needs
 
--- src/measure.rt:45:44
 sub-char-cost : tie.Need-sub-char-cost
 sub-char-cost c = search needs
 
--- src/measure.rt:45:44
 part-char-cost-start : tie.Need-part-char-cost-start
 part-char-cost-start c = search needs
 
--- src/measure.rt:45:44
 part-char-cost-end : tie.Need-part-char-cost-end
 part-char-cost-end c = search needs
 
--- src/measure.rt:45:27
 char-cost-requires : tie.Need-char-cost-requires
 char-cost-requires c κs = (c .before .before .before .pre .0, char-size _ _ _ (c .before .char-end .ensures))
 
--- src/measure.rt:45:5
 with-cost-requires : tie.Need-with-cost-requires
 with-cost-requires c κs = (omega (arith, char-cost _ _ _ (c .char-cost .result) (c .before .before .char-end .ensures) (c .char-cost .ensures)), c .before .before .before .before .pre .3)
 
--- src/measure.rt:40:1
 returns : tie.Need-returns
 returns c = measured _ _ _ _ (c .before .before .before .before .before .pre .1) (c .before .before .before .before .before .pre .2) _ _ _ _ _ _ (c .before .before .before .char-end .ensures) refl (c .before .char-cost .ensures) (c .with-cost .ensures)
 

@@ -3,57 +3,40 @@ use Rattle.encoded_word.specs.StreamLaws.{measured-high}
 use borrow.Author.Needs.{needs}
 use Rattle.encoded_word.proofs.measure.high.Statement.{statement}
 use Rattle.encoded_word.proofs.measure.high.Tie as tie
-use Rattle.encoded_word.proofs.measure.high.Reads as reads
-use Rattle.encoded_word.proofs.measure.high.Lts as lts
-use Rattle.encoded_word.proofs.measure.any_char.Reads as any-char-reads
-use Rattle.encoded_word.proofs.measure.with_cost.Reads as with-cost-reads
-use Rattle.encoded_word.proofs.spelling.high_size.Reads as high-size-reads
 
--- src/measure.rt:52:9
 high-size-requires : tie.Need-high-size-requires
 high-size-requires c κs = search needs
 
--- src/measure.rt:54:26
 add-with-cost : tie.Need-add-with-cost
 add-with-cost c = search needs
 
--- src/measure.rt:54:9
 with-cost-requires : tie.Need-with-cost-requires
 with-cost-requires c κs = search needs
 
--- src/measure.rt:54:9
 returns : tie.Need-returns
 returns c = measured-high _ _ _ 2 (c .before .before .before .before .pre .2) (lit≤ tt) (rw (c .before .if1 .taken) at (c .before .before .high-size .ensures)) (c .with-cost .ensures)
 
--- src/measure.rt:57:26
 add-with-cost-2 : tie.Need-add-with-cost-2
 add-with-cost-2 c = search needs
 
--- src/measure.rt:57:9
 with-cost-requires-2 : tie.Need-with-cost-requires-2
 with-cost-requires-2 c κs = search needs
 
--- src/measure.rt:57:9
 returns-2 : tie.Need-returns-2
 returns-2 c = measured-high _ _ _ 3 (c .before .before .before .before .before .pre .2) (lit≤ tt) (rw (c .before .if2 .taken) at (c .before .before .before .high-size .ensures)) (c .with-cost2 .ensures)
 
--- src/measure.rt:60:26
 add-with-cost-3 : tie.Need-add-with-cost-3
 add-with-cost-3 c = search needs
 
--- src/measure.rt:60:9
 with-cost-requires-3 : tie.Need-with-cost-requires-3
 with-cost-requires-3 c κs = search needs
 
--- src/measure.rt:60:9
 returns-3 : tie.Need-returns-3
 returns-3 c = measured-high _ _ _ 4 (c .before .before .before .before .before .before .pre .2) (lit≤ tt) (rw (c .before .if3 .taken) at (c .before .before .before .before .high-size .ensures)) (c .with-cost3 .ensures)
 
--- src/measure.rt:62:5
 any-char-requires : tie.Need-any-char-requires
 any-char-requires c κs = search needs
 
--- src/measure.rt:48:1
 returns-4 : tie.Need-returns-4
 returns-4 c = search needs
 

@@ -1,17 +1,12 @@
-use mathlib.Core.Path.{_≡_, refl, sym, ap}
+use mathlib.Core.Path.{_≡_, sym, ap}
 use lib.ListN.{length}
 use Prim.Native.Nat.{_+_, _-_, _*_, _≤_}
 use native.Mathlib.Omega.{arith}
-use borrow.Author.Needs.{needs}
 use Rattle.encoded_word.specs.Stream.{onwardsAt}
 use Rattle.encoded_word.specs.Row.{row}
-use Rattle.encoded_word.specs.Reading.{closing}
 use Rattle.encoded_word.specs.StreamLaws.{row-nil, length-row, measured-on, onwards-end}
 use Rattle.encoded_word.proofs.measure.row_len.Statement.{statement}
 use Rattle.encoded_word.proofs.measure.row_len.Tie as tie
-use Rattle.encoded_word.proofs.measure.row_len.Reads as reads
-use Rattle.encoded_word.proofs.measure.row_len.Lts as lts
-use Rattle.encoded_word.proofs.measure.next.Reads as next-reads
 
 abbrev Inv-loop : tie.InvT-loop
 Inv-loop first s i₀ left₀ n₀ i left n = (i ≤ length s) × (left ≤ 63) × (n ≤ 13 + 18 * i) × (n + length (onwardsAt s i left) ≡ length (row s))
@@ -19,31 +14,24 @@ Inv-loop first s i₀ left₀ n₀ i left n = (i ≤ length s) × (left ≤ 63) 
 abbrev μ-loop : tie.MeasureT-loop
 μ-loop first s i₀ left₀ n₀ i left n = length s - i
 
--- src/measure.rt:120:9
 returns : tie.Need-returns Inv-loop μ-loop
 returns c = sym (ap length (row-nil _ (c .if1 .taken)))
 
--- src/measure.rt:125:5
 loop-holds : tie.Need-loop-holds Inv-loop μ-loop
 loop-holds c = (omega arith, omega arith, omega arith, sym (length-row _ (omega arith)))
 
--- src/measure.rt:126:13
 next-requires : tie.Need-next-requires Inv-loop μ-loop
 next-requires c κs = (c .before .before .before .before .pre .0, c .loop-test .taken, c .before .loop .inv .1, omega arith)
 
--- src/measure.rt:125:5
 loop-less : tie.Need-loop-less Inv-loop μ-loop
 loop-less c = omega (arith, c .next .ensures .turned .more, c .next .ensures .turned .within)
 
--- src/measure.rt:125:5
 loop-again : tie.Need-loop-again Inv-loop μ-loop
 loop-again c = (c .next .ensures .turned .within, c .next .ensures .turned .roomy, omega (arith, c .next .ensures .size, c .next .ensures .turned .short, c .next .ensures .turned .more), measured-on _ (c .next .ensures) (c .before .before .loop .inv .3))
 
--- src/measure.rt:131:5
 add-result : tie.Need-add-result Inv-loop μ-loop
 add-result c = omega arith
 
--- src/measure.rt:115:1
 returns-2 : tie.Need-returns-2 Inv-loop μ-loop
 returns-2 c = omega (arith, ap length (onwards-end (c .before .before .before .before .args .s .now) (c .before .loop .i) (c .before .loop .left) (c .loop-test .left)))
 

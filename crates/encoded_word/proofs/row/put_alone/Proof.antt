@@ -5,46 +5,34 @@ use native.Mathlib.Omega.{arith}
 use borrow.Author.Needs.{needs}
 use Rattle.encoded_word.proofs.row.put_alone.Statement.{statement}
 use Rattle.encoded_word.proofs.row.put_alone.Tie as tie
-use Rattle.encoded_word.proofs.row.put_alone.Reads as reads
-use Rattle.encoded_word.proofs.row.put_alone.Lts as lts
 
--- src/row.rt:58:18
 add-second : tie.Need-add-second
 add-second c = search needs
 
--- src/row.rt:59:17
 add-third : tie.Need-add-third
 add-third c = search needs
 
--- src/row.rt:60:18
 add-fourth : tie.Need-add-fourth
 add-fourth c = search needs
 
--- src/row.rt:61:5
 slice-write-out : tie.Need-slice-write-out
 slice-write-out c = search needs
 
--- src/row.rt:62:5
 slice-write-out-2 : tie.Need-slice-write-out-2
 slice-write-out-2 c = simp length-set (omega arith)
 
--- src/row.rt:63:5
 slice-write-out-3 : tie.Need-slice-write-out-3
 slice-write-out-3 c = simp length-set (omega arith)
 
--- src/row.rt:64:5
 slice-write-out-4 : tie.Need-slice-write-out-4
 slice-write-out-4 c = simp length-set (omega arith)
 
--- src/row.rt:65:5
 add-result : tie.Need-add-result
 add-result c = search needs
 
--- src/row.rt:54:1
 same-length : tie.Need-same-length
 same-length c = search needs
 
--- src/row.rt:54:1
 returns : tie.Need-returns
 unfolding stores
 returns c = appended-stores (c .args .a ∷ c .args .b ∷ c .args .c ∷ c .args .d ∷ []) _ _ _ (omega arith)

@@ -4,58 +4,40 @@ use Rattle.encoded_word.specs.StreamLaws.{put-turn, char-size, char-cost
 use borrow.Author.Needs.{needs}
 use Rattle.encoded_word.proofs.row.put_any.Statement.{statement}
 use Rattle.encoded_word.proofs.row.put_any.Tie as tie
-use Rattle.encoded_word.proofs.row.put_any.Reads as reads
-use Rattle.encoded_word.proofs.row.put_any.Lts as lts
-use Rattle.encoded_word.proofs.spelling.char_cost.Reads as char-cost-reads
-use Rattle.encoded_word.proofs.spelling.char_end.Reads as char-end-reads
-use Rattle.encoded_word.proofs.spelling.put_char.Reads as put-char-reads
-use Rattle.encoded_word.proofs.word.make_room.Reads as make-room-reads
 
--- src/row.rt:32:9
 char-end-requires : tie.Need-char-end-requires
 char-end-requires c κs = search needs
 
--- src/row.rt:33:30
 sub-char-cost : tie.Need-sub-char-cost
 sub-char-cost c = search needs
 
--- src/row.rt:33:30
 part-char-cost-start : tie.Need-part-char-cost-start
 part-char-cost-start c = search needs
 
--- src/row.rt:33:30
 part-char-cost-end : tie.Need-part-char-cost-end
 part-char-cost-end c = search needs
 
--- src/row.rt:33:9
 char-cost-requires : tie.Need-char-cost-requires
 char-cost-requires c κs = (c .before .before .before .before .pre .0, char-size _ _ _ (c .before .char-end .ensures))
 
--- src/row.rt:34:9
 make-room-requires : tie.Need-make-room-requires
 make-room-requires c κs = (omega (arith, char-cost _ _ _ (c .before .char-cost .result) (c .before .before .before .char-end .ensures) (c .before .char-cost .ensures)), omega arith)
 
--- src/row.rt:36:44
 sub-put-char : tie.Need-sub-put-char
 sub-put-char c = search needs
 
--- src/row.rt:36:44
 part-put-char-start : tie.Need-part-put-char-start
 part-put-char-start c = search needs
 
--- src/row.rt:36:44
 part-put-char-end : tie.Need-part-put-char-end
 part-put-char-end c = search needs
 
--- src/row.rt:36:9
 put-char-requires : tie.Need-put-char-requires
 put-char-requires c κs = (c .before .before .before .before .before .before .before .before .before .before .before .pre .0, omega (arith, char-size (c .before .before .before .before .before .before .before .before .before .before .before .args .s .now) (c .before .before .before .before .before .before .before .before .before .before .before .args .i) _ (c .before .before .before .before .before .before .before .before .char-end .ensures), room-left 15 24 (c .before .before .before .before .make-room .ensures .1) (length-gap (c .before .before .before .before .before .before .before .before .before .before .before .args .left) (c .before .before .before .before .before .before .char-cost .result)) (omega arith)), c .before .before .before .before .before .before .before .before .before .before .before .pre .4)
 
--- src/row.rt:28:1
 same-length : tie.Need-same-length
 same-length c = search needs
 
--- src/row.rt:28:1
 returns : tie.Need-returns
 returns c = put-turn _ _ _ _ (c .before .before .before .before .before .before .before .before .before .before .before .before .before .before .pre .1) (c .before .before .before .before .before .before .before .before .before .before .before .before .before .before .pre .2) _ _ (c .before .before .before .before .before .before .before .before .before .before .before .char-end .ensures) refl refl (c .before .before .before .before .before .before .before .before .before .char-cost .ensures) (c .before .before .before .before .before .before .before .make-room .ensures .0) (c .before .before .before .before .before .before .before .make-room .ensures .1) (c .before .before .put-char .ensures)
 

@@ -9,10 +9,6 @@ use Rattle.encoded_word.specs.Stream.{onwardsAt}
 use Rattle.encoded_word.specs.StreamLaws.{copied-on, onwards-ended, put-within}
 use Rattle.encoded_word.proofs.row.put_clipped.Statement.{statement}
 use Rattle.encoded_word.proofs.row.put_clipped.Tie as tie
-use Rattle.encoded_word.proofs.row.put_clipped.Reads as reads
-use Rattle.encoded_word.proofs.row.put_clipped.Lts as lts
-use Rattle.buffer.proofs.add_slice.Reads as add-slice-reads
-use Rattle.encoded_word.proofs.row.put_any.Reads as put-any-reads
 
 abbrev Inv-loop : tie.InvT-loop
 Inv-loop first hex out₀ start room s begin piece₀ at₀ left₀ i₀ t13 out piece at left i = (i ≤ length s) × (left ≤ 63) × (length piece ≡ 39) × (at ≤ 13 + 18 * i) × Reached (onwardsAt s begin room) (onwardsAt s i left) start out₀ out at
@@ -20,52 +16,40 @@ Inv-loop first hex out₀ start room s begin piece₀ at₀ left₀ i₀ t13 out
 abbrev μ-loop : tie.MeasureT-loop
 μ-loop first hex out₀ start room s begin piece₀ at₀ left₀ i₀ t13 out piece at left i = length s - i
 
--- src/row.rt:221:5
 loop-holds : tie.Need-loop-holds Inv-loop μ-loop
 loop-holds c = (c .before .before .pre .2, c .before .before .pre .3, refl, c .before .before .pre .4, reached-start _ _ _)
 
--- src/row.rt:222:32
 slice-aggregate-put-any : tie.Need-slice-aggregate-put-any Inv-loop μ-loop
 slice-aggregate-put-any c = sym (c .before .before .loop .inv .2)
 
--- src/row.rt:222:13
 put-any-requires : tie.Need-put-any-requires Inv-loop μ-loop
 put-any-requires c κs = (c .before .before .before .before .before .pre .0, c .before .loop-test .taken, c .before .before .loop .inv .1, omega arith, c .before .before .before .before .before .pre .5)
 
--- src/row.rt:224:41
 array-share-prefix-piece : tie.Need-array-share-prefix-piece Inv-loop μ-loop
 array-share-prefix-piece c = put-within (c .before .before .put-any .ensures) (c .before .before .before .before .before .loop .inv .2)
 
--- src/row.rt:224:41
 slice-aggregate-add-slice : tie.Need-slice-aggregate-add-slice Inv-loop μ-loop
 slice-aggregate-add-slice c = rw length-take (omega (arith, put-within (c .before .before .before .put-any .ensures) (c .before .before .before .before .before .before .loop .inv .2)))
 
--- src/row.rt:224:9
 add-slice-requires : tie.Need-add-slice-requires Inv-loop μ-loop
 add-slice-requires c κs = search needs
 
--- src/row.rt:221:5
 loop-less : tie.Need-loop-less Inv-loop μ-loop
 loop-less c = omega (arith, c .before .before .before .before .before .before .put-any .ensures .turned .more, c .before .before .before .before .before .before .put-any .ensures .turned .within)
 
--- src/row.rt:221:5
 loop-again : tie.Need-loop-again Inv-loop μ-loop
 loop-again c = let both = copied-on (c .before .before .before .before .before .before .before .before .before .loop .inv .4) (c .before .before .before .before .before .before .before .before .before .loop .inv .2) (c .before .before .before .before .before .before .put-any .ensures) (c .before .before .add-slice .ensures) (omega arith) in
     (c .before .before .before .before .before .before .put-any .ensures .turned .within, c .before .before .before .before .before .before .put-any .ensures .turned .roomy, length-appended (c .before .before .before .before .before .before .put-any .ensures .wrote) ∙ c .before .before .before .before .before .before .before .before .before .loop .inv .2, omega (arith, both .1, c .before .before .before .before .before .before .put-any .ensures .turned .more), both .0)
 
--- src/row.rt:228:32
 slice-aggregate-add-slice-2 : tie.Need-slice-aggregate-add-slice-2 Inv-loop μ-loop
 slice-aggregate-add-slice-2 c = search needs
 
--- src/row.rt:228:5
 add-slice-requires-2 : tie.Need-add-slice-requires-2 Inv-loop μ-loop
 add-slice-requires-2 c κs = search needs
 
--- src/row.rt:213:1
 same-length : tie.Need-same-length Inv-loop μ-loop
 same-length c = length-added (c .before .before .add-slice2 .ensures) ∙ length-reached (c .before .before .before .before .before .before .loop .inv .4)
 
--- src/row.rt:213:1
 returns : tie.Need-returns Inv-loop μ-loop
 returns c = onwards-ended _ _ _ (c .before .before .before .before .before .loop-test .left) (c .before .before .before .before .before .before .loop .inv .4) (appended-of (c .before .before .add-slice2 .ensures) (omega arith))
 

@@ -2,63 +2,43 @@ use lib.Dec.{lit≤}
 use borrow.Author.Needs.{needs}
 use Rattle.encoded_word.proofs.row.put_high.Statement.{statement}
 use Rattle.encoded_word.proofs.row.put_high.Tie as tie
-use Rattle.encoded_word.proofs.row.put_high.Reads as reads
-use Rattle.encoded_word.proofs.row.put_high.Lts as lts
-use Rattle.encoded_word.proofs.row.put_any.Reads as put-any-reads
-use Rattle.encoded_word.proofs.row.put_four.Reads as put-four-reads
-use Rattle.encoded_word.proofs.row.put_three.Reads as put-three-reads
-use Rattle.encoded_word.proofs.row.put_two.Reads as put-two-reads
-use Rattle.encoded_word.proofs.spelling.high_size.Reads as high-size-reads
 
--- src/row.rt:189:9
 high-size-requires : tie.Need-high-size-requires
 high-size-requires c κs = search needs
 
--- src/row.rt:191:9
 put-two-requires : tie.Need-put-two-requires
 put-two-requires c κs = let k = rw (c .before .if1 .taken) at (c .before .before .high-size .ensures) in (k .fits (lit≤ tt), c .before .before .before .before .before .pre .2, c .before .before .before .before .before .pre .3, k, c .before .before .before .before .before .pre .5)
 
--- src/row.rt:191:9
 same-length : tie.Need-same-length
 same-length c = search needs
 
--- src/row.rt:191:9
 returns : tie.Need-returns
 returns c = search needs
 
--- src/row.rt:194:9
 put-three-requires : tie.Need-put-three-requires
 put-three-requires c κs = let k = rw (c .before .if2 .taken) at (c .before .before .before .high-size .ensures) in (k .fits (lit≤ tt), c .before .before .before .before .before .before .pre .2, c .before .before .before .before .before .before .pre .3, k, c .before .before .before .before .before .before .pre .5)
 
--- src/row.rt:194:9
 same-length-2 : tie.Need-same-length-2
 same-length-2 c = search needs
 
--- src/row.rt:194:9
 returns-2 : tie.Need-returns-2
 returns-2 c = search needs
 
--- src/row.rt:197:9
 put-four-requires : tie.Need-put-four-requires
 put-four-requires c κs = let k = rw (c .before .if3 .taken) at (c .before .before .before .before .high-size .ensures) in (k .fits (lit≤ tt), c .before .before .before .before .before .before .before .pre .2, c .before .before .before .before .before .before .before .pre .3, k, c .before .before .before .before .before .before .before .pre .5)
 
--- src/row.rt:197:9
 same-length-3 : tie.Need-same-length-3
 same-length-3 c = search needs
 
--- src/row.rt:197:9
 returns-3 : tie.Need-returns-3
 returns-3 c = search needs
 
--- src/row.rt:199:5
 put-any-requires : tie.Need-put-any-requires
 put-any-requires c κs = search needs
 
--- src/row.rt:177:1
 same-length-4 : tie.Need-same-length-4
 same-length-4 c = search needs
 
--- src/row.rt:177:1
 returns-4 : tie.Need-returns-4
 returns-4 c = search needs
 

@@ -1,36 +1,25 @@
 use borrow.Author.Needs.{needs}
 use Rattle.encoded_word.proofs.row.put_next.Statement.{statement}
 use Rattle.encoded_word.proofs.row.put_next.Tie as tie
-use Rattle.encoded_word.proofs.row.put_next.Reads as reads
-use Rattle.encoded_word.proofs.row.put_next.Lts as lts
-use Rattle.encoded_word.proofs.row.put_ascii.Reads as put-ascii-reads
-use Rattle.encoded_word.proofs.row.put_high.Reads as put-high-reads
 
--- src/row.rt:216:8
 shared-slice-read-if1 : tie.Need-shared-slice-read-if1
 shared-slice-read-if1 c = search needs
 
--- src/row.rt:217:9
 put-ascii-requires : tie.Need-put-ascii-requires
 put-ascii-requires c κs = search needs
 
--- src/row.rt:217:9
 same-length : tie.Need-same-length
 same-length c = search needs
 
--- src/row.rt:217:9
 returns : tie.Need-returns
 returns c = search needs
 
--- src/row.rt:219:5
 put-high-requires : tie.Need-put-high-requires
 put-high-requires c κs = search needs
 
--- src/row.rt:204:1
 same-length-2 : tie.Need-same-length-2
 same-length-2 c = search needs
 
--- src/row.rt:204:1
 returns-2 : tie.Need-returns-2
 returns-2 c = search needs
 

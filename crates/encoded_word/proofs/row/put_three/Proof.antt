@@ -6,53 +6,37 @@ use Rattle.encoded_word.specs.StreamLaws.{put-high, three-bytes, length-
 use borrow.Author.Needs.{needs}
 use Rattle.encoded_word.proofs.row.put_three.Statement.{statement}
 use Rattle.encoded_word.proofs.row.put_three.Tie as tie
-use Rattle.encoded_word.proofs.row.put_three.Reads as reads
-use Rattle.encoded_word.proofs.row.put_three.Lts as lts
-use Rattle.encoded_word.proofs.spelling.put_escape.Reads as put-escape-reads
-use Rattle.encoded_word.proofs.spelling.put_escapes.Reads as put-escapes-reads
-use Rattle.encoded_word.proofs.word.make_room.Reads as make-room-reads
 
--- src/row.rt:135:13
 add-j : tie.Need-add-j
 add-j c = search needs
 
--- src/row.rt:136:13
 add-k : tie.Need-add-k
 add-k c = search needs
 
--- src/row.rt:137:13
 shared-slice-read-a : tie.Need-shared-slice-read-a
 shared-slice-read-a c = search needs
 
--- src/row.rt:138:13
 shared-slice-read-b : tie.Need-shared-slice-read-b
 shared-slice-read-b c = search needs
 
--- src/row.rt:139:13
 shared-slice-read-c : tie.Need-shared-slice-read-c
 shared-slice-read-c c = search needs
 
--- src/row.rt:140:9
 make-room-requires : tie.Need-make-room-requires
 make-room-requires c κs = search needs
 
--- src/row.rt:142:9
 put-escapes-requires : tie.Need-put-escapes-requires
 put-escapes-requires c κs = (room-left 15 6 (c .before .before .before .make-room .ensures .1) (length-gap _ _) (omega arith), c .before .before .before .before .before .before .before .before .before .before .pre .4)
 
--- src/row.rt:143:9
 put-escape-requires : tie.Need-put-escape-requires
 put-escape-requires c κs = (room-left 6 3 (c .before .before .before .put-escapes .ensures) (lit≤ tt) (room-left 15 9 (c .before .before .before .before .before .before .before .make-room .ensures .1) (length-gap _ _) (omega arith)), c .before .before .before .before .before .before .before .before .before .before .before .before .before .before .pre .4)
 
--- src/row.rt:144:16
 add-next : tie.Need-add-next
 add-next c = search needs
 
--- src/row.rt:131:1
 same-length : tie.Need-same-length
 same-length c = search needs
 
--- src/row.rt:131:1
 returns : tie.Need-returns
 returns c = put-high _ _ _ _ 3 (c .before .before .before .before .before .before .before .before .before .before .before .before .before .before .before .before .before .pre .1) (lit≤ tt) (c .before .before .before .before .before .before .before .before .before .before .before .before .before .before .before .before .before .pre .3) _ (three-bytes _ _ (c .before .before .before .before .before .before .before .before .before .before .before .before .before .before .before .before .before .pre .0)) refl (c .before .before .before .before .before .before .before .before .before .before .make-room .ensures .0) (c .before .before .before .before .before .before .before .before .before .before .make-room .ensures .1) (appended-then (c .before .before .before .before .before .before .put-escapes .ensures) (c .before .before .put-escape .ensures))
 

@@ -5,40 +5,28 @@ use Rattle.encoded_word.specs.StreamLaws.{put-high, two-bytes, length-ga
 use borrow.Author.Needs.{needs}
 use Rattle.encoded_word.proofs.row.put_two.Statement.{statement}
 use Rattle.encoded_word.proofs.row.put_two.Tie as tie
-use Rattle.encoded_word.proofs.row.put_two.Reads as reads
-use Rattle.encoded_word.proofs.row.put_two.Lts as lts
-use Rattle.encoded_word.proofs.spelling.put_escapes.Reads as put-escapes-reads
-use Rattle.encoded_word.proofs.word.make_room.Reads as make-room-reads
 
--- src/row.rt:116:13
 add-j : tie.Need-add-j
 add-j c = search needs
 
--- src/row.rt:117:13
 shared-slice-read-a : tie.Need-shared-slice-read-a
 shared-slice-read-a c = search needs
 
--- src/row.rt:118:13
 shared-slice-read-b : tie.Need-shared-slice-read-b
 shared-slice-read-b c = search needs
 
--- src/row.rt:119:9
 make-room-requires : tie.Need-make-room-requires
 make-room-requires c κs = search needs
 
--- src/row.rt:121:9
 put-escapes-requires : tie.Need-put-escapes-requires
 put-escapes-requires c κs = (room-left 15 6 (c .before .before .before .make-room .ensures .1) (length-gap _ _) (omega arith), c .before .before .before .before .before .before .before .before .before .pre .4)
 
--- src/row.rt:122:16
 add-next : tie.Need-add-next
 add-next c = search needs
 
--- src/row.rt:112:1
 same-length : tie.Need-same-length
 same-length c = search needs
 
--- src/row.rt:112:1
 returns : tie.Need-returns
 returns c = put-high _ _ _ _ 2 (c .before .before .before .before .before .before .before .before .before .before .before .before .pre .1) (lit≤ tt) (c .before .before .before .before .before .before .before .before .before .before .before .before .pre .3) _ (two-bytes _ _ (c .before .before .before .before .before .before .before .before .before .before .before .before .pre .0)) refl (c .before .before .before .before .before .before .make-room .ensures .0) (c .before .before .before .before .before .before .make-room .ensures .1) (c .before .before .put-escapes .ensures)
 

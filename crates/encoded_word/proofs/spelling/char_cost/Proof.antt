@@ -1,15 +1,11 @@
-use mathlib.Core.Path.{_≡_, refl}
+use mathlib.Core.Path.{_≡_}
 use lib.ListN.{length, drop}
 use Prim.Native.Nat.{_+_, _-_, _*_, _≤_}
 use native.Mathlib.Omega.{arith}
-use borrow.Author.Needs.{needs}
 use Rattle.encoded_word.specs.StreamLaws.{cost-at, cost-end}
-use Rattle.encoded_word.specs.Stream.{cost, firstChars}
+use Rattle.encoded_word.specs.Stream.{cost}
 use Rattle.encoded_word.proofs.spelling.char_cost.Statement.{statement}
 use Rattle.encoded_word.proofs.spelling.char_cost.Tie as tie
-use Rattle.encoded_word.proofs.spelling.char_cost.Reads as reads
-use Rattle.encoded_word.proofs.spelling.char_cost.Lts as lts
-use Rattle.encoded_word.proofs.spelling.byte_cost.Reads as byte-cost-reads
 
 abbrev Inv-loop : tie.InvT-loop
 Inv-loop first c n₀ i₀ n i = (i ≤ length c) × (n ≤ 3 * i) × (n + cost (drop i c) ≡ cost c)
@@ -17,35 +13,27 @@ Inv-loop first c n₀ i₀ n i = (i ≤ length c) × (n ≤ 3 * i) × (n + cost 
 abbrev μ-loop : tie.MeasureT-loop
 μ-loop first c n₀ i₀ n i = length c - i
 
--- src/spelling.rt:38:5
 loop-holds : tie.Need-loop-holds Inv-loop μ-loop
 loop-holds c = (omega arith, omega arith, omega arith)
 
--- src/spelling.rt:39:31
 shared-slice-read-byte-cost : tie.Need-shared-slice-read-byte-cost Inv-loop μ-loop
 shared-slice-read-byte-cost c = omega arith
 
--- src/spelling.rt:39:14
 byte-cost-requires : tie.Need-byte-cost-requires Inv-loop μ-loop
 byte-cost-requires c κs = c .before .before .before .before .pre .0
 
--- src/spelling.rt:39:9
 add-n : tie.Need-add-n Inv-loop μ-loop
 add-n c = omega arith
 
--- src/spelling.rt:40:9
 add-i : tie.Need-add-i Inv-loop μ-loop
 add-i c = omega arith
 
--- src/spelling.rt:38:5
 loop-less : tie.Need-loop-less Inv-loop μ-loop
 loop-less c = omega arith
 
--- src/spelling.rt:38:5
 loop-again : tie.Need-loop-again Inv-loop μ-loop
 loop-again c = (omega arith, omega arith, omega (arith, cost-at (c .before .before .before .before .before .args .c .now) (c .before .before .before .loop .i) (c .before .before .loop-test .taken)))
 
--- src/spelling.rt:32:1
 returns : tie.Need-returns Inv-loop μ-loop
 returns c = omega (arith, cost-end (c .before .before .before .args .c .now) (c .before .loop .i) (c .loop-test .left))
 

@@ -2,19 +2,13 @@ use Rattle.encoded_word.specs.StreamLaws.{first-chars-at}
 use borrow.Author.Needs.{needs}
 use Rattle.encoded_word.proofs.spelling.first_char.Statement.{statement}
 use Rattle.encoded_word.proofs.spelling.first_char.Tie as tie
-use Rattle.encoded_word.proofs.spelling.first_char.Reads as reads
-use Rattle.encoded_word.proofs.spelling.first_char.Lts as lts
-use Rattle.encoded_word.proofs.spelling.wide.Reads as wide-reads
 
--- src/spelling.rt:30:11
 wide-requires : tie.Need-wide-requires
 wide-requires c κs = search needs
 
--- src/spelling.rt:30:5
 element-copy-out-result : tie.Need-element-copy-out-result
 element-copy-out-result c = search needs
 
--- src/spelling.rt:26:1
 returns : tie.Need-returns
 returns c = rw (c .before .before .pre, c .before .wide .ensures) (first-chars-at _ (search needs))
 

@@ -1,21 +1,14 @@
-use mathlib.Core.Path.{_∙_}
 use Rattle.encoded_word.specs.StreamLaws.{hex-digits-at}
 use borrow.Author.Needs.{needs}
 use Rattle.encoded_word.proofs.spelling.hex_digit.Statement.{statement}
 use Rattle.encoded_word.proofs.spelling.hex_digit.Tie as tie
-use Rattle.encoded_word.proofs.spelling.hex_digit.Reads as reads
-use Rattle.encoded_word.proofs.spelling.hex_digit.Lts as lts
-use Rattle.encoded_word.proofs.spelling.wide.Reads as wide-reads
 
--- src/spelling.rt:22:9
 wide-requires : tie.Need-wide-requires
 wide-requires c κs = search needs
 
--- src/spelling.rt:22:5
 element-copy-out-result : tie.Need-element-copy-out-result
 element-copy-out-result c = search needs
 
--- src/spelling.rt:18:1
 returns : tie.Need-returns
 returns c = rw (c .before .before .pre .1, c .before .wide .ensures) (hex-digits-at _ (c .before .before .pre .0))
 

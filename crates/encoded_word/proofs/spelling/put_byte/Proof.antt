@@ -4,40 +4,28 @@ use Rattle.encoded_word.specs.StreamLaws.{spelt-escape, spelt-alone}
 use borrow.Author.Needs.{needs}
 use Rattle.encoded_word.proofs.spelling.put_byte.Statement.{statement}
 use Rattle.encoded_word.proofs.spelling.put_byte.Tie as tie
-use Rattle.encoded_word.proofs.spelling.put_byte.Reads as reads
-use Rattle.encoded_word.proofs.spelling.put_byte.Lts as lts
-use Rattle.encoded_word.proofs.spelling.first_char.Reads as first-char-reads
-use Rattle.encoded_word.proofs.spelling.put_escape.Reads as put-escape-reads
 
--- src/spelling.rt:120:9
 first-char-requires : tie.Need-first-char-requires
 first-char-requires c κs = search needs
 
--- src/spelling.rt:122:9
 put-escape-requires : tie.Need-put-escape-requires
 put-escape-requires c κs = search needs
 
--- src/spelling.rt:122:9
 same-length : tie.Need-same-length
 same-length c = search needs
 
--- src/spelling.rt:122:9
 returns : tie.Need-returns
 returns c = rw (spelt-escape _ (sym (c .before .before .before .before .before .first-char .ensures) ∙ c .before .before .before .before .if1 .taken)) (c .before .before .put-escape .ensures)
 
--- src/spelling.rt:124:5
 slice-write-out : tie.Need-slice-write-out
 slice-write-out c = search needs
 
--- src/spelling.rt:125:5
 add-result : tie.Need-add-result
 add-result c = search needs
 
--- src/spelling.rt:116:1
 same-length-2 : tie.Need-same-length-2
 same-length-2 c = search needs
 
--- src/spelling.rt:116:1
 returns-2 : tie.Need-returns-2
 returns-2 c = rw (spelt-alone _ (λ e. c .if1 .left (c .before .first-char .ensures ∙ e)), ← c .before .first-char .ensures) (appended-byte _ _ _)
 

@@ -4,32 +4,22 @@ use Rattle.encoded_word.specs.StreamLaws.{gap-here, gap-next, left-here,
 use borrow.Author.Needs.{needs}
 use Rattle.encoded_word.proofs.word.make_room.Statement.{statement}
 use Rattle.encoded_word.proofs.word.make_room.Tie as tie
-use Rattle.encoded_word.proofs.word.make_room.Reads as reads
-use Rattle.encoded_word.proofs.word.make_room.Lts as lts
-use Rattle.encoded_word.proofs.word.put_closing.Reads as put-closing-reads
-use Rattle.encoded_word.proofs.word.put_start.Reads as put-start-reads
 
--- src/word.rt:65:9
 returns : tie.Need-returns
 returns c = (sym (left-here _ _ 63 (c .if1 .taken)), rw (gap-here _ _ (c .if1 .taken)) (appended-none _ _))
 
--- src/word.rt:70:9
 put-closing-requires : tie.Need-put-closing-requires
 put-closing-requires c κs = search needs
 
--- src/word.rt:71:9
 put-start-requires : tie.Need-put-start-requires
 put-start-requires c κs = search needs
 
--- src/word.rt:74:15
 sub-t13 : tie.Need-sub-t13
 sub-t13 c = search needs
 
--- src/word.rt:60:1
 same-length : tie.Need-same-length
 same-length c = search needs
 
--- src/word.rt:60:1
 returns-2 : tie.Need-returns-2
 returns-2 c = (sym (left-next _ _ 63 (c .before .before .before .before .before .before .before .before .if1 .left)), rw (gap-next _ _ (c .before .before .before .before .before .before .before .before .if1 .left)) (appended-then (c .before .before .before .before .before .before .put-closing .ensures) (c .before .before .put-start .ensures)))
 

@@ -1,0 +1,28 @@
+-- The outgoing header as a list of segments: bytes as they stand, or the encoded words of a text. Wherever a rule asks for encoded
+-- words of something there is one segment `words`. Assumes nothing.
+use mathlib.Core.Bool.{Bool}
+use mathlib.Core.List.{List, [], _∷_, _++_}
+use Prim.Native.Nat.{ℕ}
+use Rattle.utf8.specs.Byte.{isAscii}
+use Rattle.utf8.specs.Lists.{all}
+use Rattle.utf8.specs.Utf8.{utf8}
+use Rattle.encoded_word.specs.Row.{row}
+
+pub data Segment : Type 0 where
+  raw : List ℕ → Segment
+  words : List ℕ → Segment
+
+-- the bytes of a segment
+abbrev pub bytesOf : Segment → List ℕ
+bytesOf (raw bytes) = bytes
+bytesOf (words text) = row text
+
+-- the bytes of segments one after another
+unfoldable pub rendered : List Segment → List ℕ
+rendered [] = []
+rendered (s ∷ ss) = bytesOf s ++ rendered ss
+
+-- bytes that stand as they are have to be ASCII, a text that is encoded has to be UTF-8
+abbrev pub sound : Segment → Bool
+sound (raw bytes) = all isAscii bytes
+sound (words text) = utf8 text
