@@ -1,4 +1,5 @@
 pub mod Lines
 pub mod LineLaws
 pub mod Fields
+pub mod FieldLaws
 pub mod HeaderCases

@@ -1,8 +1,10 @@
 // The lines and fields of a header section.
-mod line;
+pub mod field;
+pub mod line;
 
 ghost use mathlib.Core.Path.{_≡_};
 ghost use Rattle.header.specs.Lines.{linesOf};
+ghost use Rattle.header.specs.Fields.{heldOf};
 
 // Whether every line of a header is well formed; else the number of the first malformed line, and the byte where it starts.
 pub enum Lines {
@@ -31,4 +33,19 @@ pub fn check(h: &[u8]) -> Lines
         n += 1;
     }
     Lines::WellFormed
+}
+
+// The first field of a header with a held name and non-ASCII in its value.
+pub fn held_field(h: &[u8]) -> HeldField
+    ensures { λ r. ⌜ r ≡ heldOf (now (h .entry)) ⌝ }
+{
+    let mut at: usize = 0;
+    while at < h.len() {
+        let to = field::field_end(h, at);
+        if field::is_refused(&h[at..to]) {
+            return HeldField::At(field::line_count(&h[0..at]), at);
+        }
+        at = to;
+    }
+    HeldField::Absent
 }

@@ -1,0 +1,232 @@
+-- Laws of fields by position, as code finds them. Assumes nothing.
+use mathlib.Core.Path.{_≡_, refl, ap, sym, _∙_}
+use mathlib.Core.Bool.{Bool, true, false, cond, not, _&&_, and-false}
+use mathlib.Core.List.{List, [], _∷_, _++_}
+use Prim.Native.Nat.{ℕ, zero, suc, pred, _+_, _-_, _≤_, _<_}
+use native.Mathlib.Nat.{not-suc-le-zero, add-zero, suc-add, zero-add}
+use native.Mathlib.Numerals.{add-one}
+use native.Mathlib.Omega.{arith}
+use lib.Dec.{T, leb, eqb, eqb→eq}
+use lib.ListN.{length, take, drop, getD, length-drop, length-take, take-append-drop, drop-of-length-le}
+use lib.Seq.{drop-cons, drop-drop, drop-nil, getD-drop, length-take-le, take-nil}
+use mir.Facts.{and-yes, leb-yes, leb-no}
+use Rattle.utf8.specs.Lists.{by-test, cond-yes, cond-no, cond-has, yes-true, true-yes, no-false, all, joined}
+use Rattle.utf8.specs.Byte.{isAscii}
+use Rattle.utf8.specs.Run.{run, run-le, run-all}
+use Rattle.header_name.specs.Names.{kindOf}
+use Rattle.header.specs.Lines.{crlf, blank, nameByte, nameLen}
+use Rattle.header.specs.LineLaws.{crlf-inside}
+use Rattle.header.specs.Fields.{fold, fieldLen, fieldsAfter, fieldsOf, nameOf, valueOf, lineCount, isHeld, refused, heldFrom, heldOf}
+use Rattle.header.specs.declared.HeldField.{HeldField}
+use Rattle.header.specs.declared.HeldField.the-variants.{Absent, At}
+
+-- ---- where a field ends
+
+unfoldable pub notCr : ℕ → Bool
+notCr b = not (eqb b 13)
+
+-- the CRLF that ends a field stands at the front
+unfoldable pub ends : List ℕ → Bool
+ends h = crlf h && not (fold h)
+
+pub ends-by : (h : List ℕ) (i b : ℕ) (line end : Bool) → line ≡ crlf (drop i h) → b ≡ getD h (i + 2) 0 → end ≡ blank b → line && not end ≡ ends (drop i h)
+unfolding ends fold
+ends-by h i b line end l e k = rw (k, e, l, getD-drop i h 2 0) (both (crlf (drop i h)) (blank (getD h (i + 2) 0)))
+  where
+    both : (a b : Bool) → a && not b ≡ a && not (a && b)
+    both true b = refl
+    both false b = refl
+
+len-cons : (b : ℕ) (rest : List ℕ) → fieldLen (b ∷ rest) ≡ cond (ends (b ∷ rest)) 2 (suc (fieldLen rest))
+unfolding fieldLen ends
+len-cons b rest = refl
+
+no-end : (b : ℕ) (rest : List ℕ) → T (notCr b) → ends (b ∷ rest) ≡ false
+unfolding notCr ends crlf
+no-end b rest t = rw (no-false (eqb b 13) t)
+
+len-past : (a b : List ℕ) → T (all notCr a) → fieldLen (a ++ b) ≡ length a + fieldLen b
+len-past [] b h = sym (zero-add (fieldLen b))
+len-past (x ∷ a) b h =
+    let both = and-yes (notCr x) (all notCr a) h in
+    rw (len-cons x (a ++ b), no-end x (a ++ b) (both .0), len-past a b (both .1), suc-add)
+
+module _ (h : List ℕ) (i : ℕ) where
+  pub field-run : (r : ℕ) → r ≡ i + run notCr (drop i h) → i + fieldLen (drop i h) ≡ r + fieldLen (drop r h)
+  field-run r e =
+      let n = run notCr (drop i h) in
+      let part = take n (drop i h) in
+      let whole : part ++ drop (i + n) h ≡ drop i h = rw (← drop-drop n i h) (take-append-drop n (drop i h)) in
+      let size : length part ≡ n = length-take-le n (drop i h) (run-le notCr (drop i h)) in
+      let past : fieldLen (drop i h) ≡ n + fieldLen (drop (i + n) h) = rw (whole, size) at (len-past part (drop (i + n) h) (run-all notCr (drop i h))) in
+      rw e (omega (arith, past))
+
+  pub field-stop : i < length h → ends (drop i h) ≡ true → i + fieldLen (drop i h) ≡ i + 2
+  field-stop k e = let front = drop-cons h i 0 k in rw (front, len-cons (getD h i 0) (drop (suc i) h), rw front at e)
+
+  pub field-step : i < length h → ends (drop i h) ≡ false → i + fieldLen (drop i h) ≡ i + 1 + fieldLen (drop (i + 1) h)
+  field-step k e =
+      let front = drop-cons h i 0 k in
+      rw (add-one, front, len-cons (getD h i 0) (drop (suc i) h), rw front at e) (omega arith)
+
+  pub field-none : length h ≤ i → i + fieldLen (drop i h) ≡ i
+  unfolding fieldLen
+  field-none k = rw (drop-of-length-le h {i = i} k) (omega arith)
+
+ends-crlf : (h : List ℕ) → ends h ≡ true → 2 ≤ length h
+unfolding ends
+ends-crlf h e = omega (arith, crlf-inside h 0 (yes-true (crlf h) (and-yes (crlf h) (not (fold h)) (true-yes (crlf h && not (fold h)) e) .0)))
+
+pub field-le : (h : List ℕ) → fieldLen h ≤ length h
+unfolding fieldLen
+field-le [] = omega arith
+field-le (b ∷ rest) =
+    let k = field-le rest in
+    rw (len-cons b rest)
+    (cond-has (λ n. n ≤ suc (length rest)) (ends (b ∷ rest)) 2 (suc (fieldLen rest))
+    (λ t. ends-crlf (b ∷ rest) (yes-true (ends (b ∷ rest)) t))
+    (λ t. omega arith))
+
+field-some : (b : ℕ) (rest : List ℕ) → 0 < fieldLen (b ∷ rest)
+field-some b rest = rw (len-cons b rest) (cond-has (λ n. 0 < n) (ends (b ∷ rest)) 2 (suc (fieldLen rest)) (λ t. omega arith) (λ t. omega arith))
+
+-- the place after the field at `at`
+pub field-after : (h : List ℕ) (at to : ℕ) → at < length h → to ≡ at + fieldLen (drop at h) → (at < to) × (to ≤ length h)
+field-after h at to k e =
+    let some : 0 < fieldLen (drop at h) = rw (drop-cons h at 0 k) (field-some (getD h at 0) (drop (suc at) h)) in
+    (omega arith, omega (arith, field-le (drop at h), length-drop at h))
+
+-- ---- a header is its fields
+
+fields-skip : (k : ℕ) (h : List ℕ) → fieldsAfter k h ≡ fieldsOf (drop k h)
+unfolding fieldsAfter fieldsOf
+fields-skip zero h = refl
+fields-skip (suc k) [] = refl
+fields-skip (suc k) (b ∷ rest) = fields-skip k rest
+
+drop-pred : (n b : ℕ) (rest : List ℕ) → 0 < n → drop (pred n) rest ≡ drop n (b ∷ rest)
+drop-pred zero b rest h = absurd (not-suc-le-zero h)
+drop-pred (suc n) b rest h = refl
+
+fields-cons : (b : ℕ) (rest : List ℕ) → fieldsOf (b ∷ rest) ≡ take (fieldLen (b ∷ rest)) (b ∷ rest) ∷ fieldsOf (drop (fieldLen (b ∷ rest)) (b ∷ rest))
+unfolding fieldsAfter fieldsOf
+fields-cons b rest =
+    let n = fieldLen (b ∷ rest) in
+    ap (λ (fields : List (List ℕ)). take n (b ∷ rest) ∷ fields) (fields-skip (pred n) rest ∙ ap fieldsOf (drop-pred n b rest (field-some b rest)))
+
+pub fields-nil : fieldsOf [] ≡ []
+unfolding fieldsAfter fieldsOf
+fields-nil = refl
+
+-- the first field of what is left, and the others
+pub fields-at : (h : List ℕ) (at : ℕ) → at < length h
+    → fieldsOf (drop at h) ≡ take (fieldLen (drop at h)) (drop at h) ∷ fieldsOf (drop (at + fieldLen (drop at h)) h)
+fields-at h at k =
+    let front = drop-cons h at 0 k in
+    rw (← drop-drop (fieldLen (drop at h)) at h, front) (fields-cons (getD h at 0) (drop (suc at) h))
+
+after-joined : (k : ℕ) (h : List ℕ) → joined (fieldsAfter k h) ≡ drop k h
+unfolding fieldsAfter
+after-joined zero [] = refl
+after-joined (suc k) [] = refl
+after-joined (suc k) (b ∷ rest) = after-joined k rest
+after-joined zero (b ∷ rest) =
+    let n = fieldLen (b ∷ rest) in
+    rw (after-joined (pred n) rest, drop-pred n b rest (field-some b rest)) (take-append-drop n (b ∷ rest))
+
+-- nothing is lost or invented between fields
+pub fields-joined : (h : List ℕ) → joined (fieldsOf h) ≡ h
+unfolding fieldsOf
+fields-joined h = after-joined 0 h
+
+-- ---- a field's value
+
+pub value-none : (field : List ℕ) (n : ℕ) → n ≡ nameLen field → length field < n + 3 → true ≡ all isAscii (valueOf field)
+unfolding valueOf
+value-none field n e k =
+    let short : length (take (length field - 2) field) ≤ nameLen field + 1 = omega (arith, length-take (length field - 2) field) in
+    rw (drop-of-length-le (take (length field - 2) field) {i = nameLen field + 1} short)
+
+drop-take : (m n : ℕ) (xs : List ℕ) → drop m (take n xs) ≡ take (n - m) (drop m xs)
+drop-take zero n xs = let e : n - 0 ≡ n = omega arith in rw e
+drop-take (suc m) zero xs = let e : zero - suc m ≡ 0 = omega arith in rw e
+drop-take (suc m) (suc n) [] = sym (take-nil (suc n - suc m))
+drop-take (suc m) (suc n) (x ∷ xs) = let e : suc n - suc m ≡ n - m = omega arith in rw e (drop-take m n xs)
+
+pub value-part : (field : List ℕ) (n : ℕ) (ok : Bool) → n ≡ nameLen field → ok ≡ all isAscii (take (length field - 2 - (n + 1)) (drop (n + 1) field)) → ok ≡ all isAscii (valueOf field)
+unfolding valueOf
+value-part field n ok e k = k ∙ rw (drop-take (nameLen field + 1) (length field - 2) field, e)
+
+pub name-le : (field : List ℕ) → nameLen field ≤ length field
+unfolding nameLen
+name-le field = run-le nameByte field
+
+module _ (field : List ℕ) where
+  pub refused-ascii : all isAscii (valueOf field) ≡ true → false ≡ refused field
+  unfolding refused
+  refused-ascii e = rw e
+
+  pub refused-kind : (n : ℕ) (held : Bool) → all isAscii (valueOf field) ≡ false → n ≡ nameLen field → held ≡ isHeld (kindOf (take (n - 0) field)) → held ≡ refused field
+  unfolding refused nameOf
+  refused-kind n held e k t = let m : n - 0 ≡ nameLen field = omega arith in t ∙ rw (e, m)
+
+-- ---- the lines that end before a place
+
+module _ (s : List ℕ) (i : ℕ) where
+  pub lines-yes : i < length s → crlf (drop i s) ≡ true → lineCount (drop i s) ≡ 1 + lineCount (drop (i + 1) s)
+  unfolding lineCount
+  lines-yes k e = let front = drop-cons s i 0 k in rw (add-one, front, rw front at e) (omega arith)
+
+  pub lines-no : i < length s → crlf (drop i s) ≡ false → lineCount (drop i s) ≡ lineCount (drop (i + 1) s)
+  unfolding lineCount
+  lines-no k e = let front = drop-cons s i 0 k in rw (add-one, front, rw front at e)
+
+  pub lines-end : length s ≤ i → lineCount (drop i s) ≡ 0
+  unfolding lineCount
+  lines-end k = rw (drop-of-length-le s {i = i} k)
+
+-- what a loop that counts the lines of s has found before i
+pub record Counted (s : List ℕ) (i n : ℕ) : Type 0 where
+  pub few : n ≤ i
+  pub left : n + lineCount (drop i s) ≡ lineCount s
+
+pub counted-none : (s : List ℕ) → Counted s 0 0
+counted-none s = record { few = omega arith; left = zero-add (lineCount s) }
+
+module _ {s : List ℕ} {i n : ℕ} (c : Counted s i n) where
+  pub counted-yes : i < length s → crlf (drop i s) ≡ true → Counted s (i + 1) (n + 1)
+  counted-yes k e = record { few = omega (arith, c .few); left = omega (arith, c .left, lines-yes s i k e) }
+
+  pub counted-no : i < length s → crlf (drop i s) ≡ false → Counted s (i + 1) n
+  counted-no k e = record { few = omega (arith, c .few); left = omega (arith, c .left, lines-no s i k e) }
+
+  pub counted-end : length s ≤ i → n ≡ lineCount s
+  counted-end k = omega (arith, c .left, lines-end s i k)
+
+-- ---- field after field
+
+pub record HeldLeft (h : List ℕ) (at : ℕ) : Type 0 where
+  pub same : heldOf h ≡ heldFrom h at (fieldsOf (drop at h))
+
+pub held-all : (h : List ℕ) → HeldLeft h 0
+unfolding heldOf
+held-all h = record { same = refl }
+
+pub held-end : {h : List ℕ} {at : ℕ} → HeldLeft h at → length h ≤ at → Absent ≡ heldOf h
+unfolding heldFrom
+held-end {h} {at} l k = sym (l .same ∙ rw (drop-of-length-le h {i = at} k, fields-nil))
+
+module _ {h : List ℕ} {at to : ℕ} (l : HeldLeft h at) (k : at < length h) (e : to ≡ at + fieldLen (drop at h)) where
+  first : take (fieldLen (drop at h)) (drop at h) ≡ take (to - at) (drop at h)
+  first = let n : fieldLen (drop at h) ≡ to - at = omega arith in rw n
+
+  pub held-here : refused (take (to - at) (drop at h)) ≡ true → (n : ℕ) → n ≡ lineCount (take (at - 0) h) → At n at ≡ heldOf h
+  unfolding heldFrom
+  held-here r n c = let m : at - 0 ≡ at = omega arith in sym (l .same ∙ rw (fields-at h at k, first, r, c, m))
+
+  pub held-next : refused (take (to - at) (drop at h)) ≡ false → HeldLeft h to
+  unfolding heldFrom
+  held-next r =
+      let size : length (take (to - at) (drop at h)) ≡ to - at = length-take-le (to - at) (drop at h) (omega (arith, field-le (drop at h))) in
+      let there : at + (to - at) ≡ to = omega arith in
+      record { same = l .same ∙ rw (fields-at h at k, first, r, size, ← e, there) }
