@@ -1,23 +1,22 @@
 -- Laws of fields by position, as code finds them. Assumes nothing.
 use mathlib.Core.Path.{_≡_, refl, ap, sym, _∙_}
-use mathlib.Core.Bool.{Bool, true, false, cond, not, _&&_, and-false}
+use mathlib.Core.Bool.{Bool, true, false, cond, not, _&&_}
 use mathlib.Core.List.{List, [], _∷_, _++_}
 use Prim.Native.Nat.{ℕ, zero, suc, pred, _+_, _-_, _≤_, _<_}
-use native.Mathlib.Nat.{not-suc-le-zero, add-zero, suc-add, zero-add}
+use native.Mathlib.Nat.{not-suc-le-zero, suc-add, zero-add}
 use native.Mathlib.Numerals.{add-one}
 use native.Mathlib.Omega.{arith}
-use lib.Dec.{T, leb, eqb, eqb→eq}
+use lib.Dec.{T, eqb}
 use lib.ListN.{length, take, drop, getD, length-drop, length-take, take-append-drop, drop-of-length-le}
-use lib.Seq.{drop-cons, drop-drop, drop-nil, getD-drop, length-take-le, take-nil}
-use mir.Facts.{and-yes, leb-yes, leb-no}
-use Rattle.utf8.specs.Lists.{by-test, cond-yes, cond-no, cond-has, yes-true, true-yes, no-false, all, joined}
+use lib.Seq.{drop-cons, drop-drop, getD-drop, length-take-le, take-nil}
+use mir.Facts.{and-yes}
+use Rattle.utf8.specs.Lists.{cond-has, yes-true, true-yes, no-false, all, joined}
 use Rattle.utf8.specs.Byte.{isAscii}
 use Rattle.utf8.specs.Run.{run, run-le, run-all}
 use Rattle.header_name.specs.Names.{kindOf}
 use Rattle.header.specs.Lines.{crlf, blank, nameByte, nameLen}
 use Rattle.header.specs.LineLaws.{crlf-inside}
 use Rattle.header.specs.Fields.{fold, fieldLen, fieldsAfter, fieldsOf, nameOf, valueOf, lineCount, isHeld, refused, heldFrom, heldOf}
-use Rattle.header.specs.declared.HeldField.{HeldField}
 use Rattle.header.specs.declared.HeldField.the-variants.{Absent, At}
 
 -- ---- where a field ends
@@ -37,15 +36,15 @@ ends-by h i b line end l e k = rw (k, e, l, getD-drop i h 2 0) (both (crlf (drop
     both true b = refl
     both false b = refl
 
-len-cons : (b : ℕ) (rest : List ℕ) → fieldLen (b ∷ rest) ≡ cond (ends (b ∷ rest)) 2 (suc (fieldLen rest))
+pub len-cons : (b : ℕ) (rest : List ℕ) → fieldLen (b ∷ rest) ≡ cond (ends (b ∷ rest)) 2 (suc (fieldLen rest))
 unfolding fieldLen ends
 len-cons b rest = refl
 
-no-end : (b : ℕ) (rest : List ℕ) → T (notCr b) → ends (b ∷ rest) ≡ false
+pub no-end : (b : ℕ) (rest : List ℕ) → T (notCr b) → ends (b ∷ rest) ≡ false
 unfolding notCr ends crlf
 no-end b rest t = rw (no-false (eqb b 13) t)
 
-len-past : (a b : List ℕ) → T (all notCr a) → fieldLen (a ++ b) ≡ length a + fieldLen b
+pub len-past : (a b : List ℕ) → T (all notCr a) → fieldLen (a ++ b) ≡ length a + fieldLen b
 len-past [] b h = sym (zero-add (fieldLen b))
 len-past (x ∷ a) b h =
     let both = and-yes (notCr x) (all notCr a) h in
@@ -117,6 +116,10 @@ fields-cons b rest =
 pub fields-nil : fieldsOf [] ≡ []
 unfolding fieldsAfter fieldsOf
 fields-nil = refl
+
+pub fields-front : (h : List ℕ) → 0 < length h → fieldsOf h ≡ take (fieldLen h) h ∷ fieldsOf (drop (fieldLen h) h)
+fields-front [] k = absurd (not-suc-le-zero k)
+fields-front (b ∷ rest) k = fields-cons b rest
 
 -- the first field of what is left, and the others
 pub fields-at : (h : List ℕ) (at : ℕ) → at < length h

@@ -1,11 +1,10 @@
 -- Small headers with their answers. Assumes nothing.
 use mathlib.Core.Path.{_≡_, refl}
-use mathlib.Core.Bool.{Bool, true, false}
 use mathlib.Core.List.{List, [], _∷_, _++_, map}
 use Prim.Native.Nat.{ℕ}
 use Prim.Native.String.{String}
 use lib.Count.{leadingZeros}
-use lib.ListN.{length, replicate}
+use lib.ListN.{replicate}
 use Rattle.utf8.specs.Lists.{joined}
 use Rattle.utf8.specs.Run.{run}
 use Rattle.utf8.specs.Utf8.{leadingOnes, charLen, charsAfter, chars, isChar, secondLow, secondHigh, utf8}

@@ -3,22 +3,21 @@ use mathlib.Core.Path.{_≡_, refl, ap, sym, _∙_}
 use mathlib.Core.Bool.{Bool, true, false, cond, not, _&&_, _||_, and-false, or-false}
 use mathlib.Core.List.{List, [], _∷_, _++_}
 use Prim.Native.Nat.{ℕ, zero, suc, _+_, _-_, _≤_, _<_}
-use native.Mathlib.Nat.{not-suc-le-zero, add-zero, zero-add, suc-add}
+use native.Mathlib.Nat.{not-suc-le-zero, add-zero, suc-add}
 use native.Mathlib.Numerals.{add-one}
 use native.Mathlib.Omega.{arith}
 use lib.Dec.{T, leb, ltb, eqb, le→leb, eqb→eq}
 use lib.ListN.{length, take, drop, getD, length-drop, length-take, take-append-drop, drop-of-length-le, List·getD-eq-default}
-use lib.Seq.{drop-cons, drop-drop, drop-nil, getD-drop, getD-take, take-take, take-append-add, drop-append-add, length-take-le}
-use borrow.Author.Tests.{eqb-true, eqb-false, ne-eqb, eq-eqb, le-ltb}
+use lib.Seq.{drop-cons, drop-drop, getD-drop, getD-take, take-take, take-append-add, drop-append-add, length-take-le}
+use borrow.Author.Tests.{ne-eqb}
 use mir.Facts.{and-yes, leb-yes, leb-no, ltb-no}
-use Rattle.utf8.specs.Lists.{by-test, cond-yes, cond-no, cond-has, yes-true, true-yes, no-false, all, all-past, all-weaken, all-append}
-use Rattle.utf8.specs.Byte.{isAscii, within, allBelow, below, implies}
+use Rattle.utf8.specs.Lists.{by-test, cond-yes, cond-has, yes-true, true-yes, no-false, all, all-past, all-weaken}
+use Rattle.utf8.specs.Byte.{isAscii, within}
 use Rattle.utf8.specs.Run.{run, run-le, run-all, run-step}
 use Rattle.utf8.specs.Utf8.{charLen, isChar, charAt, utf8}
 use Rattle.utf8.specs.Utf8Laws.{char-len-some, char-high, utf8-right, utf8-ascii, utf8-char, utf8-of}
-use Rattle.utf8.specs.Utf8At.{whole-char, char-at-some, char-at-size, char-at-within, utf8-stop}
+use Rattle.utf8.specs.Utf8At.{whole-char, char-at-some, char-at-within, utf8-stop}
 use Rattle.header.specs.Lines.{crlf, lineLen, lineByte, blank, nameByte, nameLen, named, continuation, wellFormed, lineOk, linesFrom, linesOf}
-use Rattle.header.specs.declared.Lines.{Lines}
 use Rattle.header.specs.declared.Lines.the-variants.{WellFormed, Malformed}
 
 -- ---- the text of a line
@@ -354,7 +353,7 @@ lines-skip zero n at (b ∷ rest) = rw add-zero
 lines-skip (suc k) n at [] = refl
 lines-skip (suc k) n at (b ∷ rest) = let e : at + suc k ≡ suc at + k = omega arith in rw e (lines-skip k n (suc at) rest)
 
-front-good : (n at : ℕ) (xs : List ℕ) → 0 < length xs → lineOk (eqb n 0) xs ≡ true
+pub front-good : (n at : ℕ) (xs : List ℕ) → 0 < length xs → lineOk (eqb n 0) xs ≡ true
     → linesFrom 0 n at xs ≡ linesFrom 0 (n + 1) (at + (lineLen xs + 2)) (drop (lineLen xs + 2) xs)
 unfolding linesFrom
 front-good n at [] h e = absurd (not-suc-le-zero h)
@@ -364,7 +363,7 @@ front-good n at (b ∷ rest) h e =
     let p : at + suc (suc m) ≡ suc at + suc m = omega arith in
     rw (e, q, p, add-one) (lines-skip (suc m) (suc n) (suc at) rest)
 
-front-bad : (n at : ℕ) (xs : List ℕ) → 0 < length xs → lineOk (eqb n 0) xs ≡ false → linesFrom 0 n at xs ≡ Malformed n at
+pub front-bad : (n at : ℕ) (xs : List ℕ) → 0 < length xs → lineOk (eqb n 0) xs ≡ false → linesFrom 0 n at xs ≡ Malformed n at
 unfolding linesFrom
 front-bad n at [] h e = absurd (not-suc-le-zero h)
 front-bad n at (b ∷ rest) h e = rw e

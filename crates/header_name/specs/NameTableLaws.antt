@@ -1,6 +1,6 @@
 -- Laws of the table: it gives the kind of each name; its lists agree at each entry; names compared byte by byte. Assumes nothing.
 use mathlib.Core.Path.{_≡_, refl, ap, sym, _∙_}
-use mathlib.Core.Bool.{Bool, true, false, cond, _&&_, _||_, and-false}
+use mathlib.Core.Bool.{Bool, true, false, cond, _&&_, and-false}
 use mathlib.Core.List.{List, [], _∷_, _++_, map, append-nil}
 use Prim.Native.Nat.{ℕ, suc, _+_, _-_, _≤_, _<_}
 use native.Mathlib.Numerals.{add-one}
@@ -10,10 +10,9 @@ use lib.ListN.{length, take, drop, getD, drop-of-length-le}
 use lib.Seq.{drop-cons}
 use borrow.Author.Tests.{eq-eqb, ne-eqb}
 use mir.Facts.{and-yes}
-use Rattle.utf8.specs.Lists.{by-test, cond-yes, cond-no, yes-true, no-false}
+use Rattle.utf8.specs.Lists.{by-test, yes-true, no-false}
 use Rattle.utf8.specs.Byte.{below}
-use Rattle.header_name.specs.declared.Kind.{Kind}
-use Rattle.header_name.specs.declared.Kind.the-variants.{Address, PlainText, Held, Other}
+use Rattle.header_name.specs.declared.Kind.the-variants.{Held, Other}
 use Rattle.header_name.specs.Names.{bytes, six, lower, sameName, addressNames, plainTextNames, heldNames, among, kindOf}
 use Rattle.header_name.specs.NameTable.{Entry, entry, lettered, entries, kindIn, startsFrom, starts, names, kinds}
 

@@ -5,9 +5,6 @@ use lib.ListN.{length}
 use Rattle.header.specs.LineLaws.{Left, left-all, left-end, left-bad, left-next}
 use Rattle.header.proofs.check.Statement.{statement}
 use Rattle.header.proofs.check.Tie as tie
-use Rattle.header.proofs.check.Reads as reads
-use Rattle.header.proofs.check.Lts as lts
-use Rattle.header.proofs.line.line_end.Reads as line-end-reads
 
 abbrev Inv-loop : tie.InvT-loop
 Inv-loop h at₀ n₀ at n = Left h n at
@@ -15,31 +12,24 @@ Inv-loop h at₀ n₀ at n = Left h n at
 abbrev μ-loop : tie.MeasureT-loop
 μ-loop h at₀ n₀ at n = length h - at
 
--- src/lib.rt:25:5
 loop-holds : tie.Need-loop-holds Inv-loop μ-loop
 loop-holds c = left-all _
 
--- src/lib.rt:26:13
 line-end-requires : tie.Need-line-end-requires Inv-loop μ-loop
 line-end-requires c κs = search needs
 
--- src/lib.rt:28:13
 returns : tie.Need-returns Inv-loop μ-loop
 returns c = left-bad (c .before .before .before .loop .inv) (c .before .before .loop-test .taken) (c .before .line-end .ensures) (c .if1 .taken)
 
--- src/lib.rt:31:9
 add-n : tie.Need-add-n Inv-loop μ-loop
 add-n c = omega (arith, c .before .before .before .loop .inv .count)
 
--- src/lib.rt:25:5
 loop-less : tie.Need-loop-less Inv-loop μ-loop
 loop-less c = let d = c .before .line-end .ensures in omega (arith, d .after (c .if1 .left), d .inside)
 
--- src/lib.rt:25:5
 loop-again : tie.Need-loop-again Inv-loop μ-loop
 loop-again c = left-next (c .before .before .before .loop .inv) (c .before .before .loop-test .taken) (c .before .line-end .ensures) (c .if1 .left)
 
--- src/lib.rt:20:1
 returns-2 : tie.Need-returns-2 Inv-loop μ-loop
 returns-2 c = left-end (c .before .loop .inv) (c .loop-test .left)
 

@@ -6,11 +6,6 @@ use lib.ListN.{length}
 use Rattle.header.specs.FieldLaws.{HeldLeft, held-all, held-end, held-here, held-next, field-after}
 use Rattle.header.proofs.held_field.Statement.{statement}
 use Rattle.header.proofs.held_field.Tie as tie
-use Rattle.header.proofs.held_field.Reads as reads
-use Rattle.header.proofs.held_field.Lts as lts
-use Rattle.header.proofs.field.field_end.Reads as field-end-reads
-use Rattle.header.proofs.field.is_refused.Reads as is-refused-reads
-use Rattle.header.proofs.field.line_count.Reads as line-count-reads
 
 abbrev Inv-loop : tie.InvT-loop
 Inv-loop h at₀ at = HeldLeft h at
@@ -18,59 +13,45 @@ Inv-loop h at₀ at = HeldLeft h at
 abbrev μ-loop : tie.MeasureT-loop
 μ-loop h at₀ at = length h - at
 
--- src/lib.rt:43:5
 loop-holds : tie.Need-loop-holds Inv-loop μ-loop
 loop-holds c = held-all _
 
--- src/lib.rt:44:13
 field-end-requires : tie.Need-field-end-requires Inv-loop μ-loop
 field-end-requires c κs = search needs
 
--- src/lib.rt:45:30
 sub-is-refused : tie.Need-sub-is-refused Inv-loop μ-loop
 sub-is-refused c = let a = field-after _ _ _ (c .before .loop-test .taken) (c .field-end .ensures) in omega (arith, a .0)
 
--- src/lib.rt:45:30
 part-is-refused-start : tie.Need-part-is-refused-start Inv-loop μ-loop
 part-is-refused-start c = let a = field-after _ _ _ (c .before .loop-test .taken) (c .field-end .ensures) in omega (arith, a .0)
 
--- src/lib.rt:45:30
 part-is-refused-end : tie.Need-part-is-refused-end Inv-loop μ-loop
 part-is-refused-end c = let a = field-after _ _ _ (c .before .loop-test .taken) (c .field-end .ensures) in omega (arith, a .1)
 
--- src/lib.rt:45:12
 is-refused-requires : tie.Need-is-refused-requires Inv-loop μ-loop
 is-refused-requires c κs = search needs
 
--- src/lib.rt:46:52
 sub-line-count : tie.Need-sub-line-count Inv-loop μ-loop
 sub-line-count c = omega arith
 
--- src/lib.rt:46:52
 part-line-count-start : tie.Need-part-line-count-start Inv-loop μ-loop
 part-line-count-start c = omega arith
 
--- src/lib.rt:46:52
 part-line-count-end : tie.Need-part-line-count-end Inv-loop μ-loop
 part-line-count-end c = omega arith
 
--- src/lib.rt:46:34
 line-count-requires : tie.Need-line-count-requires Inv-loop μ-loop
 line-count-requires c κs = search needs
 
--- src/lib.rt:46:13
 returns : tie.Need-returns Inv-loop μ-loop
 returns c = held-here (c .before .before .before .before .before .before .before .loop .inv) (c .before .before .before .before .before .before .loop-test .taken) (c .before .before .before .before .before .field-end .ensures) (sym (c .before .before .before .is-refused .ensures) ∙ c .before .before .if1 .taken) _ (c .line-count .ensures)
 
--- src/lib.rt:43:5
 loop-less : tie.Need-loop-less Inv-loop μ-loop
 loop-less c = let a = field-after _ _ _ (c .before .before .before .before .loop-test .taken) (c .before .before .before .field-end .ensures) in omega (arith, a .0, a .1)
 
--- src/lib.rt:43:5
 loop-again : tie.Need-loop-again Inv-loop μ-loop
 loop-again c = held-next (c .before .before .before .before .before .loop .inv) (c .before .before .before .before .loop-test .taken) (c .before .before .before .field-end .ensures) (sym (c .before .is-refused .ensures) ∙ c .if1 .left)
 
--- src/lib.rt:39:1
 returns-2 : tie.Need-returns-2 Inv-loop μ-loop
 returns-2 c = held-end (c .before .loop .inv) (c .loop-test .left)
 

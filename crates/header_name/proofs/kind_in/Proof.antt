@@ -1,15 +1,10 @@
-use mathlib.Core.Path.{_≡_, refl, sym, _∙_}
+use mathlib.Core.Path.{sym, _∙_}
 use borrow.Author.Needs.{needs}
 use Prim.Native.Nat.{_-_}
 use native.Mathlib.Omega.{arith}
-use lib.ListN.{length, drop}
-use Rattle.header_name.specs.NameTableLaws.{Row, row, Sought, sought-start, sought-found, sought-next, sought-end}
+use Rattle.header_name.specs.NameTableLaws.{row, Sought, sought-start, sought-found, sought-next, sought-end}
 use Rattle.header_name.proofs.kind_in.Statement.{statement}
 use Rattle.header_name.proofs.kind_in.Tie as tie
-use Rattle.header_name.proofs.kind_in.Reads as reads
-use Rattle.header_name.proofs.kind_in.Lts as lts
-use Rattle.header_name.proofs.lettered.Reads as lettered-reads
-use Rattle.header_name.proofs.same_name.Reads as same-name-reads
 
 abbrev Inv-loop : tie.InvT-loop
 Inv-loop names starts kinds name k₀ k = Sought name k
@@ -17,71 +12,54 @@ Inv-loop names starts kinds name k₀ k = Sought name k
 abbrev μ-loop : tie.MeasureT-loop
 μ-loop names starts kinds name k₀ k = 32 - k
 
--- src/lib.rt:78:5
 loop-holds : tie.Need-loop-holds Inv-loop μ-loop
 loop-holds c = sought-start _
 
--- src/lib.rt:79:17
 mul-a : tie.Need-mul-a Inv-loop μ-loop
 mul-a c = omega arith
 
--- src/lib.rt:79:17
 shared-slice-read-a : tie.Need-shared-slice-read-a Inv-loop μ-loop
 shared-slice-read-a c = omega (arith, row _ _ _ _ (c .before .before .before .before .before .before .before .pre .0) (c .before .before .before .before .before .before .before .pre .1) (c .before .before .before .before .before .before .before .pre .2) (c .before .loop-test .taken) .start)
 
--- src/lib.rt:80:24
 add-e : tie.Need-add-e Inv-loop μ-loop
 add-e c = omega arith
 
--- src/lib.rt:80:17
 mul-e : tie.Need-mul-e Inv-loop μ-loop
 mul-e c = omega arith
 
--- src/lib.rt:80:17
 shared-slice-read-e : tie.Need-shared-slice-read-e Inv-loop μ-loop
 shared-slice-read-e c = omega (arith, row _ _ _ _ (c .before .before .before .before .before .before .before .before .pre .0) (c .before .before .before .before .before .before .before .before .pre .1) (c .before .before .before .before .before .before .before .before .pre .2) (c .before .before .loop-test .taken) .start)
 
--- src/lib.rt:81:22
 sub-same-name : tie.Need-sub-same-name Inv-loop μ-loop
 sub-same-name c = row _ _ _ _ (c .before .before .before .before .before .before .before .before .pre .0) (c .before .before .before .before .before .before .before .before .pre .1) (c .before .before .before .before .before .before .before .before .pre .2) (c .before .before .loop-test .taken) .up
 
--- src/lib.rt:81:22
 part-same-name-start : tie.Need-part-same-name-start Inv-loop μ-loop
 part-same-name-start c = row _ _ _ _ (c .before .before .before .before .before .before .before .before .pre .0) (c .before .before .before .before .before .before .before .before .pre .1) (c .before .before .before .before .before .before .before .before .pre .2) (c .before .before .loop-test .taken) .up
 
--- src/lib.rt:81:22
 part-same-name-end : tie.Need-part-same-name-end Inv-loop μ-loop
 part-same-name-end c = row _ _ _ _ (c .before .before .before .before .before .before .before .before .pre .0) (c .before .before .before .before .before .before .before .before .pre .1) (c .before .before .before .before .before .before .before .before .pre .2) (c .before .before .loop-test .taken) .inside
 
--- src/lib.rt:81:12
 same-name-requires : tie.Need-same-name-requires Inv-loop μ-loop
 same-name-requires c κs = search needs
 
--- src/lib.rt:82:29
 shared-slice-read-lettered : tie.Need-shared-slice-read-lettered Inv-loop μ-loop
 shared-slice-read-lettered c = row _ _ _ _ (c .before .before .before .before .before .before .before .before .before .before .before .before .pre .0) (c .before .before .before .before .before .before .before .before .before .before .before .before .pre .1) (c .before .before .before .before .before .before .before .before .before .before .before .before .pre .2) (c .before .before .before .before .before .before .loop-test .taken) .kind-there
 
--- src/lib.rt:82:13
 lettered-requires : tie.Need-lettered-requires Inv-loop μ-loop
 lettered-requires c κs = search needs
 
--- src/lib.rt:82:13
 returns : tie.Need-returns Inv-loop μ-loop
 returns c = c .lettered .ensures ∙ sought-found (row _ _ _ _ (c .before .before .before .before .before .before .before .before .before .before .before .before .before .pre .0) (c .before .before .before .before .before .before .before .before .before .before .before .before .before .pre .1) (c .before .before .before .before .before .before .before .before .before .before .before .before .before .pre .2) (c .before .before .before .before .before .before .before .loop-test .taken)) (c .before .before .before .before .before .before .before .loop-test .taken) (sym (c .before .before .before .same-name .ensures) ∙ c .before .before .if1 .taken) (c .before .before .before .before .before .before .before .before .loop .inv)
 
--- src/lib.rt:84:9
 add-k : tie.Need-add-k Inv-loop μ-loop
 add-k c = omega arith
 
--- src/lib.rt:78:5
 loop-less : tie.Need-loop-less Inv-loop μ-loop
 loop-less c = omega arith
 
--- src/lib.rt:78:5
 loop-again : tie.Need-loop-again Inv-loop μ-loop
 loop-again c = sought-next (row _ _ _ _ (c .before .before .before .before .before .before .before .before .before .before .before .pre .0) (c .before .before .before .before .before .before .before .before .before .before .before .pre .1) (c .before .before .before .before .before .before .before .before .before .before .before .pre .2) (c .before .before .before .before .before .loop-test .taken)) (c .before .before .before .before .before .loop-test .taken) (sym (c .before .same-name .ensures) ∙ c .if1 .left) (c .before .before .before .before .before .before .loop .inv)
 
--- src/lib.rt:73:1
 returns-2 : tie.Need-returns-2 Inv-loop μ-loop
 returns-2 c = sought-end (c .loop-test .left) (c .before .loop .inv)
 

@@ -4,19 +4,14 @@ use Rattle.utf8.specs.Byte.{within, within-high}
 use Rattle.header_name.specs.Names.{lower}
 use Rattle.header_name.proofs.lower.Statement.{statement}
 use Rattle.header_name.proofs.lower.Tie as tie
-use Rattle.header_name.proofs.lower.Reads as reads
-use Rattle.header_name.proofs.lower.Lts as lts
 
--- src/lib.rt:36:32
 add-result : tie.Need-add-result
 add-result c = let b = c .before .args .b in omega (arith, within-high 65 90 b (true-yes (within 65 90 b) (c .if1 .taken)))
 
--- src/lib.rt:33:1
 returns : tie.Need-returns
 unfolding lower
 returns c = rw (c .if1 .taken)
 
--- src/lib.rt:33:1
 returns-2 : tie.Need-returns-2
 unfolding lower
 returns-2 c = rw (c .if1 .left)

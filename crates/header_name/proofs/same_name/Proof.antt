@@ -1,15 +1,12 @@
 use mathlib.Core.Path.{_≡_, refl, sym, _∙_}
 use borrow.Author.Needs.{needs}
-use Prim.Native.Nat.{_+_, _-_, _≤_, _<_}
+use Prim.Native.Nat.{_-_}
 use native.Mathlib.Omega.{arith}
 use lib.ListN.{length, drop}
 use Rattle.header_name.specs.NameTableLaws.{other-length, other-byte, same-byte, same-end}
 use Rattle.header_name.specs.Names.{lower, sameName}
 use Rattle.header_name.proofs.same_name.Statement.{statement}
 use Rattle.header_name.proofs.same_name.Tie as tie
-use Rattle.header_name.proofs.same_name.Reads as reads
-use Rattle.header_name.proofs.same_name.Lts as lts
-use Rattle.header_name.proofs.lower.Reads as lower-reads
 
 abbrev Inv-loop : tie.InvT-loop
 Inv-loop a b i₀ i = sameName a b ≡ sameName (drop i a) (drop i b)
@@ -17,47 +14,36 @@ Inv-loop a b i₀ i = sameName a b ≡ sameName (drop i a) (drop i b)
 abbrev μ-loop : tie.MeasureT-loop
 μ-loop a b i₀ i = length a - i
 
--- src/lib.rt:44:9
 returns : tie.Need-returns Inv-loop μ-loop
 returns c = sym (other-length _ _ (c .if1 .taken))
 
--- src/lib.rt:47:5
 loop-holds : tie.Need-loop-holds Inv-loop μ-loop
 loop-holds c = refl
 
--- src/lib.rt:48:18
 shared-slice-read-lower : tie.Need-shared-slice-read-lower Inv-loop μ-loop
 shared-slice-read-lower c = omega arith
 
--- src/lib.rt:48:12
 lower-requires : tie.Need-lower-requires Inv-loop μ-loop
 lower-requires c κs = search needs
 
--- src/lib.rt:48:33
 shared-slice-read-lower-2 : tie.Need-shared-slice-read-lower-2 Inv-loop μ-loop
 shared-slice-read-lower-2 c = omega arith
 
--- src/lib.rt:48:27
 lower-requires-2 : tie.Need-lower-requires-2 Inv-loop μ-loop
 lower-requires-2 c κs = search needs
 
--- src/lib.rt:49:13
 returns-2 : tie.Need-returns-2 Inv-loop μ-loop
 returns-2 c = sym (c .before .before .before .before .before .before .loop .inv ∙ other-byte (c .before .before .before .before .before .before .before .before .before .before .args .a .now) (c .before .before .before .before .before .before .before .before .before .before .args .b .now) (c .before .before .before .before .before .before .loop .i) (omega arith) (omega arith) (λ e. c .if2 .taken (c .before .before .before .lower .ensures ∙ e ∙ sym (c .before .lower2 .ensures))))
 
--- src/lib.rt:51:9
 add-i : tie.Need-add-i Inv-loop μ-loop
 add-i c = omega arith
 
--- src/lib.rt:47:5
 loop-less : tie.Need-loop-less Inv-loop μ-loop
 loop-less c = omega arith
 
--- src/lib.rt:47:5
 loop-again : tie.Need-loop-again Inv-loop μ-loop
 loop-again c = c .before .before .before .before .before .before .loop .inv ∙ same-byte (c .before .before .before .before .before .before .before .before .before .before .args .a .now) (c .before .before .before .before .before .before .before .before .before .before .args .b .now) (c .before .before .before .before .before .before .loop .i) (omega arith) (omega arith) (sym (c .before .before .before .lower .ensures) ∙ c .if2 .left ∙ c .before .lower2 .ensures)
 
--- src/lib.rt:40:1
 returns-3 : tie.Need-returns-3 Inv-loop μ-loop
 returns-3 c = sym (c .before .loop .inv ∙ same-end (c .before .before .before .before .before .args .a .now) (c .before .before .before .before .before .args .b .now) (c .before .loop .i) (omega arith) (omega arith))
 

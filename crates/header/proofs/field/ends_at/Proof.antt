@@ -2,29 +2,19 @@ use Rattle.header.specs.FieldLaws.{ends-by}
 use borrow.Author.Needs.{needs}
 use Rattle.header.proofs.field.ends_at.Statement.{statement}
 use Rattle.header.proofs.field.ends_at.Tie as tie
-use Rattle.header.proofs.field.ends_at.Reads as reads
-use Rattle.header.proofs.field.ends_at.Lts as lts
-use Rattle.header.proofs.line.byte_at.Reads as byte-at-reads
-use Rattle.header.proofs.line.crlf_at.Reads as crlf-at-reads
-use Rattle.header.proofs.line.is_blank.Reads as is-blank-reads
 
--- src/field.rt:71:5
 crlf-at-requires : tie.Need-crlf-at-requires
 crlf-at-requires c κs = search needs
 
--- src/field.rt:71:42
 add-byte-at : tie.Need-add-byte-at
 add-byte-at c = search needs
 
--- src/field.rt:71:31
 byte-at-requires : tie.Need-byte-at-requires
 byte-at-requires c κs = search needs
 
--- src/field.rt:71:22
 is-blank-requires : tie.Need-is-blank-requires
 is-blank-requires c κs = search needs
 
--- src/field.rt:67:1
 returns : tie.Need-returns
 returns c = ends-by (c .before .before .before .before .args .h .now) (c .before .before .before .before .args .i) _ _ _ (c .before .before .crlf-at .ensures) (c .before .byte-at .ensures) (c .is-blank .ensures)
 

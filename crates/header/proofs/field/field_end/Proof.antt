@@ -2,16 +2,11 @@ use mathlib.Core.Path.{_≡_, sym, _∙_}
 use borrow.Author.Needs.{needs}
 use Prim.Native.Nat.{_+_, _-_}
 use native.Mathlib.Omega.{arith}
-use lib.ListN.{length, drop, length-drop}
-use Rattle.utf8.specs.Run.{run-le}
-use Rattle.header.specs.FieldLaws.{notCr, field-run, field-stop, field-step, field-none}
+use lib.ListN.{length, drop}
+use Rattle.header.specs.FieldLaws.{field-run, field-stop, field-step, field-none}
 use Rattle.header.specs.Fields.{fieldLen}
 use Rattle.header.proofs.field.field_end.Statement.{statement}
 use Rattle.header.proofs.field.field_end.Tie as tie
-use Rattle.header.proofs.field.field_end.Reads as reads
-use Rattle.header.proofs.field.field_end.Lts as lts
-use Rattle.header.proofs.field.ends_at.Reads as ends-at-reads
-use Rattle.header.proofs.field.next_cr.Reads as next-cr-reads
 
 abbrev Inv-loop : tie.InvT-loop
 Inv-loop h at i₀ i = at + fieldLen (drop at h) ≡ i + fieldLen (drop i h)
@@ -19,47 +14,36 @@ Inv-loop h at i₀ i = at + fieldLen (drop at h) ≡ i + fieldLen (drop i h)
 abbrev μ-loop : tie.MeasureT-loop
 μ-loop h at i₀ i = length h - i
 
--- src/field.rt:79:9
 returns : tie.Need-returns Inv-loop μ-loop
 returns c = sym (field-none (c .before .before .args .h .now) (c .before .before .args .at) (c .if1 .taken))
 
--- src/field.rt:81:9
 next-cr-requires : tie.Need-next-cr-requires Inv-loop μ-loop
 next-cr-requires c κs = search needs
 
--- src/field.rt:82:5
 loop-holds : tie.Need-loop-holds Inv-loop μ-loop
 loop-holds c = field-run _ _ _ (c .next-cr .ensures)
 
--- src/field.rt:83:12
 ends-at-requires : tie.Need-ends-at-requires Inv-loop μ-loop
 ends-at-requires c κs = search needs
 
--- src/field.rt:84:20
 add-result : tie.Need-add-result Inv-loop μ-loop
 add-result c = omega arith
 
--- src/field.rt:84:13
 returns-2 : tie.Need-returns-2 Inv-loop μ-loop
 returns-2 c = sym (c .before .before .before .loop .inv ∙ field-stop _ _ (c .before .before .loop-test .taken) (sym (c .before .ends-at .ensures) ∙ c .if2 .taken))
 
--- src/field.rt:86:24
 add-next-cr : tie.Need-add-next-cr Inv-loop μ-loop
 add-next-cr c = omega arith
 
--- src/field.rt:86:9
 next-cr-requires-2 : tie.Need-next-cr-requires-2 Inv-loop μ-loop
 next-cr-requires-2 c κs = search needs
 
--- src/field.rt:82:5
 loop-less : tie.Need-loop-less Inv-loop μ-loop
 loop-less c = omega (arith, c .next-cr2 .ensures)
 
--- src/field.rt:82:5
 loop-again : tie.Need-loop-again Inv-loop μ-loop
 loop-again c = c .before .before .before .before .loop .inv ∙ field-step _ _ (c .before .before .before .loop-test .taken) (sym (c .before .before .ends-at .ensures) ∙ c .before .if2 .left) ∙ field-run _ _ _ (c .next-cr2 .ensures)
 
--- src/field.rt:75:1
 returns-3 : tie.Need-returns-3 Inv-loop μ-loop
 returns-3 c = sym (c .before .loop .inv ∙ field-none _ _ (c .loop-test .left))
 

@@ -1,5 +1,5 @@
 use native.Mathlib.Nat.{zero-add}
-use mathlib.Core.Path.{_≡_, ap, _∙_}
+use mathlib.Core.Path.{ap, _∙_}
 use Prim.Native.Nat.{_-_, _≤_}
 use native.Mathlib.Omega.{arith}
 use lib.Seq.{take-length}
@@ -9,8 +9,6 @@ use Rattle.utf8.specs.Lists.{all}
 use Rattle.utf8.specs.Byte.{isAscii}
 use Rattle.header.proofs.field.is_ascii.Statement.{statement}
 use Rattle.header.proofs.field.is_ascii.Tie as tie
-use Rattle.header.proofs.field.is_ascii.Reads as reads
-use Rattle.header.proofs.field.is_ascii.Lts as lts
 
 abbrev Inv-loop : tie.InvT-loop
 Inv-loop s ok₀ i₀ ok i = (i ≤ length s) × Tested isAscii s 0 i ok
@@ -18,27 +16,21 @@ Inv-loop s ok₀ i₀ ok i = (i ≤ length s) × Tested isAscii s 0 i ok
 abbrev μ-loop : tie.MeasureT-loop
 μ-loop s ok₀ i₀ ok i = length s - i
 
--- src/field.rt:97:5
 loop-holds : tie.Need-loop-holds Inv-loop μ-loop
 loop-holds c = (omega arith, tested-none)
 
--- src/field.rt:98:20
 shared-slice-read-ok : tie.Need-shared-slice-read-ok Inv-loop μ-loop
 shared-slice-read-ok c = omega arith
 
--- src/field.rt:99:9
 add-i : tie.Need-add-i Inv-loop μ-loop
 add-i c = omega arith
 
--- src/field.rt:97:5
 loop-less : tie.Need-loop-less Inv-loop μ-loop
 loop-less c = omega arith
 
--- src/field.rt:97:5
 loop-again : tie.Need-loop-again Inv-loop μ-loop
 loop-again c = (omega arith, rw zero-add at (tested-more (omega arith) (c .before .before .loop .inv .1)))
 
--- src/field.rt:92:1
 returns : tie.Need-returns Inv-loop μ-loop
 returns c = let s = c .before .before .args .s .now in tested-all (length s) (omega arith) (c .before .loop .inv .1) ∙ ap (all isAscii) (take-length s)
 

@@ -2,41 +2,31 @@ use Rattle.header.specs.Fields.{isHeld}
 use borrow.Author.Needs.{needs}
 use Rattle.header.proofs.field.is_held.Statement.{statement}
 use Rattle.header.proofs.field.is_held.Tie as tie
-use Rattle.header.proofs.field.is_held.Reads as reads
-use Rattle.header.proofs.field.is_held.Lts as lts
 
--- src/field.rt:121:26
 enum-told : tie.Need-enum-told
 enum-told c = search needs
 
--- src/field.rt:122:28
 enum-told-2 : tie.Need-enum-told-2
 enum-told-2 c = search needs
 
--- src/field.rt:123:23
 enum-told-3 : tie.Need-enum-told-3
 enum-told-3 c = search needs
 
--- src/field.rt:124:24
 enum-told-4 : tie.Need-enum-told-4
 enum-told-4 c = search needs
 
--- src/field.rt:117:1
 returns : tie.Need-returns
 unfolding isHeld
 returns c = rw (c .enum-told .given .1)
 
--- src/field.rt:117:1
 returns-2 : tie.Need-returns-2
 unfolding isHeld
 returns-2 c = rw (c .enum-told2 .given .1)
 
--- src/field.rt:117:1
 returns-3 : tie.Need-returns-3
 unfolding isHeld
 returns-3 c = rw (c .enum-told3 .given .1)
 
--- src/field.rt:117:1
 returns-4 : tie.Need-returns-4
 unfolding isHeld
 returns-4 c = rw (c .enum-told4 .given .1)

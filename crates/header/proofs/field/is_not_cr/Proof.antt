@@ -2,10 +2,7 @@ use mathlib.Core.Path.{refl}
 use Rattle.header.specs.FieldLaws.{notCr}
 use Rattle.header.proofs.field.is_not_cr.Statement.{statement}
 use Rattle.header.proofs.field.is_not_cr.Tie as tie
-use Rattle.header.proofs.field.is_not_cr.Reads as reads
-use Rattle.header.proofs.field.is_not_cr.Lts as lts
 
--- src/field.rt:16:1
 returns : tie.Need-returns
 unfolding notCr
 returns c = refl

@@ -1,4 +1,3 @@
-use mathlib.Core.Path.{_≡_, sym, _∙_}
 use borrow.Author.Needs.{needs}
 use Prim.Native.Nat.{_-_, _≤_}
 use native.Mathlib.Omega.{arith}
@@ -6,9 +5,6 @@ use Rattle.utf8.specs.Run.{Tested, tested-none, tested-more, tested-all}
 use Rattle.header.specs.FieldLaws.{notCr}
 use Rattle.header.proofs.field.not_cr32.Statement.{statement}
 use Rattle.header.proofs.field.not_cr32.Tie as tie
-use Rattle.header.proofs.field.not_cr32.Reads as reads
-use Rattle.header.proofs.field.not_cr32.Lts as lts
-use Rattle.header.proofs.field.is_not_cr.Reads as is-not-cr-reads
 
 abbrev Inv-loop : tie.InvT-loop
 Inv-loop h at ok₀ j₀ ok j = (j ≤ 32) × Tested notCr h at j ok
@@ -16,35 +12,27 @@ Inv-loop h at ok₀ j₀ ok j = (j ≤ 32) × Tested notCr h at j ok
 abbrev μ-loop : tie.MeasureT-loop
 μ-loop h at ok₀ j₀ ok j = 32 - j
 
--- src/line.rt:25:5
 loop-holds : tie.Need-loop-holds Inv-loop μ-loop
 loop-holds c = (omega arith, tested-none)
 
--- src/line.rt:26:30
 add-is-not-cr : tie.Need-add-is-not-cr Inv-loop μ-loop
 add-is-not-cr c = omega arith
 
--- src/line.rt:26:28
 shared-slice-read-is-not-cr : tie.Need-shared-slice-read-is-not-cr Inv-loop μ-loop
 shared-slice-read-is-not-cr c = omega arith
 
--- src/line.rt:26:19
 is-not-cr-requires : tie.Need-is-not-cr-requires Inv-loop μ-loop
 is-not-cr-requires c κs = search needs
 
--- src/line.rt:27:9
 add-j : tie.Need-add-j Inv-loop μ-loop
 add-j c = omega arith
 
--- src/line.rt:25:5
 loop-less : tie.Need-loop-less Inv-loop μ-loop
 loop-less c = omega arith
 
--- src/line.rt:25:5
 loop-again : tie.Need-loop-again Inv-loop μ-loop
 loop-again c = (omega arith, rw (c .is-not-cr .ensures) (tested-more (omega arith) (c .before .before .before .loop .inv .1)))
 
--- src/line.rt:19:1
 returns : tie.Need-returns Inv-loop μ-loop
 returns c = tested-all 32 (omega arith) (c .before .loop .inv .1)
 

@@ -7,9 +7,6 @@ use Rattle.utf8.specs.Run.{run, run-block}
 use Rattle.header.specs.FieldLaws.{notCr}
 use Rattle.header.proofs.field.not_cr_blocks.Statement.{statement}
 use Rattle.header.proofs.field.not_cr_blocks.Tie as tie
-use Rattle.header.proofs.field.not_cr_blocks.Reads as reads
-use Rattle.header.proofs.field.not_cr_blocks.Lts as lts
-use Rattle.header.proofs.field.not_cr32.Reads as not-cr32-reads
 
 abbrev Inv-loop : tie.InvT-loop
 Inv-loop h at i₀ i = (i ≤ length h) × (at + run notCr (drop at h) ≡ i + run notCr (drop i h))
@@ -17,35 +14,27 @@ Inv-loop h at i₀ i = (i ≤ length h) × (at + run notCr (drop at h) ≡ i + r
 abbrev μ-loop : tie.MeasureT-loop
 μ-loop h at i₀ i = length h - i
 
--- src/line.rt:38:5
 loop-holds : tie.Need-loop-holds Inv-loop μ-loop
 loop-holds c = (omega arith, refl)
 
--- src/line.rt:38:17
 sub-loop : tie.Need-sub-loop Inv-loop μ-loop
 sub-loop c = omega arith
 
--- src/line.rt:39:13
 not-cr32-requires : tie.Need-not-cr32-requires Inv-loop μ-loop
 not-cr32-requires c κs = omega arith
 
--- src/line.rt:40:13
 returns : tie.Need-returns Inv-loop μ-loop
 returns c = c .before .before .before .loop .inv
 
--- src/line.rt:42:9
 add-i : tie.Need-add-i Inv-loop μ-loop
 add-i c = omega arith
 
--- src/line.rt:38:5
 loop-less : tie.Need-loop-less Inv-loop μ-loop
 loop-less c = omega arith
 
--- src/line.rt:38:5
 loop-again : tie.Need-loop-again Inv-loop μ-loop
 loop-again c = (omega arith, c .before .before .before .loop .inv .1 ∙ run-block notCr _ _ 32 (omega arith) (sym (c .before .not-cr32 .ensures) ∙ not-false _ (c .if1 .left)))
 
--- src/line.rt:33:1
 returns-2 : tie.Need-returns-2 Inv-loop μ-loop
 returns-2 c = c .before .loop .inv
 

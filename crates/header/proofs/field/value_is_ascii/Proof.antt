@@ -3,48 +3,34 @@ use Rattle.header.specs.FieldLaws.{value-none, value-part, name-le}
 use borrow.Author.Needs.{needs}
 use Rattle.header.proofs.field.value_is_ascii.Statement.{statement}
 use Rattle.header.proofs.field.value_is_ascii.Tie as tie
-use Rattle.header.proofs.field.value_is_ascii.Reads as reads
-use Rattle.header.proofs.field.value_is_ascii.Lts as lts
-use Rattle.header.proofs.field.is_ascii.Reads as is-ascii-reads
-use Rattle.header.proofs.line.name_len.Reads as name-len-reads
 
--- src/field.rt:108:9
 name-len-requires : tie.Need-name-len-requires
 name-len-requires c κs = search needs
 
--- src/field.rt:109:22
 add-if1 : tie.Need-add-if1
 add-if1 c = omega (arith, c .name-len .ensures, name-le (c .before .before .args .field .now))
 
--- src/field.rt:110:9
 returns : tie.Need-returns
 returns c = value-none (c .before .before .before .args .field .now) (c .before .name-len .result) (c .before .name-len .ensures) (c .if1 .taken)
 
--- src/field.rt:112:16
 add-from : tie.Need-add-from
 add-from c = search needs
 
--- src/field.rt:113:14
 sub-to : tie.Need-sub-to
 sub-to c = search needs
 
--- src/field.rt:114:14
 sub-is-ascii : tie.Need-sub-is-ascii
 sub-is-ascii c = search needs
 
--- src/field.rt:114:14
 part-is-ascii-start : tie.Need-part-is-ascii-start
 part-is-ascii-start c = search needs
 
--- src/field.rt:114:14
 part-is-ascii-end : tie.Need-part-is-ascii-end
 part-is-ascii-end c = search needs
 
--- src/field.rt:114:5
 is-ascii-requires : tie.Need-is-ascii-requires
 is-ascii-requires c κs = search needs
 
--- src/field.rt:105:1
 returns-2 : tie.Need-returns-2
 returns-2 c = value-part (c .before .before .before .before .before .args .field .now) (c .before .before .before .name-len .result) (c .is-ascii .result) (c .before .before .before .name-len .ensures) (c .is-ascii .ensures)
 

@@ -2,30 +2,22 @@ use Rattle.header.specs.LineLaws.{crlf-short, crlf-here}
 use borrow.Author.Needs.{needs}
 use Rattle.header.proofs.line.crlf_at.Statement.{statement}
 use Rattle.header.proofs.line.crlf_at.Tie as tie
-use Rattle.header.proofs.line.crlf_at.Reads as reads
-use Rattle.header.proofs.line.crlf_at.Lts as lts
 
--- src/line.rt:107:8
 sub-if1 : tie.Need-sub-if1
 sub-if1 c = search needs
 
--- src/line.rt:108:9
 returns : tie.Need-returns
 returns c = crlf-short (c .before .args .h .now) (c .before .args .i) (c .if1 .taken)
 
--- src/line.rt:110:6
 shared-slice-read-result : tie.Need-shared-slice-read-result
 shared-slice-read-result c = search needs
 
--- src/line.rt:110:23
 add-result : tie.Need-add-result
 add-result c = search needs
 
--- src/line.rt:110:21
 shared-slice-read-result-2 : tie.Need-shared-slice-read-result-2
 shared-slice-read-result-2 c = search needs
 
--- src/line.rt:103:1
 returns-2 : tie.Need-returns-2
 returns-2 c = crlf-here (c .before .before .before .args .h .now) (c .before .before .before .args .i)
 

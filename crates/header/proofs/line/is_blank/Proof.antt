@@ -2,10 +2,7 @@ use mathlib.Core.Path.{refl}
 use Rattle.header.specs.Lines.{blank}
 use Rattle.header.proofs.line.is_blank.Statement.{statement}
 use Rattle.header.proofs.line.is_blank.Tie as tie
-use Rattle.header.proofs.line.is_blank.Reads as reads
-use Rattle.header.proofs.line.is_blank.Lts as lts
 
--- src/line.rt:114:1
 returns : tie.Need-returns
 unfolding blank
 returns c = refl

@@ -2,10 +2,7 @@ use mathlib.Core.Path.{refl}
 use Rattle.header.specs.Lines.{nameByte}
 use Rattle.header.proofs.line.is_name_byte.Statement.{statement}
 use Rattle.header.proofs.line.is_name_byte.Tie as tie
-use Rattle.header.proofs.line.is_name_byte.Reads as reads
-use Rattle.header.proofs.line.is_name_byte.Lts as lts
 
--- src/line.rt:120:1
 returns : tie.Need-returns
 unfolding nameByte
 returns c = refl

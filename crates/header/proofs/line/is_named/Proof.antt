@@ -2,20 +2,13 @@ use Rattle.header.specs.LineLaws.{named-by}
 use borrow.Author.Needs.{needs}
 use Rattle.header.proofs.line.is_named.Statement.{statement}
 use Rattle.header.proofs.line.is_named.Tie as tie
-use Rattle.header.proofs.line.is_named.Reads as reads
-use Rattle.header.proofs.line.is_named.Lts as lts
-use Rattle.header.proofs.line.byte_at.Reads as byte-at-reads
-use Rattle.header.proofs.line.name_len.Reads as name-len-reads
 
--- src/line.rt:144:9
 name-len-requires : tie.Need-name-len-requires
 name-len-requires c κs = search needs
 
--- src/line.rt:145:29
 byte-at-requires : tie.Need-byte-at-requires
 byte-at-requires c κs = search needs
 
--- src/line.rt:141:1
 returns : tie.Need-returns
 returns c = named-by _ _ _ (c .before .name-len .ensures) (c .byte-at .ensures)
 

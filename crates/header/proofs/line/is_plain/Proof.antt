@@ -3,10 +3,7 @@ use Rattle.header.specs.LineLaws.{plain}
 use Rattle.header.specs.Lines.{lineByte}
 use Rattle.header.proofs.line.is_plain.Statement.{statement}
 use Rattle.header.proofs.line.is_plain.Tie as tie
-use Rattle.header.proofs.line.is_plain.Reads as reads
-use Rattle.header.proofs.line.is_plain.Lts as lts
 
--- src/line.rt:12:1
 returns : tie.Need-returns
 unfolding plain lineByte
 returns c = refl

@@ -3,19 +3,13 @@ use Rattle.header.specs.LineLaws.{shaped-by, unshaped}
 use borrow.Author.Needs.{needs}
 use Rattle.header.proofs.line.is_shaped.Statement.{statement}
 use Rattle.header.proofs.line.is_shaped.Tie as tie
-use Rattle.header.proofs.line.is_shaped.Reads as reads
-use Rattle.header.proofs.line.is_shaped.Lts as lts
-use Rattle.header.proofs.line.starts_well.Reads as starts-well-reads
 
--- src/line.rt:162:9
 returns : tie.Need-returns
 returns c = unshaped (c .before .before .args .first) (c .before .before .args .line .now) (not-true _ (c .if1 .taken))
 
--- src/line.rt:164:5
 starts-well-requires : tie.Need-starts-well-requires
 starts-well-requires c κs = search needs
 
--- src/line.rt:158:1
 returns-2 : tie.Need-returns-2
 returns-2 c = shaped-by (c .before .before .before .args .first) (c .before .before .before .args .line .now) (c .starts-well .result) (not-false _ (c .before .if1 .left)) (c .starts-well .ensures)
 

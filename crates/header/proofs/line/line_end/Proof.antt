@@ -4,49 +4,34 @@ use Rattle.header.specs.LineLaws.{lined-text, lined-shape, lined-good}
 use borrow.Author.Needs.{needs}
 use Rattle.header.proofs.line.line_end.Statement.{statement}
 use Rattle.header.proofs.line.line_end.Tie as tie
-use Rattle.header.proofs.line.line_end.Reads as reads
-use Rattle.header.proofs.line.line_end.Lts as lts
-use Rattle.header.proofs.line.crlf_at.Reads as crlf-at-reads
-use Rattle.header.proofs.line.is_shaped.Reads as is-shaped-reads
-use Rattle.header.proofs.line.text_end.Reads as text-end-reads
 
--- src/line.rt:172:9
 text-end-requires : tie.Need-text-end-requires
 text-end-requires c κs = search needs
 
--- src/line.rt:173:9
 crlf-at-requires : tie.Need-crlf-at-requires
 crlf-at-requires c κs = search needs
 
--- src/line.rt:174:9
 returns : tie.Need-returns
 returns c = lined-text (c .before .before .text-end .ensures) (sym (c .before .crlf-at .ensures) ∙ not-true _ (c .if1 .taken))
 
--- src/line.rt:176:26
 sub-is-shaped : tie.Need-sub-is-shaped
 sub-is-shaped c = search needs
 
--- src/line.rt:176:26
 part-is-shaped-start : tie.Need-part-is-shaped-start
 part-is-shaped-start c = search needs
 
--- src/line.rt:176:26
 part-is-shaped-end : tie.Need-part-is-shaped-end
 part-is-shaped-end c = search needs
 
--- src/line.rt:176:9
 is-shaped-requires : tie.Need-is-shaped-requires
 is-shaped-requires c κs = search needs
 
--- src/line.rt:177:9
 returns-2 : tie.Need-returns-2
 returns-2 c = lined-shape (c .before .before .before .before .before .text-end .ensures) (sym (c .before .before .before .before .crlf-at .ensures) ∙ not-false _ (c .before .before .before .if1 .left)) (sym (c .before .is-shaped .ensures) ∙ not-true _ (c .if2 .taken))
 
--- src/line.rt:179:5
 add-result : tie.Need-add-result
 add-result c = search needs
 
--- src/line.rt:168:1
 returns-3 : tie.Need-returns-3
 returns-3 c = lined-good (c .before .before .before .before .before .text-end .ensures) (sym (c .before .before .before .before .crlf-at .ensures) ∙ not-false _ (c .before .before .before .if1 .left)) (sym (c .before .is-shaped .ensures) ∙ not-false _ (c .if2 .left))
 

@@ -9,9 +9,6 @@ use Rattle.utf8.specs.Run.{run, run-step, run-stop, run-end}
 use Rattle.header.specs.Lines.{nameByte, nameLen}
 use Rattle.header.proofs.line.name_len.Statement.{statement}
 use Rattle.header.proofs.line.name_len.Tie as tie
-use Rattle.header.proofs.line.name_len.Reads as reads
-use Rattle.header.proofs.line.name_len.Lts as lts
-use Rattle.header.proofs.line.is_name_byte.Reads as is-name-byte-reads
 
 abbrev Inv-loop : tie.InvT-loop
 Inv-loop line i₀ i = run nameByte line ≡ i + run nameByte (drop i line)
@@ -19,36 +16,28 @@ Inv-loop line i₀ i = run nameByte line ≡ i + run nameByte (drop i line)
 abbrev μ-loop : tie.MeasureT-loop
 μ-loop line i₀ i = length line - i
 
--- src/line.rt:131:5
 loop-holds : tie.Need-loop-holds Inv-loop μ-loop
 loop-holds c = sym (zero-add _)
 
--- src/line.rt:132:26
 shared-slice-read-is-name-byte : tie.Need-shared-slice-read-is-name-byte Inv-loop μ-loop
 shared-slice-read-is-name-byte c = omega arith
 
--- src/line.rt:132:13
 is-name-byte-requires : tie.Need-is-name-byte-requires Inv-loop μ-loop
 is-name-byte-requires c κs = search needs
 
--- src/line.rt:133:13
 returns : tie.Need-returns Inv-loop μ-loop
 unfolding nameLen
 returns c = sym (c .before .before .before .before .loop .inv ∙ run-stop nameByte _ _ (c .before .before .before .loop-test .taken) (sym (c .before .is-name-byte .ensures) ∙ not-true _ (c .if1 .taken)))
 
--- src/line.rt:135:9
 add-i : tie.Need-add-i Inv-loop μ-loop
 add-i c = omega arith
 
--- src/line.rt:131:5
 loop-less : tie.Need-loop-less Inv-loop μ-loop
 loop-less c = omega arith
 
--- src/line.rt:131:5
 loop-again : tie.Need-loop-again Inv-loop μ-loop
 loop-again c = c .before .before .before .before .loop .inv ∙ run-step nameByte _ _ (c .before .before .before .loop-test .taken) (sym (c .before .is-name-byte .ensures) ∙ not-false _ (c .if1 .left))
 
--- src/line.rt:127:1
 returns-2 : tie.Need-returns-2 Inv-loop μ-loop
 unfolding nameLen
 returns-2 c = sym (c .before .loop .inv ∙ run-end nameByte _ _ (c .loop-test .left))

@@ -8,10 +8,6 @@ use Rattle.utf8.specs.Run.{run, run-step, run-stop, run-end}
 use Rattle.header.specs.LineLaws.{plain}
 use Rattle.header.proofs.line.plain_end.Statement.{statement}
 use Rattle.header.proofs.line.plain_end.Tie as tie
-use Rattle.header.proofs.line.plain_end.Reads as reads
-use Rattle.header.proofs.line.plain_end.Lts as lts
-use Rattle.header.proofs.line.is_plain.Reads as is-plain-reads
-use Rattle.header.proofs.line.plain_blocks.Reads as plain-blocks-reads
 
 abbrev Inv-loop : tie.InvT-loop
 Inv-loop h at i₀ i = at + run plain (drop at h) ≡ i + run plain (drop i h)
@@ -19,39 +15,30 @@ Inv-loop h at i₀ i = at + run plain (drop at h) ≡ i + run plain (drop i h)
 abbrev μ-loop : tie.MeasureT-loop
 μ-loop h at i₀ i = length h - i
 
--- src/line.rt:52:9
 plain-blocks-requires : tie.Need-plain-blocks-requires Inv-loop μ-loop
 plain-blocks-requires c κs = search needs
 
--- src/line.rt:53:5
 loop-holds : tie.Need-loop-holds Inv-loop μ-loop
 loop-holds c = c .plain-blocks .ensures .1
 
--- src/line.rt:54:22
 shared-slice-read-is-plain : tie.Need-shared-slice-read-is-plain Inv-loop μ-loop
 shared-slice-read-is-plain c = omega arith
 
--- src/line.rt:54:13
 is-plain-requires : tie.Need-is-plain-requires Inv-loop μ-loop
 is-plain-requires c κs = search needs
 
--- src/line.rt:55:13
 returns : tie.Need-returns Inv-loop μ-loop
 returns c = sym (c .before .before .before .before .loop .inv ∙ run-stop plain _ _ (c .before .before .before .loop-test .taken) (sym (c .before .is-plain .ensures) ∙ not-true _ (c .if1 .taken)))
 
--- src/line.rt:57:9
 add-i : tie.Need-add-i Inv-loop μ-loop
 add-i c = omega arith
 
--- src/line.rt:53:5
 loop-less : tie.Need-loop-less Inv-loop μ-loop
 loop-less c = omega arith
 
--- src/line.rt:53:5
 loop-again : tie.Need-loop-again Inv-loop μ-loop
 loop-again c = c .before .before .before .before .loop .inv ∙ run-step plain _ _ (c .before .before .before .loop-test .taken) (sym (c .before .is-plain .ensures) ∙ not-false _ (c .if1 .left))
 
--- src/line.rt:48:1
 returns-2 : tie.Need-returns-2 Inv-loop μ-loop
 returns-2 c = sym (c .before .loop .inv ∙ run-end plain _ _ (c .loop-test .left))
 

@@ -4,29 +4,19 @@ use Rattle.header.specs.LineLaws.{start-blank, start-name}
 use borrow.Author.Needs.{needs}
 use Rattle.header.proofs.line.starts_well.Statement.{statement}
 use Rattle.header.proofs.line.starts_well.Tie as tie
-use Rattle.header.proofs.line.starts_well.Reads as reads
-use Rattle.header.proofs.line.starts_well.Lts as lts
-use Rattle.header.proofs.line.byte_at.Reads as byte-at-reads
-use Rattle.header.proofs.line.is_blank.Reads as is-blank-reads
-use Rattle.header.proofs.line.is_named.Reads as is-named-reads
 
--- src/line.rt:152:17
 byte-at-requires : tie.Need-byte-at-requires
 byte-at-requires c κs = search needs
 
--- src/line.rt:152:8
 is-blank-requires : tie.Need-is-blank-requires
 is-blank-requires c κs = search needs
 
--- src/line.rt:153:9
 returns : tie.Need-returns
 returns c = start-blank _ _ (ap blank (sym (c .before .before .byte-at .ensures)) ∙ sym (c .before .is-blank .ensures) ∙ c .if1 .taken)
 
--- src/line.rt:155:5
 is-named-requires : tie.Need-is-named-requires
 is-named-requires c κs = search needs
 
--- src/line.rt:149:1
 returns-2 : tie.Need-returns-2
 returns-2 c = c .is-named .ensures ∙ start-name _ _ (ap blank (sym (c .before .before .before .byte-at .ensures)) ∙ sym (c .before .before .is-blank .ensures) ∙ c .before .if1 .left)
 

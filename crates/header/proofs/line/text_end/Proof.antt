@@ -5,9 +5,6 @@ use lib.ListN.{length}
 use Rattle.header.specs.LineLaws.{Passed, passed-none, passed-then, text-end, stopped-end}
 use Rattle.header.proofs.line.text_end.Statement.{statement}
 use Rattle.header.proofs.line.text_end.Tie as tie
-use Rattle.header.proofs.line.text_end.Reads as reads
-use Rattle.header.proofs.line.text_end.Lts as lts
-use Rattle.header.proofs.line.text_step.Reads as text-step-reads
 
 abbrev Inv-loop : tie.InvT-loop
 Inv-loop h at i₀ i = Passed h at i
@@ -15,27 +12,21 @@ Inv-loop h at i₀ i = Passed h at i
 abbrev μ-loop : tie.MeasureT-loop
 μ-loop h at i₀ i = length h - i
 
--- src/line.rt:85:5
 loop-holds : tie.Need-loop-holds Inv-loop μ-loop
 loop-holds c = passed-none (c .before .pre)
 
--- src/line.rt:86:13
 text-step-requires : tie.Need-text-step-requires Inv-loop μ-loop
 text-step-requires c κs = search needs
 
--- src/line.rt:88:13
 returns : tie.Need-returns Inv-loop μ-loop
 returns c = text-end (c .before .before .before .loop .inv) (c .before .text-step .ensures .stop (c .if1 .taken))
 
--- src/line.rt:85:5
 loop-less : tie.Need-loop-less Inv-loop μ-loop
 loop-less c = let p = c .before .text-step .ensures .passed in omega (arith, p .up, p .inside, c .if1 .left)
 
--- src/line.rt:85:5
 loop-again : tie.Need-loop-again Inv-loop μ-loop
 loop-again c = passed-then (c .before .before .before .loop .inv) (c .before .text-step .ensures .passed)
 
--- src/line.rt:80:1
 returns-2 : tie.Need-returns-2 Inv-loop μ-loop
 returns-2 c = text-end (c .before .loop .inv) (stopped-end _ _ (c .loop-test .left))
 

@@ -6,41 +6,28 @@ use Rattle.header.specs.LineLaws.{step-plain, step-none, step-char}
 use borrow.Author.Needs.{needs}
 use Rattle.header.proofs.line.text_step.Statement.{statement}
 use Rattle.header.proofs.line.text_step.Tie as tie
-use Rattle.header.proofs.line.text_step.Reads as reads
-use Rattle.header.proofs.line.text_step.Lts as lts
-use Rattle.header.proofs.line.is_plain.Reads as is-plain-reads
-use Rattle.header.proofs.line.plain_end.Reads as plain-end-reads
-use Rattle.utf8.proofs.char_at.Reads as char-at-reads
 
--- src/line.rt:68:13
 shared-slice-read-b : tie.Need-shared-slice-read-b
 shared-slice-read-b c = search needs
 
--- src/line.rt:70:12
 is-plain-requires : tie.Need-is-plain-requires
 is-plain-requires c κs = search needs
 
--- src/line.rt:71:13
 plain-end-requires : tie.Need-plain-end-requires
 plain-end-requires c κs = search needs
 
--- src/line.rt:71:13
 returns : tie.Need-returns
 returns c = step-plain _ _ (c .before .before .before .before .before .before .pre) _ (sym (c .before .before .is-plain .ensures) ∙ c .before .if2 .taken) (c .plain-end .ensures)
 
--- src/line.rt:73:9
 returns-2 : tie.Need-returns-2
 returns-2 c = step-none _ _ (c .before .before .before .before .before .pre) (c .before .before .if1 .taken) (sym (c .before .is-plain .ensures) ∙ c .if2 .left)
 
--- src/line.rt:75:9
 char-at-requires : tie.Need-char-at-requires
 char-at-requires c κs = search needs
 
--- src/line.rt:76:5
 add-result : tie.Need-add-result
 add-result c = let h = c .before .before .before .before .args .h .now in let i = c .before .before .before .before .args .i in omega (arith, char-at-within (drop i h), length-drop i h)
 
--- src/line.rt:64:1
 returns-3 : tie.Need-returns-3
 returns-3 c = step-char _ _ (c .before .before .before .before .pre) _ (c .before .if1 .left) (c .char-at .ensures)
 
