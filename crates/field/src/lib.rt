@@ -1,8 +1,2 @@
 // Fields of the outgoing header.
-ghost use mathlib.Core.Path.{_≡_};
-
-pub fn one() -> usize
-    ensures { λ r. ⌜ r ≡ 1 ⌝ }
-{
-    1
-}
+mod text;

@@ -1,0 +1,74 @@
+use Rattle.field.proofs.text.put_unfolded.Statement.{statement}
+use Rattle.field.proofs.text.put_unfolded.Tie as tie
+use Rattle.field.proofs.text.put_unfolded.Reads as reads
+use Rattle.field.proofs.text.put_unfolded.Lts as lts
+use Rattle.buffer.proofs.add_slice.Reads as add-slice-reads
+use Rattle.field.proofs.text.next_fold.Reads as next-fold-reads
+
+abbrev Inv-loop : tie.InvT-loop
+Inv-loop out₀ s at₀ i₀ out at i = ?
+
+abbrev μ-loop : tie.MeasureT-loop
+μ-loop out₀ s at₀ i₀ out at i = ?
+
+-- src/text.rt:88:5
+loop-holds : tie.Need-loop-holds Inv-loop μ-loop
+loop-holds c = ?
+
+-- src/text.rt:89:13
+next-fold-requires : tie.Need-next-fold-requires Inv-loop μ-loop
+next-fold-requires c κs = ?
+
+-- src/text.rt:90:41
+sub-add-slice : tie.Need-sub-add-slice Inv-loop μ-loop
+sub-add-slice c = ?
+
+-- src/text.rt:90:41
+part-add-slice-start : tie.Need-part-add-slice-start Inv-loop μ-loop
+part-add-slice-start c = ?
+
+-- src/text.rt:90:41
+part-add-slice-end : tie.Need-part-add-slice-end Inv-loop μ-loop
+part-add-slice-end c = ?
+
+-- src/text.rt:90:9
+add-slice-requires : tie.Need-add-slice-requires Inv-loop μ-loop
+add-slice-requires c κs = ?
+
+-- src/text.rt:91:13
+add-i : tie.Need-add-i Inv-loop μ-loop
+add-i c = ?
+
+-- src/text.rt:88:5
+loop-less : tie.Need-loop-less Inv-loop μ-loop
+loop-less c = ?
+
+-- src/text.rt:88:5
+loop-again : tie.Need-loop-again Inv-loop μ-loop
+loop-again c = ?
+
+-- src/text.rt:83:1
+same-length : tie.Need-same-length Inv-loop μ-loop
+same-length c = ?
+
+-- src/text.rt:83:1
+returns : tie.Need-returns Inv-loop μ-loop
+returns c = ?
+
+pub put-unfolded-spec : {M : Type 1} → statement M
+put-unfolded-spec =
+    tie.close
+    (tie.spec
+    Inv-loop
+    μ-loop
+    loop-holds
+    next-fold-requires
+    sub-add-slice
+    part-add-slice-start
+    part-add-slice-end
+    add-slice-requires
+    add-i
+    loop-less
+    loop-again
+    same-length
+    returns)

@@ -1,0 +1,2 @@
+-- Laws of written fields. Assumes nothing.
+use Prim.Native.Nat.{ℕ}

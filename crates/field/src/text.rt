@@ -1,0 +1,94 @@
+// The text of a field: its value with each CRLF before a continuation removed, then without leading spaces and TABs.
+ghost use mathlib.Core.Path.{_≡_};
+ghost use mathlib.Core.Bool.{not};
+ghost use Prim.Native.Nat.{_≤_, _<_};
+ghost use lib.ListN.{length, drop};
+ghost use Rattle.utf8.specs.Lists.{all};
+ghost use Rattle.buffer.specs.Buffer.{Wrote};
+ghost use Rattle.encoded_word.specs.Row.{row};
+ghost use Rattle.header.specs.Fields.{fold, unfoldedAfter, trimmed};
+ghost use Rattle.header.specs.FieldLaws.{notCr};
+ghost use Rattle.field.specs.TextLaws.{BlankStep, TextStart, PieceEnd};
+use header::line::is_blank;
+
+// Whether a fold stands at i: CRLF before a space or TAB.
+fn fold_at(s: &[u8], i: usize) -> bool
+    requires { ⌜ i ≤ length (now s) ⌝ }
+    ensures { λ r. ⌜ r ≡ fold (drop i (now (s .entry))) ⌝ }
+{
+    if s.len() - i < 3 {
+        return false;
+    }
+    (s[i] == 13) & (s[i + 1] == 10) & is_blank(s[i + 2])
+}
+
+// How many bytes before the text stand at i: 1 for a blank, 2 for a fold, 0 where the text starts.
+fn blank_size(s: &[u8], i: usize) -> usize
+    requires { ⌜ i < length (now s) ⌝ }
+    ensures { λ r. ⌜ BlankStep (now (s .entry)) i r ⌝ }
+{
+    if is_blank(s[i]) {
+        return 1;
+    }
+    if fold_at(s, i) {
+        return 2;
+    }
+    0
+}
+
+// Where the text of a value starts.
+fn text_start(value: &[u8]) -> usize
+    ensures { λ r. ⌜ TextStart (now (value .entry)) r ⌝ }
+{
+    let mut i = 0;
+    while i < value.len() {
+        let n = blank_size(value, i);
+        if n == 0 {
+            return i;
+        }
+        i += n;
+    }
+    i
+}
+
+// Whether some bytes hold no CR. Without an early exit: most texts have no fold.
+fn has_no_cr(s: &[u8]) -> bool
+    ensures { λ r. ⌜ r ≡ all notCr (now (s .entry)) ⌝ }
+{
+    let mut ok = true;
+    let mut i = 0;
+    while i < s.len() {
+        ok = ok & !(s[i] == 13);
+        i += 1;
+    }
+    ok
+}
+
+// Where the next fold from `at` stands; the end where there is none.
+fn next_fold(s: &[u8], at: usize) -> usize
+    requires { ⌜ at ≤ length (now s) ⌝ }
+    ensures { λ r. ⌜ PieceEnd (now (s .entry)) at r ⌝ }
+{
+    let mut i = at;
+    while i < s.len() {
+        if fold_at(s, i) {
+            return i;
+        }
+        i += 1;
+    }
+    i
+}
+
+// Writes some bytes without the CRLF of their folds, piece by piece.
+fn put_unfolded(out: &mut [u8], s: &[u8]) -> usize
+    ensures { λ r. ⌜ Wrote (unfoldedAfter 0 (now (s .entry))) (now (out .entry)) (now (out .exit)) r ⌝ }
+{
+    let mut at: usize = 0;
+    let mut i = 0;
+    while i < s.len() {
+        let e = next_fold(s, i);
+        at = buffer::add_slice(out, at, &s[i..e]);
+        i = e + 2;
+    }
+    at
+}
