@@ -1,14 +1,14 @@
 -- What is written for a field of the header. Assumes nothing.
 use mathlib.Core.Bool.{Bool, true, false, cond}
-use mathlib.Core.List.{List, [], _∷_, _++_}
+use mathlib.Core.List.{List, [], _∷_, _++_, map}
 use Prim.Native.Nat.{ℕ}
 use lib.Dec.{leb}
 use lib.ListN.{length}
 use Rattle.utf8.specs.Byte.{isAscii}
-use Rattle.utf8.specs.Lists.{all}
+use Rattle.utf8.specs.Lists.{all, joined}
 use Rattle.encoded_word.specs.Segments.{Segment}
 use Rattle.encoded_word.specs.Segments.Segment.{raw, words}
-use Rattle.header.specs.Fields.{nameOf, valueOf, textOf}
+use Rattle.header.specs.Fields.{fieldsOf, nameOf, valueOf, textOf}
 use Rattle.header_name.specs.Names.{bytes, kindOf}
 use Rattle.header_name.specs.declared.Kind.{Kind}
 use Rattle.header_name.specs.declared.Kind.the-variants.{Address, PlainText, Held, Other}
@@ -34,6 +34,10 @@ kindSegments address Other field = encodedField true field
 -- "A field whose value is ASCII is copied."
 unfoldable pub fieldSegments : (List ℕ → List Segment) → List ℕ → List Segment
 fieldSegments address field = cond (all isAscii (valueOf field)) (raw field ∷ []) (kindSegments address (kindOf (nameOf field)) field)
+
+-- the fields of a header, one after another
+unfoldable pub headerSegments : (List ℕ → List Segment) → List ℕ → List Segment
+headerSegments address h = joined (map (fieldSegments address) (fieldsOf h))
 
 -- A header has at most 32,768 bytes, and so has a field: a longer one counts as empty.
 unfoldable pub boundedField : List ℕ → List ℕ

@@ -7,17 +7,17 @@ use native.Mathlib.Nat.{add-zero, not-suc-le-zero}
 use native.Mathlib.Numerals.{add-one}
 use native.Mathlib.Omega.{arith}
 use lib.Dec.{T, eqb, eqb→eq}
-use lib.ListN.{length, take, drop, getD, length-append, length-drop, drop-of-length-le, List·getD-eq-default}
+use lib.ListN.{length, take, drop, getD, length-append, length-take, length-drop, drop-of-length-le, List·getD-eq-default}
 use lib.Seq.{drop-cons, drop-drop, getD-drop, take-suc, take-all}
 use mir.Facts.{and-yes}
 use Rattle.utf8.specs.Lists.{by-test, cond-has, yes-true, true-yes, no-false, all}
 use Rattle.utf8.specs.Run.{run}
-use Rattle.buffer.specs.Buffer.{Appended, AppendedCapped, Reached, greatest}
-use Rattle.buffer.specs.BufferLaws.{appended-of, reached-then, reached-within}
-use Rattle.header.specs.Lines.{crlf, blank}
+use Rattle.buffer.specs.Buffer.{Wrote, AppendedCapped, Reached, greatest}
+use Rattle.buffer.specs.BufferLaws.{overlay-front, appended-of, reached-start, reached-then, reached-within, reached-end, length-reached, wrote-from}
+use Rattle.header.specs.Lines.{crlf, blank, nameLen}
 use Rattle.header.specs.LineLaws.{crlf-inside}
-use Rattle.header.specs.Fields.{fold, unfoldedAfter, trimmed}
-use Rattle.header.specs.FieldLaws.{notCr}
+use Rattle.header.specs.Fields.{fold, valueOf, unfoldedAfter, trimmed, textOf}
+use Rattle.header.specs.FieldLaws.{notCr, drop-take}
 
 -- ---- a fold at a place
 
@@ -209,7 +209,16 @@ module _ {s : List ℕ} {at e : ℕ} (u : Unbroken s at e) where
 pub record Unfolding (s : List ℕ) (i : ℕ) (before after : List ℕ) (n : ℕ) : Type 0 where
   pub reached : Reached (unfoldedAfter 0 s) (unfoldedAfter 0 (drop i s)) 0 before after n
 
+pub unfolding-start : (s before : List ℕ) → Unfolding s 0 before before 0
+unfolding-start s before = record { reached = reached-start (unfoldedAfter 0 s) 0 before }
+
 module _ {s before mid : List ℕ} {i n : ℕ} (g : Unfolding s i before mid n) where
+  pub unfolding-end : length s ≤ i → Wrote (unfoldedAfter 0 s) before mid n
+  unfolding-end k = wrote-from (reached-end (g .reached) (unfold-end s i k))
+
+  pub length-unfolding : length mid ≡ length before
+  length-unfolding = length-reached (g .reached)
+
   piece-fits : {e : ℕ} → PieceEnd s i e → n + length (take (e - i) (drop i s)) ≤ length s
   piece-fits {e} p =
       omega (arith, reached-within (g .reached), ap length (p .joins), length-append (take (e - i) (drop i s)) (unfoldedAfter 0 (drop (e + 2) s)), length-unfolded 0 s)
@@ -219,3 +228,42 @@ module _ {s before mid : List ℕ} {i n : ℕ} (g : Unfolding s i before mid n) 
   unfolding-next {after} {e} {m} p k a = record {
     reached = reached-then (take (e - i) (drop i s)) (unfoldedAfter 0 (drop (e + 2) s)) (g .reached) (p .joins) (appended-of a (omega (arith, piece-fits p)));
   }
+
+-- ---- the words of a text
+
+-- the text of a value is the part from its start on, where that has no CR
+pub text-whole : {value : List ℕ} {r : ℕ} → TextStart value r → all notCr (take (length value - r) (drop r value)) ≡ true
+    → trimmed (unfoldedAfter 0 value) ≡ take (length value - r) (drop r value)
+text-whole {value} {r} t e =
+    let rest : take (length value - r) (drop r value) ≡ drop r value = take-all (length value - r) (drop r value) (rw length-drop (omega arith)) in
+    t .text ∙ rw rest (unfold-none (drop r value) (true-yes (all notCr (drop r value)) (rw rest at e)))
+
+-- and else that part unfolded
+pub text-folded : {value : List ℕ} {r : ℕ} → TextStart value r → trimmed (unfoldedAfter 0 value) ≡ unfoldedAfter 0 (take (length value - r) (drop r value))
+text-folded {value} {r} t = t .text ∙ rw (take-all (length value - r) (drop r value) (rw length-drop (omega arith)))
+
+-- a text that fits a buffer is found at its front
+pub wrote-front : {text before after : List ℕ} {n : ℕ} → Wrote text before after n → length text ≤ length before → take n after ≡ text
+wrote-front {text} {before} w h = rw (w .size, w .bytes) (overlay-front text before h)
+
+module _ (field : List ℕ) (n : ℕ) (e : n ≡ nameLen field) where
+  pub value-of-part : take (length field - 2 - (n + 1)) (drop (n + 1) field) ≡ valueOf field
+  unfolding valueOf
+  value-of-part = rw (drop-take (nameLen field + 1) (length field - 2) field, e)
+
+  pub text-none : length field < n + 3 → textOf field ≡ []
+  unfolding textOf valueOf
+  text-none k =
+      let short : length (take (length field - 2) field) ≤ nameLen field + 1 = omega (arith, length-take (length field - 2) field) in
+      rw (drop-of-length-le (take (length field - 2) field) {i = nameLen field + 1} short, unfold-nil) trim-nil
+
+pub text-of-value : (field : List ℕ) → trimmed (unfoldedAfter 0 (valueOf field)) ≡ textOf field
+unfolding textOf
+text-of-value field = refl
+
+pub length-text : (field : List ℕ) → length (textOf field) ≤ length field
+unfolding textOf valueOf trimmed
+length-text field =
+    let value = drop (nameLen field + 1) (take (length field - 2) field) in
+    let text = unfoldedAfter 0 value in
+    omega (arith, length-drop (run blank text) text, length-unfolded 0 value, length-drop (nameLen field + 1) (take (length field - 2) field), length-take (length field - 2) field)

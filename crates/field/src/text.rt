@@ -1,12 +1,11 @@
 // The text of a field: its value with each CRLF before a continuation removed, then without leading spaces and TABs.
 ghost use mathlib.Core.Path.{_≡_};
-ghost use mathlib.Core.Bool.{not};
 ghost use Prim.Native.Nat.{_≤_, _<_};
 ghost use lib.ListN.{length, drop};
 ghost use Rattle.utf8.specs.Lists.{all};
 ghost use Rattle.buffer.specs.Buffer.{Wrote};
 ghost use Rattle.encoded_word.specs.Row.{row};
-ghost use Rattle.header.specs.Fields.{fold, unfoldedAfter, trimmed};
+ghost use Rattle.header.specs.Fields.{fold, unfoldedAfter, trimmed, textOf};
 ghost use Rattle.header.specs.FieldLaws.{notCr};
 ghost use Rattle.field.specs.TextLaws.{BlankStep, TextStart, PieceEnd};
 use header::line::is_blank;
@@ -91,4 +90,40 @@ fn put_unfolded(out: &mut [u8], s: &[u8]) -> usize
         i = e + 2;
     }
     at
+}
+
+// The encoded words of a text with folds, which is unfolded into a buffer of its own first.
+fn put_folded_words(out: &mut [u8], s: &[u8]) -> usize
+    requires { ⌜ length (now s) ≤ 32768 ⌝ }
+    ensures { λ r. ⌜ Wrote (row (unfoldedAfter 0 (now (s .entry)))) (now (out .entry)) (now (out .exit)) r ⌝ }
+{
+    let mut text = [0u8; 32768];
+    let n = put_unfolded(&mut text, s);
+    encoded_word::write(out, &text[..n])
+}
+
+// The encoded words of a value's text, which is read in place where it has no fold.
+fn put_value_words(out: &mut [u8], value: &[u8]) -> usize
+    requires { ⌜ length (now value) ≤ 32768 ⌝ }
+    ensures { λ r. ⌜ Wrote (row (trimmed (unfoldedAfter 0 (now (value .entry))))) (now (out .entry)) (now (out .exit)) r ⌝ }
+{
+    let start = text_start(value);
+    if has_no_cr(&value[start..]) {
+        return encoded_word::write(out, &value[start..]);
+    }
+    put_folded_words(out, &value[start..])
+}
+
+// The encoded words of a field's text.
+pub(crate) fn put_words(out: &mut [u8], field: &[u8]) -> usize
+    requires { ⌜ length (now field) ≤ 32768 ⌝ }
+    ensures { λ r. ⌜ Wrote (row (textOf (now (field .entry)))) (now (out .entry)) (now (out .exit)) r ⌝ }
+{
+    let n = header::line::name_len(field);
+    if field.len() < n + 3 {
+        return 0;
+    }
+    let from = n + 1;
+    let to = field.len() - 2;
+    put_value_words(out, &field[from..to])
 }
