@@ -13,7 +13,9 @@ use mir.Facts.{and-yes}
 use Rattle.utf8.specs.Lists.{by-test, cond-has, yes-true, true-yes, no-false, all}
 use Rattle.utf8.specs.Run.{run}
 use Rattle.buffer.specs.Buffer.{Wrote, AppendedCapped, Reached, greatest}
-use Rattle.buffer.specs.BufferLaws.{overlay-front, appended-of, reached-start, reached-then, reached-within, reached-end, length-reached, wrote-from}
+use Rattle.buffer.specs.BufferLaws.{overlay-front, length-wrote, appended-of, reached-start, reached-then, reached-within, reached-end, length-reached, wrote-from, wrote-nothing}
+use Rattle.encoded_word.specs.Row.{row, bounded}
+use Rattle.encoded_word.specs.StreamLaws.{bounded-short, row-nil}
 use Rattle.header.specs.Lines.{crlf, blank, nameLen}
 use Rattle.header.specs.LineLaws.{crlf-inside}
 use Rattle.header.specs.Fields.{fold, valueOf, unfoldedAfter, trimmed, textOf}
@@ -229,7 +231,7 @@ module _ {s before mid : List ℕ} {i n : ℕ} (g : Unfolding s i before mid n) 
     reached = reached-then (take (e - i) (drop i s)) (unfoldedAfter 0 (drop (e + 2) s)) (g .reached) (p .joins) (appended-of a (omega (arith, piece-fits p)));
   }
 
--- ---- the words of a text
+-- ---- the text, as code takes it
 
 -- the text of a value is the part from its start on, where that has no CR
 pub text-whole : {value : List ℕ} {r : ℕ} → TextStart value r → all notCr (take (length value - r) (drop r value)) ≡ true
@@ -267,3 +269,37 @@ length-text field =
     let value = drop (nameLen field + 1) (take (length field - 2) field) in
     let text = unfoldedAfter 0 value in
     omega (arith, length-drop (run blank text) text, length-unfolded 0 value, length-drop (nameLen field + 1) (take (length field - 2) field), length-take (length field - 2) field)
+
+-- ---- the words of a text, as they are written
+
+module _ {value before after : List ℕ} {start n : ℕ} (t : TextStart value start) where
+  pub words-whole : length value ≤ 32768 → all notCr (take (length value - start) (drop start value)) ≡ true
+      → Wrote (row (bounded (take (length value - start) (drop start value)))) before after n → Wrote (row (trimmed (unfoldedAfter 0 value))) before after n
+  words-whole h e w =
+      let part = take (length value - start) (drop start value) in
+      let short : bounded part ≡ part = bounded-short part (omega (arith, length-take (length value - start) (drop start value))) in
+      rw (text-whole t e) (rw short at w)
+
+  pub words-folded : Wrote (row (unfoldedAfter 0 (take (length value - start) (drop start value)))) before after n → Wrote (row (trimmed (unfoldedAfter 0 value))) before after n
+  words-folded w = rw (text-folded t) w
+
+module _ (s : List ℕ) {begun text : List ℕ} {n : ℕ} (u : Wrote (unfoldedAfter 0 s) begun text n) (h : length s ≤ 32768) where
+  pub unfolded-within : n ≤ 32768
+  unfolded-within = omega (arith, u .size, length-unfolded 0 s)
+
+  pub unfolded-size : length begun ≡ 32768 → n ≡ length (take n text)
+  unfolded-size k = rw length-take (omega (arith, unfolded-within, length-wrote u))
+
+  pub words-unfolded : {before after : List ℕ} {r : ℕ} → length begun ≡ 32768 → Wrote (row (bounded (take n text))) before after r → Wrote (row (unfoldedAfter 0 s)) before after r
+  words-unfolded k w =
+      let front : take n text ≡ unfoldedAfter 0 s = wrote-front u (omega (arith, length-unfolded 0 s)) in
+      let short : bounded (unfoldedAfter 0 s) ≡ unfoldedAfter 0 s = bounded-short (unfoldedAfter 0 s) (omega (arith, length-unfolded 0 s)) in
+      rw (front, short) at w
+
+module _ (field : List ℕ) (n : ℕ) (e : n ≡ nameLen field) where
+  pub words-none : (before : List ℕ) → length field < n + 3 → Wrote (row (textOf field)) before before 0
+  words-none before k = rw (text-none field n e k, row-nil [] refl) (wrote-nothing before)
+
+  pub words-value : {before after : List ℕ} {r : ℕ} → Wrote (row (trimmed (unfoldedAfter 0 (take (length field - 2 - (n + 1)) (drop (n + 1) field))))) before after r
+      → Wrote (row (textOf field)) before after r
+  words-value w = rw (value-of-part field n e, text-of-value field) at w

@@ -1,3 +1,5 @@
+use Rattle.field.specs.TextLaws.{words-whole, words-folded}
+use mathlib.Core.Path.{sym, _∙_}
 use borrow.Author.Needs.{needs}
 use Rattle.field.proofs.text.put_value_words.Statement.{statement}
 use Rattle.field.proofs.text.put_value_words.Tie as tie
@@ -50,7 +52,7 @@ same-length c = search needs
 
 -- src/text.rt:112:9
 returns : tie.Need-returns
-returns c = ?
+returns c = words-whole (c .before .before .before .before .before .before .before .before .text-start .ensures) (c .before .before .before .before .before .before .before .before .before .before .before .pre) (sym (c .before .before .before .before .before .before .has-no-cr .ensures) ∙ c .before .before .before .before .before .if1 .taken) (c .before .before .write .ensures)
 
 -- src/text.rt:114:27
 sub-put-folded-words : tie.Need-sub-put-folded-words
@@ -74,7 +76,7 @@ same-length-2 c = search needs
 
 -- src/text.rt:106:1
 returns-2 : tie.Need-returns-2
-returns-2 c = ?
+returns-2 c = words-folded (c .before .before .before .before .before .before .before .before .text-start .ensures) (c .before .before .put-folded-words .ensures)
 
 pub put-value-words-spec : {M : Type 1} → statement M
 put-value-words-spec =

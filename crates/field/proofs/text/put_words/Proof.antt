@@ -1,3 +1,6 @@
+use Rattle.header.specs.FieldLaws.{name-le}
+use Rattle.field.specs.TextLaws.{words-none, words-value}
+use native.Mathlib.Omega.{arith}
 use borrow.Author.Needs.{needs}
 use Rattle.field.proofs.text.put_words.Statement.{statement}
 use Rattle.field.proofs.text.put_words.Tie as tie
@@ -12,11 +15,11 @@ name-len-requires c κs = search needs
 
 -- src/text.rt:123:22
 add-if1 : tie.Need-add-if1
-add-if1 c = ?
+add-if1 c = omega (arith, c .name-len .ensures, name-le (c .before .before .before .args .field .now))
 
 -- src/text.rt:124:9
 returns : tie.Need-returns
-returns c = ?
+returns c = words-none (c .before .before .before .before .args .field .now) (c .before .name-len .result) (c .before .name-len .ensures) _ (c .if1 .taken)
 
 -- src/text.rt:126:16
 add-from : tie.Need-add-from
@@ -48,7 +51,7 @@ same-length c = search needs
 
 -- src/text.rt:118:1
 returns-2 : tie.Need-returns-2
-returns-2 c = ?
+returns-2 c = words-value (c .before .before .before .before .before .before .before .before .before .args .field .now) (c .before .before .before .before .before .before .name-len .result) (c .before .before .before .before .before .before .name-len .ensures) (c .before .before .put-value-words .ensures)
 
 pub put-words-spec : {M : Type 1} → statement M
 put-words-spec =

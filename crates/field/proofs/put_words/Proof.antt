@@ -1,0 +1,37 @@
+use borrow.Author.Needs.{needs}
+use Rattle.field.proofs.put_words.Statement.{statement}
+use Rattle.field.proofs.put_words.Tie as tie
+use Rattle.field.proofs.put_words.Reads as reads
+use Rattle.field.proofs.put_words.Lts as lts
+use Rattle.field.proofs.bounded_len.Reads as bounded-len-reads
+use Rattle.field.proofs.text.put_words.Reads as put-words-reads
+
+-- src/lib.rt:29:9
+bounded-len-requires : tie.Need-bounded-len-requires
+bounded-len-requires c κs = search needs
+
+-- src/lib.rt:30:26
+slice-aggregate-put-words : tie.Need-slice-aggregate-put-words
+slice-aggregate-put-words c = ?
+
+-- src/lib.rt:30:5
+put-words-requires : tie.Need-put-words-requires
+put-words-requires c κs = ?
+
+-- src/lib.rt:26:1
+same-length : tie.Need-same-length
+same-length c = search needs
+
+-- src/lib.rt:26:1
+returns : tie.Need-returns
+returns c = ?
+
+pub put-words-spec : {M : Type 1} → statement M
+put-words-spec =
+    tie.close
+    (tie.spec
+    bounded-len-requires
+    slice-aggregate-put-words
+    put-words-requires
+    same-length
+    returns)
