@@ -1,12 +1,12 @@
 -- Laws of written fields: their length, their writing, and that what is written is sound. Assumes nothing.
 use mathlib.Core.Path.{_≡_, refl, sym, ap, _∙_}
 use mathlib.Core.Bool.{Bool, true, false, cond}
-use mathlib.Core.List.{List, [], _∷_, _++_, List·Memᴰ, append-nil}
+use mathlib.Core.List.{List, [], _∷_, _++_, map, List·Memᴰ}
 use Prim.Native.Nat.{ℕ, _+_, _*_, _≤_, _<_}
 use native.Mathlib.Omega.{arith}
 use lib.Dec.{T, leb, lit≤, ltb→lt, lt→ltb}
 use lib.ListN.{length, take, length-append, length-take}
-use lib.Seq.{take-length}
+use lib.Seq.{take-length, length-take-le}
 use mir.Facts.{and-yes, yes-and, leb-yes, leb-no}
 use borrow.Author.Tests.{le-leb, lt-leb}
 use Rattle.utf8.specs.Byte.{isAscii, within, within-high}
@@ -28,6 +28,7 @@ use Rattle.encoded_word.specs.SegmentsLaws.{rendered-ascii, words-demand-3}
 use Rattle.header.specs.declared.Lines.the-variants.{WellFormed}
 use Rattle.header.specs.Lines.{linesOf, nameByte, nameLen}
 use Rattle.header.specs.Fields.{fieldsOf, nameOf, valueOf, textOf}
+use Rattle.header.specs.FieldLaws.{name-le}
 use Rattle.header.specs.FieldShape.{Shaped, Each}
 use Rattle.header.specs.FieldShapeLaws.{fields-shaped, text-utf8}
 use Rattle.header_name.specs.Names.{bytes, kindOf}
@@ -48,13 +49,24 @@ length-bounded field =
     cond-has (λ (l : List ℕ). length l ≤ 32768) (leb (length field) 32768) field [] (λ t. leb-yes t) (λ t. omega arith)
 
 -- as code takes it from the front
-pub bounded-part : (field : List ℕ) (n : ℕ) → n ≡ cond (leb (length field) 32768) (length field) 0 → take n field ≡ boundedField field
-unfolding boundedField
-bounded-part field n e = rw e (go (leb (length field) 32768))
-  where
-    go : (b : Bool) → take (cond b (length field) 0) field ≡ cond b field []
-    go true = take-length field
-    go false = refl
+module _ (field : List ℕ) (n : ℕ) (e : n ≡ cond (leb (length field) 32768) (length field) 0) where
+  pub bounded-part : take n field ≡ boundedField field
+  unfolding boundedField
+  bounded-part = rw e (go (leb (length field) 32768))
+    where
+      go : (b : Bool) → take (cond b (length field) 0) field ≡ cond b field []
+      go true = take-length field
+      go false = refl
+
+  pub bounded-size : n ≡ length (take n field)
+  bounded-size = sym (length-take-le n field (rw e (go (leb (length field) 32768))))
+    where
+      go : (b : Bool) → cond b (length field) 0 ≤ length field
+      go true = omega arith
+      go false = omega arith
+
+  pub bounded-short : length (take n field) ≤ 32768
+  bounded-short = rw bounded-part (length-bounded field)
 
 -- ---- the length of what is written
 
@@ -97,14 +109,21 @@ length-name field = omega (arith, length-take (nameLen field) field)
 
 -- ---- the writing of a field, part by part
 
-pub encoded-wrote : (downgraded : Bool) (field : List ℕ) {before named colon text last after : List ℕ} {r n c t s : ℕ} → length field ≤ 32768
-    → Wrote (prefix downgraded) before named r → AppendedCapped (nameOf field) r named colon n → AppendedCapped (58 ∷ []) n colon text c
+pub name-part : (field : List ℕ) (n : ℕ) → n ≡ nameLen field → take n field ≡ nameOf field
+unfolding nameOf
+name-part field n e = rw e
+
+pub name-size : (field : List ℕ) (n : ℕ) → n ≡ nameLen field → n ≡ length (take n field)
+name-size field n e = sym (length-take-le n field (rw e (name-le field)))
+
+pub encoded-wrote : (downgraded : Bool) (field : List ℕ) {before named colon text last after : List ℕ} {m r n c t s : ℕ} → length field ≤ 32768 → m ≡ nameLen field
+    → Wrote (prefix downgraded) before named r → AppendedCapped (take m field) r named colon n → AppendedCapped (58 ∷ []) n colon text c
     → AppendedCapped (row (textOf field)) c text last t → AppendedCapped (13 ∷ 10 ∷ []) t last after s
     → Wrote (rendered (encodedField downgraded field)) before after s
 unfolding rendered encodedField
-encoded-wrote downgraded field {before} {named} {colon} {text} {last} {after} {r} {n} {c} {t} {s} h w a b d e =
+encoded-wrote downgraded field {before} {named} {colon} {text} {last} {after} {m} {r} {n} {c} {t} {s} h k w a b d e =
     let first : r ≤ 11 = omega (arith, w .size, length-prefix downgraded) in
-    let name = appended-of a (omega (arith, length-name field)) in
+    let name : Appended (nameOf field) r named colon n = appended-of (rw (name-part field m k) at a) (omega (arith, length-name field)) in
     let after-name : n ≤ 11 + 32768 = omega (arith, name .place, length-name field) in
     let mark = appended-of b (omega arith) in
     let after-mark : c ≤ 12 + 32768 = omega (arith, mark .place) in
@@ -157,3 +176,28 @@ field-sound address {field} s a =
     by-kind PlainText f = encoded-sound false s
     by-kind Held f = tt
     by-kind Other f = encoded-sound true s
+
+-- The segments of an address field are left to a parameter: they have to be sound for every address field.
+pub record AddressSound (address : List ℕ → List Segment) : Type 0 where
+  pub each : (field : List ℕ) → Shaped field → kindOf (nameOf field) ≡ Address → T (all sound (address field))
+
+fields-sound : {address : List ℕ → List Segment} → AddressSound address → (fields : List (List ℕ)) → Each Shaped fields
+    → T (all sound (joined (map (fieldSegments address) fields)))
+fields-sound a [] s = tt
+fields-sound {address} a (field ∷ fields) s =
+    all-append sound (fieldSegments address field) (joined (map (fieldSegments address) fields))
+    (field-sound address (s .0) (λ k. a .each field (s .0) k))
+    (fields-sound a fields (s .1))
+
+module _ {address : List ℕ → List Segment} (a : AddressSound address) (h : List ℕ) (w : linesOf h ≡ WellFormed) where
+  pub header-sound : T (all sound (headerSegments address h))
+  unfolding headerSegments
+  header-sound = fields-sound a (fieldsOf h) (fields-shaped h w)
+
+  -- What is written for the fields of a well-formed header is all ASCII,
+  pub header-ascii : T (all isAscii (rendered (headerSegments address h)))
+  header-ascii = rendered-ascii (headerSegments address h) header-sound
+
+  -- and demand 3 holds of each text that is encoded in it.
+  pub header-demand-3 : (text : List ℕ) → List·Memᴰ (words text) (headerSegments address h) → Demand3 text (row text)
+  header-demand-3 text m = words-demand-3 (headerSegments address h) text header-sound m

@@ -1,3 +1,4 @@
+use Rattle.buffer.specs.BufferLaws.{added-by}
 use borrow.Author.Needs.{needs}
 use Rattle.field.proofs.add_words.Statement.{statement}
 use Rattle.field.proofs.add_words.Tie as tie
@@ -37,7 +38,7 @@ same-length c = search needs
 
 -- src/lib.rt:34:1
 returns : tie.Need-returns
-returns c = ?
+returns c = added-by _ _ _ _ _ (c .before .before .before .before .before .clip .ensures) (c .before .before .before .put-words .ensures) (c .place-after .ensures)
 
 pub add-words-spec : {M : Type 1} → statement M
 add-words-spec =

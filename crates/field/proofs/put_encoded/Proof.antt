@@ -1,3 +1,4 @@
+use Rattle.field.specs.FieldLaws.{name-size, encoded-wrote}
 use borrow.Author.Needs.{needs}
 use Rattle.field.proofs.put_encoded.Statement.{statement}
 use Rattle.field.proofs.put_encoded.Tie as tie
@@ -19,7 +20,7 @@ put-prefix-requires c κs = search needs
 
 -- src/lib.rt:58:46
 slice-aggregate-add-slice : tie.Need-slice-aggregate-add-slice
-slice-aggregate-add-slice c = ?
+slice-aggregate-add-slice c = name-size (c .before .before .before .before .before .before .before .before .before .args .field .now) (c .before .before .before .before .before .before .name-len .result) (c .before .before .before .before .before .before .name-len .ensures)
 
 -- src/lib.rt:58:9
 add-slice-requires : tie.Need-add-slice-requires
@@ -47,7 +48,7 @@ same-length c = search needs
 
 -- src/lib.rt:52:1
 returns : tie.Need-returns
-returns c = ?
+returns c = encoded-wrote (c .before .before .before .before .before .before .before .before .before .before .before .before .before .before .before .before .before .before .before .before .before .before .before .before .before .args .downgraded) (c .before .before .before .before .before .before .before .before .before .before .before .before .before .before .before .before .before .before .before .before .before .before .before .before .before .args .field .now) (c .before .before .before .before .before .before .before .before .before .before .before .before .before .before .before .before .before .before .before .before .before .before .before .before .before .pre) (c .before .before .before .before .before .before .before .before .before .before .before .before .before .before .before .before .before .before .before .before .before .before .name-len .ensures) (c .before .before .before .before .before .before .before .before .before .before .before .before .before .before .before .before .before .before .before .before .put-prefix .ensures) (c .before .before .before .before .before .before .before .before .before .before .before .before .before .before .before .add-slice .ensures) (c .before .before .before .before .before .before .before .before .before .before .before .add-byte .ensures) (c .before .before .before .before .before .before .before .add-words .ensures) (c .before .before .add-slice2 .ensures)
 
 pub put-encoded-spec : {M : Type 1} → statement M
 put-encoded-spec =

@@ -1,3 +1,6 @@
+use Rattle.buffer.specs.BufferLaws.{wrote-nothing}
+use Rattle.header_name.specs.Names.{bytes}
+use Rattle.field.specs.Field.{prefix}
 use borrow.Author.Needs.{needs}
 use Rattle.field.proofs.put_prefix.Statement.{statement}
 use Rattle.field.proofs.put_prefix.Tie as tie
@@ -19,11 +22,13 @@ same-length c = search needs
 
 -- src/lib.rt:47:9
 returns : tie.Need-returns
-returns c = ?
+unfolding prefix bytes
+returns c = rw (c .before .before .before .before .before .if1 .taken) (c .before .before .put-slice .ensures)
 
 -- src/lib.rt:43:1
 returns-2 : tie.Need-returns-2
-returns-2 c = ?
+unfolding prefix
+returns-2 c = rw (c .if1 .left) (wrote-nothing _)
 
 pub put-prefix-spec : {M : Type 1} → statement M
 put-prefix-spec =

@@ -1,3 +1,4 @@
+use Rattle.field.specs.FieldLaws.{bounded-part, bounded-size, bounded-short}
 use borrow.Author.Needs.{needs}
 use Rattle.field.proofs.put_words.Statement.{statement}
 use Rattle.field.proofs.put_words.Tie as tie
@@ -12,11 +13,11 @@ bounded-len-requires c κs = search needs
 
 -- src/lib.rt:30:26
 slice-aggregate-put-words : tie.Need-slice-aggregate-put-words
-slice-aggregate-put-words c = ?
+slice-aggregate-put-words c = bounded-size (c .before .before .before .before .before .args .field .now) (c .before .before .bounded-len .result) (c .before .before .bounded-len .ensures)
 
 -- src/lib.rt:30:5
 put-words-requires : tie.Need-put-words-requires
-put-words-requires c κs = ?
+put-words-requires c κs = bounded-short (c .before .before .before .before .before .args .field .now) (c .before .before .bounded-len .result) (c .before .before .bounded-len .ensures)
 
 -- src/lib.rt:26:1
 same-length : tie.Need-same-length
@@ -24,7 +25,7 @@ same-length c = search needs
 
 -- src/lib.rt:26:1
 returns : tie.Need-returns
-returns c = ?
+returns c = rw (bounded-part (c .before .before .before .before .before .before .before .before .args .field .now) (c .before .before .before .before .before .bounded-len .result) (c .before .before .before .before .before .bounded-len .ensures)) at (c .before .before .put-words .ensures)
 
 pub put-words-spec : {M : Type 1} → statement M
 put-words-spec =

@@ -1,3 +1,4 @@
+use Rattle.field.specs.FieldLaws.{bounded-part, bounded-size, bounded-short}
 use borrow.Author.Needs.{needs}
 use Rattle.field.proofs.write_encoded.Statement.{statement}
 use Rattle.field.proofs.write_encoded.Tie as tie
@@ -12,11 +13,11 @@ bounded-len-requires c κs = search needs
 
 -- src/lib.rt:70:22
 slice-aggregate-put-encoded : tie.Need-slice-aggregate-put-encoded
-slice-aggregate-put-encoded c = ?
+slice-aggregate-put-encoded c = bounded-size (c .before .before .before .before .before .args .field .now) (c .before .before .bounded-len .result) (c .before .before .bounded-len .ensures)
 
 -- src/lib.rt:70:5
 put-encoded-requires : tie.Need-put-encoded-requires
-put-encoded-requires c κs = ?
+put-encoded-requires c κs = bounded-short (c .before .before .before .before .before .args .field .now) (c .before .before .bounded-len .result) (c .before .before .bounded-len .ensures)
 
 -- src/lib.rt:66:1
 same-length : tie.Need-same-length
@@ -24,7 +25,7 @@ same-length c = search needs
 
 -- src/lib.rt:66:1
 returns : tie.Need-returns
-returns c = ?
+returns c = rw (bounded-part (c .before .before .before .before .before .before .before .before .args .field .now) (c .before .before .before .before .before .bounded-len .result) (c .before .before .before .before .before .bounded-len .ensures)) at (c .before .before .put-encoded .ensures)
 
 pub write-encoded-spec : {M : Type 1} → statement M
 write-encoded-spec =
