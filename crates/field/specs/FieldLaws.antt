@@ -1,26 +1,26 @@
 -- Laws of written fields: their length, their writing, and that what is written is sound. Assumes nothing.
-use mathlib.Core.Path.{_≡_, refl, sym, ap, _∙_}
+use mathlib.Core.Path.{_≡_, refl, sym, ap}
 use mathlib.Core.Bool.{Bool, true, false, cond}
 use mathlib.Core.List.{List, [], _∷_, _++_, map, List·Memᴰ}
 use Prim.Native.Nat.{ℕ, _+_, _*_, _≤_, _<_}
 use native.Mathlib.Omega.{arith}
-use lib.Dec.{T, leb, lit≤, ltb→lt, lt→ltb}
+use lib.Dec.{T, leb, lit≤, lt→ltb}
 use lib.ListN.{length, take, length-append, length-take}
 use lib.Seq.{take-length, length-take-le}
 use mir.Facts.{and-yes, yes-and, leb-yes, leb-no}
-use borrow.Author.Tests.{le-leb, lt-leb}
+use borrow.Author.Tests.{le-leb}
 use Rattle.utf8.specs.Byte.{isAscii, within, within-high}
-use Rattle.utf8.specs.Lists.{by-test, cond-has, yes-true, true-yes, all, all-append, all-weaken, joined, nonempty}
+use Rattle.utf8.specs.Lists.{by-test, cond-has, all, all-append, all-weaken, joined, nonempty}
 use Rattle.utf8.specs.Run.{run-all}
 use Rattle.utf8.specs.Utf8.{utf8, chars}
 use Rattle.utf8.specs.Utf8Laws.{chars-joined, chars-some}
-use Rattle.buffer.specs.Buffer.{Wrote, Appended, AppendedCapped, greatest}
+use Rattle.buffer.specs.Buffer.{Wrote, Appended, AppendedCapped}
 use Rattle.buffer.specs.BufferLaws.{appended-from, appended-of, appended-then, wrote-from}
 use Rattle.encoded_word.specs.Row.{row}
 use Rattle.encoded_word.specs.Demand3.{Demand3}
 use Rattle.encoded_word.specs.SpellingLaws.{length-spell}
 use Rattle.encoded_word.specs.Spelling.{spell}
-use Rattle.encoded_word.specs.Stream.{cost, gap, leftAfter, onwards, onwardsAt}
+use Rattle.encoded_word.specs.Stream.{cost, gap, leftAfter, onwards}
 use Rattle.encoded_word.specs.StreamLaws.{length-gap, length-row, row-nil}
 use Rattle.encoded_word.specs.Segments.{Segment, rendered, sound}
 use Rattle.encoded_word.specs.Segments.Segment.{raw, words}
@@ -84,7 +84,7 @@ length-onwards left (c ∷ cs) h =
       length-gap left (cost c),
       length-spell c,
       length-append c (joined cs),
-      length-onwards (leftAfter 63 left (cost c)) cs (both .1)
+      length-onwards (leftAfter 63 left (cost c)) cs (both .1),
     )
   where
     some : (c : List ℕ) → T (nonempty c) → 0 < length c

@@ -3,32 +3,22 @@ use mathlib.Core.Path.{sym, _∙_}
 use borrow.Author.Needs.{needs}
 use Rattle.field.proofs.text.blank_size.Statement.{statement}
 use Rattle.field.proofs.text.blank_size.Tie as tie
-use Rattle.field.proofs.text.blank_size.Reads as reads
-use Rattle.field.proofs.text.blank_size.Lts as lts
-use Rattle.field.proofs.text.fold_at.Reads as fold-at-reads
-use Rattle.header.proofs.line.is_blank.Reads as is-blank-reads
 
--- src/text.rt:30:17
 shared-slice-read-is-blank : tie.Need-shared-slice-read-is-blank
 shared-slice-read-is-blank c = search needs
 
--- src/text.rt:30:8
 is-blank-requires : tie.Need-is-blank-requires
 is-blank-requires c κs = search needs
 
--- src/text.rt:31:9
 returns : tie.Need-returns
 returns c = step-blank _ _ (c .before .before .before .before .pre) (sym (c .before .is-blank .ensures) ∙ c .if1 .taken)
 
--- src/text.rt:33:8
 fold-at-requires : tie.Need-fold-at-requires
 fold-at-requires c κs = search needs
 
--- src/text.rt:34:9
 returns-2 : tie.Need-returns-2
 returns-2 c = step-fold _ _ (c .before .before .before .before .before .before .pre) (sym (c .before .fold-at .ensures) ∙ c .if2 .taken)
 
--- src/text.rt:26:1
 returns-3 : tie.Need-returns-3
 returns-3 c = step-none _ _ (c .before .before .before .before .before .before .pre) (sym (c .before .before .before .is-blank .ensures) ∙ c .before .before .if1 .left) (sym (c .before .fold-at .ensures) ∙ c .if2 .left)
 

@@ -2,43 +2,31 @@ use Rattle.field.specs.TextLaws.{fold-short, fold-here}
 use borrow.Author.Needs.{needs}
 use Rattle.field.proofs.text.fold_at.Statement.{statement}
 use Rattle.field.proofs.text.fold_at.Tie as tie
-use Rattle.field.proofs.text.fold_at.Reads as reads
-use Rattle.field.proofs.text.fold_at.Lts as lts
-use Rattle.header.proofs.line.is_blank.Reads as is-blank-reads
 
--- src/text.rt:19:8
 sub-if1 : tie.Need-sub-if1
 sub-if1 c = search needs
 
--- src/text.rt:20:9
 returns : tie.Need-returns
 returns c = fold-short (c .before .before .args .s .now) (c .before .before .args .i) (c .if1 .taken)
 
--- src/text.rt:22:6
 shared-slice-read-result : tie.Need-shared-slice-read-result
 shared-slice-read-result c = search needs
 
--- src/text.rt:22:23
 add-result : tie.Need-add-result
 add-result c = search needs
 
--- src/text.rt:22:21
 shared-slice-read-result-2 : tie.Need-shared-slice-read-result-2
 shared-slice-read-result-2 c = search needs
 
--- src/text.rt:22:50
 add-is-blank : tie.Need-add-is-blank
 add-is-blank c = search needs
 
--- src/text.rt:22:48
 shared-slice-read-is-blank : tie.Need-shared-slice-read-is-blank
 shared-slice-read-is-blank c = search needs
 
--- src/text.rt:22:39
 is-blank-requires : tie.Need-is-blank-requires
 is-blank-requires c κs = search needs
 
--- src/text.rt:15:1
 returns-2 : tie.Need-returns-2
 returns-2 c = rw (c .is-blank .ensures) (fold-here (c .before .before .before .before .before .before .args .s .now) (c .before .before .before .before .before .before .args .i))
 

@@ -6,11 +6,9 @@ use lib.ListN.{length}
 use native.Mathlib.Omega.{arith}
 use native.Mathlib.Nat.{zero-add}
 use Prim.Native.Nat.{_-_, _≤_}
-use mathlib.Core.Path.{_≡_, ap, _∙_}
+use mathlib.Core.Path.{ap, _∙_}
 use Rattle.field.proofs.text.has_no_cr.Statement.{statement}
 use Rattle.field.proofs.text.has_no_cr.Tie as tie
-use Rattle.field.proofs.text.has_no_cr.Reads as reads
-use Rattle.field.proofs.text.has_no_cr.Lts as lts
 
 abbrev Inv-loop : tie.InvT-loop
 Inv-loop s ok₀ i₀ ok i = (i ≤ length s) × Tested notCr s 0 i ok
@@ -18,28 +16,22 @@ Inv-loop s ok₀ i₀ ok i = (i ≤ length s) × Tested notCr s 0 i ok
 abbrev μ-loop : tie.MeasureT-loop
 μ-loop s ok₀ i₀ ok i = length s - i
 
--- src/text.rt:60:5
 loop-holds : tie.Need-loop-holds Inv-loop μ-loop
 loop-holds c = (omega arith, tested-none)
 
--- src/text.rt:61:21
 shared-slice-read-ok : tie.Need-shared-slice-read-ok Inv-loop μ-loop
 shared-slice-read-ok c = omega arith
 
--- src/text.rt:62:9
 add-i : tie.Need-add-i Inv-loop μ-loop
 add-i c = omega arith
 
--- src/text.rt:60:5
 loop-less : tie.Need-loop-less Inv-loop μ-loop
 loop-less c = omega arith
 
--- src/text.rt:60:5
 loop-again : tie.Need-loop-again Inv-loop μ-loop
 unfolding notCr
 loop-again c = (omega arith, rw zero-add at (tested-more {f = notCr} (omega arith) (c .before .before .loop .inv .1)))
 
--- src/text.rt:55:1
 returns : tie.Need-returns Inv-loop μ-loop
 returns c = let s = c .before .before .args .s .now in tested-all (length s) (omega arith) (c .before .loop .inv .1) ∙ ap (all notCr) (take-length s)
 

@@ -6,9 +6,6 @@ use Prim.Native.Nat.{_-_}
 use mathlib.Core.Path.{sym, _∙_}
 use Rattle.field.proofs.text.next_fold.Statement.{statement}
 use Rattle.field.proofs.text.next_fold.Tie as tie
-use Rattle.field.proofs.text.next_fold.Reads as reads
-use Rattle.field.proofs.text.next_fold.Lts as lts
-use Rattle.field.proofs.text.fold_at.Reads as fold-at-reads
 
 abbrev Inv-loop : tie.InvT-loop
 Inv-loop s at i₀ i = Unbroken s at i
@@ -16,31 +13,24 @@ Inv-loop s at i₀ i = Unbroken s at i
 abbrev μ-loop : tie.MeasureT-loop
 μ-loop s at i₀ i = length s - i
 
--- src/text.rt:73:5
 loop-holds : tie.Need-loop-holds Inv-loop μ-loop
 loop-holds c = unbroken-none (c .before .pre)
 
--- src/text.rt:74:12
 fold-at-requires : tie.Need-fold-at-requires Inv-loop μ-loop
 fold-at-requires c κs = search needs
 
--- src/text.rt:75:13
 returns : tie.Need-returns Inv-loop μ-loop
 returns c = piece-fold (c .before .before .before .loop .inv) (sym (c .before .fold-at .ensures) ∙ c .if1 .taken)
 
--- src/text.rt:77:9
 add-i : tie.Need-add-i Inv-loop μ-loop
 add-i c = omega arith
 
--- src/text.rt:73:5
 loop-less : tie.Need-loop-less Inv-loop μ-loop
 loop-less c = omega arith
 
--- src/text.rt:73:5
 loop-again : tie.Need-loop-again Inv-loop μ-loop
 loop-again c = unbroken-more (c .before .before .before .loop .inv) (c .before .before .loop-test .taken) (sym (c .before .fold-at .ensures) ∙ c .if1 .left)
 
--- src/text.rt:68:1
 returns-2 : tie.Need-returns-2 Inv-loop μ-loop
 returns-2 c = piece-end (c .before .loop .inv) (c .loop-test .left)
 

@@ -3,78 +3,55 @@ use mathlib.Core.Path.{sym, _∙_}
 use borrow.Author.Needs.{needs}
 use Rattle.field.proofs.text.put_value_words.Statement.{statement}
 use Rattle.field.proofs.text.put_value_words.Tie as tie
-use Rattle.field.proofs.text.put_value_words.Reads as reads
-use Rattle.field.proofs.text.put_value_words.Lts as lts
-use Rattle.encoded_word.proofs.write.Reads as write-reads
-use Rattle.field.proofs.text.has_no_cr.Reads as has-no-cr-reads
-use Rattle.field.proofs.text.put_folded_words.Reads as put-folded-words-reads
-use Rattle.field.proofs.text.text_start.Reads as text-start-reads
 
--- src/text.rt:110:9
 text-start-requires : tie.Need-text-start-requires
 text-start-requires c κs = search needs
 
--- src/text.rt:111:18
 sub-has-no-cr : tie.Need-sub-has-no-cr
 sub-has-no-cr c = search needs
 
--- src/text.rt:111:18
 part-has-no-cr-start : tie.Need-part-has-no-cr-start
 part-has-no-cr-start c = search needs
 
--- src/text.rt:111:18
 part-has-no-cr-end : tie.Need-part-has-no-cr-end
 part-has-no-cr-end c = search needs
 
--- src/text.rt:111:8
 has-no-cr-requires : tie.Need-has-no-cr-requires
 has-no-cr-requires c κs = search needs
 
--- src/text.rt:112:41
 sub-write : tie.Need-sub-write
 sub-write c = search needs
 
--- src/text.rt:112:41
 part-write-start : tie.Need-part-write-start
 part-write-start c = search needs
 
--- src/text.rt:112:41
 part-write-end : tie.Need-part-write-end
 part-write-end c = search needs
 
--- src/text.rt:112:9
 write-requires : tie.Need-write-requires
 write-requires c κs = search needs
 
--- src/text.rt:112:9
 same-length : tie.Need-same-length
 same-length c = search needs
 
--- src/text.rt:112:9
 returns : tie.Need-returns
 returns c = words-whole (c .before .before .before .before .before .before .before .before .text-start .ensures) (c .before .before .before .before .before .before .before .before .before .before .before .pre) (sym (c .before .before .before .before .before .before .has-no-cr .ensures) ∙ c .before .before .before .before .before .if1 .taken) (c .before .before .write .ensures)
 
--- src/text.rt:114:27
 sub-put-folded-words : tie.Need-sub-put-folded-words
 sub-put-folded-words c = search needs
 
--- src/text.rt:114:27
 part-put-folded-words-start : tie.Need-part-put-folded-words-start
 part-put-folded-words-start c = search needs
 
--- src/text.rt:114:27
 part-put-folded-words-end : tie.Need-part-put-folded-words-end
 part-put-folded-words-end c = search needs
 
--- src/text.rt:114:5
 put-folded-words-requires : tie.Need-put-folded-words-requires
 put-folded-words-requires c κs = search needs
 
--- src/text.rt:106:1
 same-length-2 : tie.Need-same-length-2
 same-length-2 c = search needs
 
--- src/text.rt:106:1
 returns-2 : tie.Need-returns-2
 returns-2 c = words-folded (c .before .before .before .before .before .before .before .before .text-start .ensures) (c .before .before .put-folded-words .ensures)
 

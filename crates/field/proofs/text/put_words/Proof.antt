@@ -4,52 +4,37 @@ use native.Mathlib.Omega.{arith}
 use borrow.Author.Needs.{needs}
 use Rattle.field.proofs.text.put_words.Statement.{statement}
 use Rattle.field.proofs.text.put_words.Tie as tie
-use Rattle.field.proofs.text.put_words.Reads as reads
-use Rattle.field.proofs.text.put_words.Lts as lts
-use Rattle.field.proofs.text.put_value_words.Reads as put-value-words-reads
-use Rattle.header.proofs.line.name_len.Reads as name-len-reads
 
--- src/text.rt:122:9
 name-len-requires : tie.Need-name-len-requires
 name-len-requires c κs = search needs
 
--- src/text.rt:123:22
 add-if1 : tie.Need-add-if1
 add-if1 c = omega (arith, c .name-len .ensures, name-le (c .before .before .before .args .field .now))
 
--- src/text.rt:124:9
 returns : tie.Need-returns
 returns c = words-none (c .before .before .before .before .args .field .now) (c .before .name-len .result) (c .before .name-len .ensures) _ (c .if1 .taken)
 
--- src/text.rt:126:16
 add-from : tie.Need-add-from
 add-from c = search needs
 
--- src/text.rt:127:14
 sub-to : tie.Need-sub-to
 sub-to c = search needs
 
--- src/text.rt:128:26
 sub-put-value-words : tie.Need-sub-put-value-words
 sub-put-value-words c = search needs
 
--- src/text.rt:128:26
 part-put-value-words-start : tie.Need-part-put-value-words-start
 part-put-value-words-start c = search needs
 
--- src/text.rt:128:26
 part-put-value-words-end : tie.Need-part-put-value-words-end
 part-put-value-words-end c = search needs
 
--- src/text.rt:128:5
 put-value-words-requires : tie.Need-put-value-words-requires
 put-value-words-requires c κs = search needs
 
--- src/text.rt:118:1
 same-length : tie.Need-same-length
 same-length c = search needs
 
--- src/text.rt:118:1
 returns-2 : tie.Need-returns-2
 returns-2 c = words-value (c .before .before .before .before .before .before .before .before .before .args .field .now) (c .before .before .before .before .before .before .name-len .result) (c .before .before .before .before .before .before .name-len .ensures) (c .before .before .put-value-words .ensures)
 

@@ -5,9 +5,6 @@ use native.Mathlib.Omega.{arith}
 use Prim.Native.Nat.{_-_}
 use Rattle.field.proofs.text.text_start.Statement.{statement}
 use Rattle.field.proofs.text.text_start.Tie as tie
-use Rattle.field.proofs.text.text_start.Reads as reads
-use Rattle.field.proofs.text.text_start.Lts as lts
-use Rattle.field.proofs.text.blank_size.Reads as blank-size-reads
 
 abbrev Inv-loop : tie.InvT-loop
 Inv-loop value i₀ i = Skipped value i
@@ -15,31 +12,24 @@ Inv-loop value i₀ i = Skipped value i
 abbrev μ-loop : tie.MeasureT-loop
 μ-loop value i₀ i = length value - i
 
--- src/text.rt:44:5
 loop-holds : tie.Need-loop-holds Inv-loop μ-loop
 loop-holds c = skipped-none _
 
--- src/text.rt:45:13
 blank-size-requires : tie.Need-blank-size-requires Inv-loop μ-loop
 blank-size-requires c κs = search needs
 
--- src/text.rt:47:13
 returns : tie.Need-returns Inv-loop μ-loop
 returns c = skipped-stop (c .before .before .before .loop .inv) (c .before .blank-size .ensures) (c .if1 .taken)
 
--- src/text.rt:49:9
 add-i : tie.Need-add-i Inv-loop μ-loop
 add-i c = omega (arith, c .before .blank-size .ensures .inside)
 
--- src/text.rt:44:5
 loop-less : tie.Need-loop-less Inv-loop μ-loop
 loop-less c = omega (arith, c .before .blank-size .ensures .inside)
 
--- src/text.rt:44:5
 loop-again : tie.Need-loop-again Inv-loop μ-loop
 loop-again c = skipped-more (c .before .before .before .loop .inv) (c .before .blank-size .ensures)
 
--- src/text.rt:40:1
 returns-2 : tie.Need-returns-2 Inv-loop μ-loop
 returns-2 c = skipped-end (c .before .loop .inv) (c .loop-test .left)
 
