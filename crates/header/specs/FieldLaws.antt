@@ -128,6 +128,13 @@ fields-at h at k =
     let front = drop-cons h at 0 k in
     rw (← drop-drop (fieldLen (drop at h)) at h, front) (fields-cons (getD h at 0) (drop (suc at) h))
 
+-- where code knows that place as `to`
+pub fields-next : (h : List ℕ) (at to : ℕ) → at < length h → to ≡ at + fieldLen (drop at h) → fieldsOf (drop at h) ≡ take (to - at) (drop at h) ∷ fieldsOf (drop to h)
+fields-next h at to k e =
+    let n : fieldLen (drop at h) ≡ to - at = omega arith in
+    let there : at + (to - at) ≡ to = omega arith in
+    fields-at h at k ∙ rw (n, there)
+
 after-joined : (k : ℕ) (h : List ℕ) → joined (fieldsAfter k h) ≡ drop k h
 unfolding fieldsAfter
 after-joined zero [] = refl
@@ -220,16 +227,13 @@ unfolding heldFrom
 held-end {h} {at} l k = sym (l .same ∙ rw (drop-of-length-le h {i = at} k, fields-nil))
 
 module _ {h : List ℕ} {at to : ℕ} (l : HeldLeft h at) (k : at < length h) (e : to ≡ at + fieldLen (drop at h)) where
-  first : take (fieldLen (drop at h)) (drop at h) ≡ take (to - at) (drop at h)
-  first = let n : fieldLen (drop at h) ≡ to - at = omega arith in rw n
-
   pub held-here : refused (take (to - at) (drop at h)) ≡ true → (n : ℕ) → n ≡ lineCount (take (at - 0) h) → At n at ≡ heldOf h
   unfolding heldFrom
-  held-here r n c = let m : at - 0 ≡ at = omega arith in sym (l .same ∙ rw (fields-at h at k, first, r, c, m))
+  held-here r n c = let m : at - 0 ≡ at = omega arith in sym (l .same ∙ rw (fields-next h at to k e, r, c, m))
 
   pub held-next : refused (take (to - at) (drop at h)) ≡ false → HeldLeft h to
   unfolding heldFrom
   held-next r =
       let size : length (take (to - at) (drop at h)) ≡ to - at = length-take-le (to - at) (drop at h) (omega (arith, field-le (drop at h))) in
       let there : at + (to - at) ≡ to = omega arith in
-      record { same = l .same ∙ rw (fields-at h at k, first, r, size, ← e, there) }
+      record { same = l .same ∙ rw (fields-next h at to k e, r, size, there) }

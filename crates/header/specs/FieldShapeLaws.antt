@@ -23,7 +23,7 @@ use Rattle.header.specs.declared.Lines.the-variants.{WellFormed, Malform
 
 -- ---- pieces
 
-piece-bytes : (a : List ℕ) → T (piece a) → T (all lineByte a)
+pub piece-bytes : (a : List ℕ) → T (piece a) → T (all lineByte a)
 unfolding piece
 piece-bytes a t = and-yes (all lineByte a) (utf8 a) t .0
 
@@ -51,7 +51,7 @@ not-break b t =
     by-test (eqb b 13) (λ u. absurd (rw (eqb→eq b 13 u) at t))
     (λ u. by-test (eqb b 10) (λ v. absurd (rw (eqb→eq b 10 v) at t)) (λ v. rw (no-false (eqb b 13) u, no-false (eqb b 10) v)))
 
-line-not-cr : (b : ℕ) → T (lineByte b) → T (notCr b)
+pub line-not-cr : (b : ℕ) → T (lineByte b) → T (notCr b)
 unfolding notCr lineByte
 line-not-cr b t = by-test (eqb b 13) (λ u. absurd (rw (eqb→eq b 13 u) at t)) (λ u. u)
 
@@ -236,7 +236,7 @@ continued-follow line h t (Follow.starts f) = Follow.continues line [] h (alone 
 
 -- ---- line after line
 
-well-piece : (first : Bool) (line : List ℕ) → T (wellFormed first line) → T (piece line)
+pub well-piece : (first : Bool) (line : List ℕ) → T (wellFormed first line) → T (piece line)
 unfolding wellFormed piece
 well-piece first line t =
     let size = within 1 998 (length line) in
@@ -268,41 +268,42 @@ crlf-front [] t = absurd t
 crlf-front (x ∷ []) t = absurd (and-yes (eqb x 13) false t .1)
 crlf-front (x ∷ y ∷ rest) t = let both = and-yes (eqb x 13) (eqb y 10) t in rw (eqb→eq x 13 (both .0), eqb→eq y 10 (both .1))
 
--- the first line of a header whose lines are well formed
-record Cut (first : Bool) (n : ℕ) (h : List ℕ) : Type 0 where
+-- a well-formed line at the front, and what follows it
+pub record Cut (n at : ℕ) (h : List ℕ) : Type 0 where
   pub line : List ℕ
   pub others : List ℕ
   pub next : ℕ
   pub is : h ≡ line ++ (13 ∷ 10 ∷ others)
-  pub well : T (wellFormed first line)
-  pub left : linesFrom 0 (n + 1) next others ≡ WellFormed
+  pub well : T (wellFormed (eqb n 0) line)
+  pub left : linesFrom 0 n at h ≡ linesFrom 0 (n + 1) next others
+  pub after : next ≡ at + (length line + 2)
   pub shorter : length others < length h
+
+pub cut-line : (n at : ℕ) (h : List ℕ) → 0 < length h → T (lineOk (eqb n 0) h) → Cut n at h
+unfolding lineOk
+cut-line n at h k t =
+    let m = lineLen h in
+    let both = and-yes (crlf (drop m h)) (wellFormed (eqb n 0) (take m h)) t in
+    let fits = crlf-inside h m (yes-true (crlf (drop m h)) (both .0)) in
+    let split : drop m h ≡ 13 ∷ 10 ∷ drop (m + 2) h = crlf-front (drop m h) (both .0) ∙ rw drop-drop in
+    record {
+      line = take m h;
+      others = drop (m + 2) h;
+      next = at + (m + 2);
+      is = sym (take-append-drop m h) ∙ ap (λ (r : List ℕ). take m h ++ r) split;
+      well = both .1;
+      left = front-good n at h k (yes-true (lineOk (eqb n 0) h) t);
+      after = omega (arith, length-take-le m h (omega arith));
+      shorter = rw length-drop (omega arith);
+    }
 
 different : {n at : ℕ} → Malformed n at ≡ WellFormed → ⊥
 different e = let z : _≡_ {A = ℕ} 0 1 = cc in omega arith
 
-cut-line : (n at : ℕ) (h : List ℕ) → 0 < length h → linesFrom 0 n at h ≡ WellFormed → Cut (eqb n 0) n h
-unfolding lineOk
-cut-line n at h k e =
-    by-test (lineOk (eqb n 0) h)
-    (λ t. go t)
-    (λ t. absurd (different (sym (front-bad n at h k (no-false (lineOk (eqb n 0) h) t)) ∙ e)))
-  where
-    go : T (lineOk (eqb n 0) h) → Cut (eqb n 0) n h
-    go t =
-        let m = lineLen h in
-        let both = and-yes (crlf (drop m h)) (wellFormed (eqb n 0) (take m h)) t in
-        let fits = crlf-inside h m (yes-true (crlf (drop m h)) (both .0)) in
-        let split : drop m h ≡ 13 ∷ 10 ∷ drop (m + 2) h = crlf-front (drop m h) (both .0) ∙ rw drop-drop in
-        record {
-          line = take m h;
-          others = drop (m + 2) h;
-          next = at + (m + 2);
-          is = sym (take-append-drop m h) ∙ ap (λ (r : List ℕ). take m h ++ r) split;
-          well = both .1;
-          left = sym (front-good n at h k (yes-true (lineOk (eqb n 0) h) t)) ∙ e;
-          shorter = rw length-drop (omega arith);
-        }
+-- where the lines are well formed, the first one is
+first-well : (n at : ℕ) (h : List ℕ) → 0 < length h → linesFrom 0 n at h ≡ WellFormed → T (lineOk (eqb n 0) h)
+first-well n at h k e =
+    by-test (lineOk (eqb n 0) h) (λ t. t) (λ t. absurd (different (sym (front-bad n at h k (no-false (lineOk (eqb n 0) h) t)) ∙ e)))
 
 follow-none : (h : List ℕ) → length h ≤ 0 → Follow h
 follow-none [] k = Follow.starts fresh-nil
@@ -314,8 +315,8 @@ follow zero n at h k e = follow-none h k
 follow (suc m) n at h k e =
     by-test (leb 1 (length h))
     (λ t.
-    let c = cut-line n at h (leb-yes t) e in
-    let f = follow-line (eqb n 0) (c .line) (c .others) (c .well) (follow m (n + 1) (c .next) (c .others) (omega (arith, c .shorter)) (c .left)) in
+    let c = cut-line n at h (leb-yes t) (first-well n at h (leb-yes t) e) in
+    let f = follow-line (eqb n 0) (c .line) (c .others) (c .well) (follow m (n + 1) (c .next) (c .others) (omega (arith, c .shorter)) (sym (c .left) ∙ e)) in
     rw (c .is) f)
     (λ t. follow-none h (omega (arith, leb-no {a = 1} {b = length h} t)))
 
@@ -328,9 +329,9 @@ pub fields-shaped : (h : List ℕ) → linesOf h ≡ WellFormed → Each Shaped 
 unfolding linesOf
 fields-shaped [] e = rw fields-nil tt
 fields-shaped (b ∷ rest) e =
-    let c = cut-line 0 0 (b ∷ rest) (omega arith) e in
+    let c = cut-line 0 0 (b ∷ rest) (omega arith) (first-well 0 0 (b ∷ rest) (omega arith) e) in
     let f : Fresh (c .line ++ (13 ∷ 10 ∷ c .others)) =
-    named-follow (c .line) (c .others) (first-named (c .line) (c .well)) (well-piece true (c .line) (c .well)) (follow (length (c .others)) 1 (c .next) (c .others) (omega arith) (c .left)) in
+    named-follow (c .line) (c .others) (first-named (c .line) (c .well)) (well-piece true (c .line) (c .well)) (follow (length (c .others)) 1 (c .next) (c .others) (omega arith) (sym (c .left) ∙ e)) in
     rw (c .is) (f .fields)
 
 -- ---- the text

@@ -59,6 +59,7 @@ unfoldable pub lineCount : List ℕ → ℕ
 lineCount [] = 0
 lineCount (b ∷ rest) = cond (crlf (b ∷ rest)) (suc (lineCount rest)) (lineCount rest)
 
+-- whether a name of this kind is a held one
 unfoldable pub isHeld : Kind → Bool
 isHeld Address = false
 isHeld PlainText = false
@@ -69,11 +70,17 @@ isHeld Other = false
 unfoldable pub refused : List ℕ → Bool
 refused field = not (all isAscii (valueOf field)) && isHeld (kindOf (nameOf field))
 
--- the first field of a header that is refused, of these fields, the first of which starts at the byte `at`; "a field's place is
--- its first line", and lines count from 0, so that is how many lines end before
+-- the first refused field of these fields of a header, the first of which starts at the byte `at`. "a field's place is its first
+-- line": lines count from 0, so its number is how many lines end before it.
 unfoldable pub heldFrom : List ℕ → ℕ → List (List ℕ) → HeldField
 heldFrom h at [] = Absent
 heldFrom h at (field ∷ fields) = cond (refused field) (At (lineCount (take at h)) at) (heldFrom h (at + length field) fields)
 
+-- the first such field of a header
 unfoldable pub heldOf : List ℕ → HeldField
 heldOf h = heldFrom h 0 (fieldsOf h)
+
+-- the paper's number and place: "6 | a held name .. carries non-ASCII | line"; 0 at 0 where there is none
+unfoldable pub heldAnswer : HeldField → ℕ × ℕ
+heldAnswer Absent = (0, 0)
+heldAnswer (At n at) = (6, n)

@@ -63,3 +63,8 @@ linesFrom zero n at (b ∷ rest) =
 -- "A header may be empty." "Lines count from 0."
 unfoldable pub linesOf : List ℕ → Lines
 linesOf h = linesFrom 0 0 0 h
+
+-- the paper's number and place: "5 | header line malformed | line"; 0 at 0 where there is none
+unfoldable pub lineAnswer : Lines → ℕ × ℕ
+lineAnswer WellFormed = (0, 0)
+lineAnswer (Malformed n at) = (5, n)

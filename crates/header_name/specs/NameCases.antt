@@ -29,7 +29,7 @@ other : kindsOf ("Fro" ∷ "From1" ∷ "Date " ∷ "X-Note" ∷ "Resent-Subject"
 unfolding bytes lower sameName six addressNames plainTextNames heldNames among kindOf
 other = refl
 
--- "14, 3 and 15 names"
+-- 14, 3 and 15 names: 32 in all
 counts : (length addressNames ≡ 14) × (length plainTextNames ≡ 3) × (length heldNames ≡ 15)
 unfolding six addressNames plainTextNames heldNames
 counts = (refl, refl, refl)

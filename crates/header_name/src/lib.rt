@@ -12,7 +12,7 @@ pub enum Kind {
     Other,
 }
 
-// The names, where each starts, and its kind: A address, P plain text, H held.
+// The names, and the kind of each: A address, P plain text, H held.
 const NAMES: [u8; 354] = *b"\
     FromSenderReply-ToToCcBcc\
     Resent-FromResent-SenderResent-Reply-ToResent-ToResent-CcResent-Bcc\
@@ -22,6 +22,16 @@ const NAMES: [u8; 354] = *b"\
     MIME-VersionContent-TypeContent-IDContent-DispositionContent-Transfer-Encoding\
     Original-RecipientFinal-RecipientKeywords";
 
+const KINDS: [u8; 32] = *b"\
+    AAAAAA\
+    AAAAAA\
+    AA\
+    PPP\
+    HHHHHHH\
+    HHHHH\
+    HHH";
+
+// Where each name starts, and where the last one ends.
 const STARTS: [usize; 33] = [
     0,
     4,
@@ -57,15 +67,6 @@ const STARTS: [usize; 33] = [
     346,
     354,
 ];
-
-const KINDS: [u8; 32] = *b"\
-    AAAAAA\
-    AAAAAA\
-    AA\
-    PPP\
-    HHHHHHH\
-    HHHHH\
-    HHH";
 
 // A capital letter's small one; any other byte itself.
 fn lower(b: u8) -> u8
