@@ -156,7 +156,7 @@ value-none field n e k =
     let short : length (take (length field - 2) field) ≤ nameLen field + 1 = omega (arith, length-take (length field - 2) field) in
     rw (drop-of-length-le (take (length field - 2) field) {i = nameLen field + 1} short)
 
-drop-take : (m n : ℕ) (xs : List ℕ) → drop m (take n xs) ≡ take (n - m) (drop m xs)
+pub drop-take : (m n : ℕ) (xs : List ℕ) → drop m (take n xs) ≡ take (n - m) (drop m xs)
 drop-take zero n xs = let e : n - 0 ≡ n = omega arith in rw e
 drop-take (suc m) zero xs = let e : zero - suc m ≡ 0 = omega arith in rw e
 drop-take (suc m) (suc n) [] = sym (take-nil (suc n - suc m))

@@ -108,7 +108,7 @@ pub(crate) fn crlf_at(h: &[u8], i: usize) -> bool
 }
 
 // Space or TAB.
-pub(crate) fn is_blank(b: u8) -> bool
+pub fn is_blank(b: u8) -> bool
     ensures { λ r. ⌜ r ≡ blank b ⌝ }
 {
     (b == 32) | (b == 9)
