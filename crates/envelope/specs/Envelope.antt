@@ -3,7 +3,7 @@ use mathlib.Core.Bool.{Bool, true, false, cond}
 use mathlib.Core.List.{List, [], _∷_, _++_, map}
 use Prim.Native.Nat.{ℕ, zero, suc, _+_}
 use lib.Dec.{eqb, ltb}
-use lib.ListN.{length, take, drop}
+use lib.ListN.{take, drop, getD}
 use Rattle.utf8.specs.Lists.{joined}
 use Rattle.line.specs.Line.{crlf, lineLen}
 use Rattle.envelope_line.specs.declared.Fault.{Fault}
@@ -107,6 +107,11 @@ writtenAt mail e at = writtenLine mail (lineAt at e) ++ (13 ∷ 10 ∷ [])
 unfoldable pub writtenBy : List ℕ → List ℕ → List ℕ
 writtenBy starts e = writtenAt true e 0 ++ joined (map (writtenAt false e) starts)
 
+-- the first n entries of an array
+unfoldable pub entries : ℕ → List ℕ → List ℕ
+entries zero array = []
+entries (suc n) array = entries n array ++ (getD array n 0 ∷ [])
+
 -- the envelope written
 unfoldable pub written : List ℕ → List ℕ
 written e = writtenBy (rcptStarts e) e
@@ -117,11 +122,11 @@ written e = writtenBy (rcptStarts e) e
 unfoldable pub mailReplacement : List ℕ → List ℕ
 mailReplacement e = replacement true (lineAt 0 e)
 
--- the same "when there is exactly one RCPT line and it was replaced"
+-- the same "when there is exactly one RCPT line and it was replaced": of the RCPT lines that start at given places
+unfoldable pub replacementBy : List ℕ → List ℕ → List ℕ
+replacementBy [] e = []
+replacementBy (at ∷ []) e = replacement false (lineAt at e)
+replacementBy (at ∷ next ∷ more) e = []
+
 unfoldable pub rcptReplacement : List ℕ → List ℕ
-rcptReplacement e = onlyOne (rcptStarts e)
-  where
-    onlyOne : List ℕ → List ℕ
-    onlyOne [] = []
-    onlyOne (at ∷ []) = replacement false (lineAt at e)
-    onlyOne (at ∷ next ∷ more) = []
+rcptReplacement e = replacementBy (rcptStarts e) e
