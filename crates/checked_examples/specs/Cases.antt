@@ -13,10 +13,14 @@ use Rattle.letter_case.specs.LetterCase.{bytes, lower, sameAnyCase}
 use Rattle.encoded_word.specs.Cut.{cut}
 use Rattle.encoded_word.specs.Spelling.{bare, hexDigit, spellByte, spell}
 use Rattle.encoded_word.specs.Row.{runs, word, lines, rowIn, row}
-use Rattle.envelope.specs.Envelope.{checked, numberOf, placeOf}
-use Rattle.header.specs.Lines.{linesOf}
+use Rattle.envelope.specs.Envelope.{checked, numberOf, placeOf, frontFault, thenNext, rcptFault, rcptsFrom, faultNumber}
+use Rattle.header.specs.Lines.{linesOf, lineByte, blank, nameByte, nameLen, named, continuation, wellFormed, lineOk, linesFrom}
 use Rattle.header.specs.declared.Lines.{Lines}
 use Rattle.header.specs.declared.Lines.the-variants.{WellFormed, Malformed}
+use Rattle.line.specs.Line.{crlf, lineLen}
+use Rattle.address.specs.Address.{later, byteThen, scanThen, isAtext, isAtomByte, isQuotedByte, isLiteralByte, dotAtomFrom, dotAtomScan, quotedFrom, quotedScan, literalFrom, literalScan, domainScan, localScan, addressScan, isAddress, isAsciiAddress}
+use Rattle.address.specs.Xtext.{isXchar, isHexDigit, hexValue, isHexchar, unitLen, unitByte, decodingAfter, decoding, isXtext, decoded, isAltAddress}
+use Rattle.envelope_line.specs.EnvelopeLine.{verb, hasVerb, pathScan, pathLen, path, hasPath, tail, paramsAfter, params, spaced, isKeywordByte, keywordLen, keyword, hasValue, value, isOrcpt, isAlt, isValueByte, isParam, alts, altsOk, wellFormed as wellFormedLine, altFault, lineFault}
 
 -- a case and its answer
 pub data Case : Type 0 where
@@ -83,16 +87,16 @@ abbrev éRow : List ℕ
 éRow = 13 ∷ 10 ∷ 32 ∷ 61 ∷ 63 ∷ 85 ∷ 84 ∷ 70 ∷ 45 ∷ 56 ∷ 63 ∷ 81 ∷ 63 ∷ 61 ∷ 67 ∷ 51 ∷ 61 ∷ 65 ∷ 57 ∷ 63 ∷ 61 ∷ []
 
 -- CRLF
-abbrev crlf : List ℕ
-crlf = 13 ∷ 10 ∷ []
+abbrev end : List ℕ
+end = 13 ∷ 10 ∷ []
 
 -- an envelope of one MAIL line, with this path and tail, and one RCPT line
 abbrev mailed : List ℕ → List ℕ → List ℕ
-mailed path tail = bytes "MAIL FROM:<" ++ (path ++ (62 ∷ (tail ++ (crlf ++ (bytes "RCPT TO:<b@example.net>" ++ crlf)))))
+mailed path tail = bytes "MAIL FROM:<" ++ (path ++ (62 ∷ (tail ++ (end ++ (bytes "RCPT TO:<b@example.net>" ++ end)))))
 
 -- a header of one field with a name of so many bytes
-abbrev named : ℕ → List ℕ
-named n = replicate n 97 ++ (58 ∷ crlf)
+abbrev headerNamed : ℕ → List ℕ
+headerNamed n = replicate n 97 ++ (58 ∷ end)
 
 -- the cases marked P, and the rows of the whole case
 abbrev pub cases : List Case
@@ -119,8 +123,12 @@ cases =
     -- "empty envelope: 2 at 0."
     ∷ Case.answers [] 2 0
     -- "MAIL with no RCPT: 2 at 1."
-    ∷ Case.answers (bytes "MAIL FROM:<a@x>" ++ crlf) 2 1
+    ∷ Case.answers (bytes "MAIL FROM:<a@x>" ++ end) 2 1
     -- "name of 76 bytes taken; 77 is 5."
-    ∷ Case.taken (named 76)
-    ∷ Case.refused (named 77) 0
+    ∷ Case.taken (headerNamed 76)
+    ∷ Case.refused (headerNamed 77) 0
     ∷ []
+
+pub cases-right : AllRight cases
+unfolding rowIn runs cut lines word spell spellByte bare hexDigit bytes lower sameAnyCase crlf lineLen later byteThen scanThen isAtext isAtomByte isQuotedByte isLiteralByte dotAtomFrom dotAtomScan quotedFrom quotedScan literalFrom literalScan domainScan localScan addressScan isAddress isAsciiAddress run utf8 chars charsAfter charLen leadingOnes leadingZeros isChar secondLow secondHigh isXchar isHexDigit hexValue isHexchar unitLen unitByte decodingAfter decoding isXtext decoded isAltAddress verb hasVerb pathScan pathLen path hasPath tail paramsAfter params spaced isKeywordByte keywordLen keyword hasValue value isOrcpt isAlt isValueByte isParam alts altsOk wellFormed altFault lineFault frontFault thenNext rcptFault rcptsFrom checked faultNumber numberOf placeOf lineByte blank nameByte nameLen named continuation lineOk linesFrom linesOf wellFormedLine
+cases-right = (refl, (refl, (refl, (refl, (refl, (refl, ((refl, refl), ((refl, refl), ((refl, refl), ((refl, refl), ((refl, refl), ((refl, refl), (refl, (refl, tt))))))))))))))

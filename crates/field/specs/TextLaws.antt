@@ -64,7 +64,7 @@ length-unfolded zero (b ∷ rest) =
     cond-has (λ (l : List ℕ). length l ≤ suc (length rest)) (fold (b ∷ rest)) (unfoldedAfter 1 rest) (b ∷ unfoldedAfter 0 rest) (λ t. omega arith) (λ t. omega arith)
 
 no-cr-fold : (b : ℕ) (rest : List ℕ) → T (notCr b) → fold (b ∷ rest) ≡ false
-unfolding  fold crlf
+unfolding fold crlf
 no-cr-fold b rest t = rw (no-false (eqb b 13) t)
 
 -- a text without CR has no fold

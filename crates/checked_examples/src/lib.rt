@@ -1,0 +1,1 @@
+// The checked examples that the paper marks P: specs/Cases.antt.
