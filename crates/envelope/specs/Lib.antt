@@ -2,4 +2,5 @@ pub mod Envelope
 pub mod CheckLaws
 pub mod OrcptLaws
 pub mod WrittenLaws
+pub mod AsciiLaws
 pub mod EnvelopeCases

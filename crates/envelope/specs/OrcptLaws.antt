@@ -16,7 +16,7 @@ use Rattle.envelope.specs.declared.Orcpt.{Orcpt}
 use Rattle.envelope.specs.declared.Orcpt.the-variants.{Clean, At}
 use Rattle.envelope.specs.Envelope.{orcptFrom}
 
-orcpt-after : (k n : ℕ) (s : List ℕ) → orcptFrom k n s ≡ orcptFrom 0 n (drop k s)
+pub orcpt-after : (k n : ℕ) (s : List ℕ) → orcptFrom k n s ≡ orcptFrom 0 n (drop k s)
 unfolding orcptFrom
 orcpt-after zero n s = refl
 orcpt-after (suc k) n [] = refl
