@@ -2,11 +2,11 @@
 -- Assumes nothing.
 use mathlib.Core.Path.{_≡_, refl, ap, sym, _∙_}
 use mathlib.Core.Bool.{Bool, true, false, cond}
-use mathlib.Core.List.{List, [], _∷_, _++_, map}
+use mathlib.Core.List.{List, [], _∷_, map}
 use Prim.Native.Nat.{ℕ, zero, suc, _+_}
 use native.Mathlib.Omega.{arith}
-use lib.Dec.{T, eqb}
-use lib.ListN.{length, take, drop}
+use lib.Dec.{T}
+use lib.ListN.{take, drop}
 use lib.Seq.{drop-drop}
 use borrow.Author.Tests.{ne-eqb}
 use Rattle.utf8.specs.Lists.{by-test, yes-true, true-yes, no-false, all, joined, all-append}
@@ -16,8 +16,7 @@ use Rattle.envelope_line.specs.declared.Fault.{Fault}
 use Rattle.envelope_line.specs.declared.Fault.the-variants.{Fine, Malformed, NoAlternative, BadAlternative}
 use Rattle.envelope_line.specs.EnvelopeLine.{lineFault, orcptFault, writtenLine}
 use Rattle.envelope_line.specs.AsciiLaws.{line-ascii}
-use Rattle.envelope.specs.declared.Checked.{Checked}
-use Rattle.envelope.specs.declared.Checked.the-variants.{Passed, Refused}
+use Rattle.envelope.specs.declared.Checked.the-variants.{Passed}
 use Rattle.envelope.specs.declared.Orcpt.{Orcpt}
 use Rattle.envelope.specs.declared.Orcpt.the-variants.{Clean, At}
 use Rattle.envelope.specs.Envelope.{frontFault, rcptFault, checked, isFine, startsFrom, rcptStarts, orcptFrom, orcptLine, lineAt, writtenAt, writtenBy, written}
