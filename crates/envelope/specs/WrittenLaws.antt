@@ -56,7 +56,7 @@ all-written e array k count v w q h = rw q at (capped-then v w h)
 
 -- ---- for the header
 
-length-entries : (n : ℕ) (array : List ℕ) → length (entries n array) ≡ n
+pub length-entries : (n : ℕ) (array : List ℕ) → length (entries n array) ≡ n
 unfolding entries
 length-entries zero array = refl
 length-entries (suc n) array = rw (length-append, length-entries n array) (omega arith)

@@ -1,16 +1,15 @@
 -- How long what is written for a line can be. Assumes nothing.
 use mathlib.Core.Path.{_≡_, refl}
-use mathlib.Core.Bool.{Bool, true, false, cond}
+use mathlib.Core.Bool.{Bool}
 use mathlib.Core.List.{List, [], _∷_, _++_}
 use Prim.Native.Nat.{ℕ, zero, suc, _+_, _*_, _≤_}
 use native.Mathlib.Omega.{arith}
 use lib.Dec.{T, leb}
 use lib.ListN.{length, take, drop, length-append, length-take, length-drop}
 use mir.Facts.{and-yes, yes-and, leb-yes, yes-leb}
-use Rattle.utf8.specs.Lists.{all, cond-has, by-test, yes-true, no-false}
+use Rattle.utf8.specs.Lists.{all, cond-has}
 use Rattle.utf8.specs.Byte.{isAscii}
 use Rattle.utf8.specs.Run.{run}
-use Rattle.address.specs.Xtext.{decoded}
 use Rattle.address.specs.XtextLaws.{decoded-le}
 use Rattle.envelope_line.specs.EnvelopeLine.{verbLen, pathLen, path, tail, notSpace, paramsAfter, params, keywordLen, value, isAlt, alts, alt, altPlace, newPath, withoutAlt, writtenLine, replacement}
 
