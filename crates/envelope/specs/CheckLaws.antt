@@ -1,5 +1,5 @@
 -- Laws of the check: line by line, as code goes through an envelope. Assumes nothing.
-use mathlib.Core.Path.{_≡_, refl, ap, sym, _∙_}
+use mathlib.Core.Path.{_≡_, refl, sym, _∙_}
 use mathlib.Core.Bool.{Bool, true, false, cond, _&&_}
 use mathlib.Core.List.{List, [], _∷_, _++_}
 use Prim.Native.Nat.{ℕ, zero, suc, _+_, _-_, _≤_, _<_}
@@ -15,7 +15,7 @@ use Rattle.address.specs.AddressLaws.{byte-within}
 use Rattle.utf8.specs.Lists.{by-test, true-yes, no-false}
 use Rattle.buffer.specs.Buffer.{overlay, Reached}
 use Rattle.buffer.specs.BufferLaws.{reached-start, reached-then, reached-end, appended-byte, wrote-from}
-use Rattle.line.specs.Line.{crlf, lineLen}
+use Rattle.line.specs.Line.{lineLen}
 use Rattle.line.specs.LineLaws.{crlf-at}
 use Rattle.envelope_line.specs.declared.Fault.{Fault}
 use Rattle.envelope_line.specs.declared.Fault.the-variants.{Fine, Malformed, NoAlternative, BadAlternative}

@@ -7,9 +7,6 @@ use Prim.Native.Nat.{_+_, _-_}
 use native.Mathlib.Omega.{arith}
 use Rattle.line.proofs.next_cr.Statement.{statement}
 use Rattle.line.proofs.next_cr.Tie as tie
-use Rattle.line.proofs.next_cr.Reads as reads
-use Rattle.line.proofs.next_cr.Lts as lts
-use Rattle.line.proofs.no_cr_blocks.Reads as no-cr-blocks-reads
 
 abbrev Inv-loop : tie.InvT-loop
 Inv-loop s at i₀ i = at + crRun (drop at s) ≡ i + crRun (drop i s)
@@ -17,39 +14,30 @@ Inv-loop s at i₀ i = at + crRun (drop at s) ≡ i + crRun (drop i s)
 abbrev μ-loop : tie.MeasureT-loop
 μ-loop s at i₀ i = length s - i
 
--- src/lib.rt:59:9
 returns : tie.Need-returns Inv-loop μ-loop
 returns c = sym (run-end notCr _ _ (c .if1 .taken))
 
--- src/lib.rt:61:9
 no-cr-blocks-requires : tie.Need-no-cr-blocks-requires Inv-loop μ-loop
 no-cr-blocks-requires c κs = omega arith
 
--- src/lib.rt:62:5
 loop-holds : tie.Need-loop-holds Inv-loop μ-loop
 loop-holds c = c .no-cr-blocks .ensures .1
 
--- src/lib.rt:63:12
 shared-slice-read-if2 : tie.Need-shared-slice-read-if2 Inv-loop μ-loop
 shared-slice-read-if2 c = omega arith
 
--- src/lib.rt:64:13
 returns-2 : tie.Need-returns-2 Inv-loop μ-loop
 returns-2 c = sym (c .before .before .before .loop .inv ∙ run-stop notCr _ _ (c .before .before .loop-test .taken) (rw (eq-eqb _ _ (c .if2 .taken))))
 
--- src/lib.rt:66:9
 add-i : tie.Need-add-i Inv-loop μ-loop
 add-i c = omega arith
 
--- src/lib.rt:62:5
 loop-less : tie.Need-loop-less Inv-loop μ-loop
 loop-less c = omega arith
 
--- src/lib.rt:62:5
 loop-again : tie.Need-loop-again Inv-loop μ-loop
 loop-again c = c .before .before .before .loop .inv ∙ run-step notCr _ _ (c .before .before .loop-test .taken) (rw (ne-eqb _ _ (c .if2 .left)))
 
--- src/lib.rt:55:1
 returns-3 : tie.Need-returns-3 Inv-loop μ-loop
 returns-3 c = sym (c .before .loop .inv ∙ run-end notCr _ _ (c .loop-test .left))
 
