@@ -1,5 +1,7 @@
 // Prints what becomes of some headers: for each a label, and the number and line of its refusal, or each of its fields with its
 // kind, whether its value is ASCII, and what is written for it, with the length. Of an address field only the words are shown.
+ghost use Prim.Native.Nat.{_≤_};
+ghost use lib.ListN.{length};
 use header::HeldField;
 use header::Lines;
 use header_name::Kind;
@@ -126,211 +128,178 @@ fn show_length(front: &[u8], n: usize) {
     show(b"", &h[..size]);
 }
 
+// Where the next byte `mark` from `at` stands; the end where there is none.
+fn next_mark(s: &[u8], at: usize, mark: u8) -> usize
+    requires { ⌜ at ≤ length (now s) ⌝ }
+    ensures { λ r. ⌜ (at ≤ r) × (r ≤ length (now (s .entry))) ⌝ }
+{
+    let mut i = at;
+    while i < s.len() {
+        if s[i] == mark {
+            return i;
+        }
+        i += 1;
+    }
+    i
+}
+
+// Fields with these names, which are parted by spaces.
+fn show_names(names: &[u8]) {
+    let mut at = 0;
+    while at < names.len() {
+        let end = next_mark(names, at, 32);
+        show_name(&names[at..end]);
+        at = end + 1;
+    }
+}
+
+// Cases one after another: of each the label, the byte FE, the header, the byte FE, which no UTF-8 holds.
+fn show_all(cases: &[u8]) {
+    let mut at = 0;
+    while at < cases.len() {
+        let middle = next_mark(cases, at, 254);
+        let start = buffer::clip(middle + 1, cases.len());
+        let end = next_mark(cases, start, 254);
+        show(&cases[at..middle], &cases[start..end]);
+        at = end + 1;
+    }
+}
+
 // Names of addresses, in odd letter case.
 fn address_names() {
-    show_name(b"fROM");
-    show_name(b"sENDER");
-    show_name(b"rEPLY-tO");
-    show_name(b"TO");
-    show_name(b"cC");
-    show_name(b"BCC");
-    show_name(b"resent-from");
-    show_name(b"RESENT-SENDER");
-    show_name(b"Resent-reply-To");
-    show_name(b"rEsEnT-tO");
-    show_name(b"resent-CC");
-    show_name(b"Resent-bcc");
-    show_name(b"return-path");
-    show_name(b"DISPOSITION-notification-TO");
+    show_names(
+        b"\
+        fROM sENDER rEPLY-tO TO cC BCC resent-from RESENT-SENDER Resent-reply-To rEsEnT-tO \
+        resent-CC Resent-bcc return-path DISPOSITION-notification-TO",
+    );
 }
 
 // Names of plain text, and others near them.
 fn text_names() {
-    show_name(b"sUBJECT");
-    show_name(b"COMMENTS");
-    show_name(b"content-description");
-    show_name(b"Subjec");
-    show_name(b"Subjects");
-    show_name(b"Comment");
-    show_name(b"Content-Description-");
-    show_name(b"Resent-Subject");
-    show_name(b"X-Subject");
-    show_name(b"Resent-Return-Path");
-    show_name(b"Fro");
-    show_name(b"S");
+    show_names(
+        b"\
+        sUBJECT COMMENTS content-description Subjec Subjects Comment Content-Description- \
+        Resent-Subject X-Subject Resent-Return-Path Fro S",
+    );
 }
 
 // Held names.
 fn held_names() {
-    show_name(b"rECEIVED");
-    show_name(b"DATE");
-    show_name(b"resent-date");
-    show_name(b"MESSAGE-id");
-    show_name(b"Resent-MESSAGE-ID");
-    show_name(b"in-reply-to");
-    show_name(b"REFERENCES");
-    show_name(b"Mime-Version");
-    show_name(b"content-type");
-    show_name(b"CONTENT-ID");
-    show_name(b"Content-disposition");
-    show_name(b"content-TRANSFER-encoding");
-    show_name(b"original-RECIPIENT");
-    show_name(b"FINAL-recipient");
-    show_name(b"keywords");
+    show_names(
+        b"\
+        rECEIVED DATE resent-date MESSAGE-id Resent-MESSAGE-ID in-reply-to REFERENCES \
+        Mime-Version content-type CONTENT-ID Content-disposition content-TRANSFER-encoding \
+        original-RECIPIENT FINAL-recipient keywords",
+    );
 }
 
 // Ends of lines, and bytes that no line holds.
 fn line_ends() {
-    show(b"empty header", b"");
-    show(b"one field", b"Subject: \xC3\xA9\r\n");
-    show(b"two fields", b"Subject: \xC3\xA9\r\nX-Note: ok\r\n");
-    show(b"empty line inside", b"X-Note: a\r\n\r\nSubject: b\r\n");
-    show(b"empty line first", b"\r\nSubject: b\r\n");
-    show(b"empty line last", b"Subject: b\r\n\r\n");
-    show(b"rest without CRLF", b"X-Note: a\r\nSubject: b");
-    show(b"rest with CR", b"X-Note: a\r\nSubject: b\r");
-    show(b"rest with LF", b"X-Note: a\r\nSubject: b\n");
-    show(b"lone CR", b"X-Note: a\rb\r\n");
-    show(b"lone LF", b"X-Note: a\nb\r\n");
-    show(b"CR CR LF", b"X-Note: a\r\r\n");
-    show(b"LF CR", b"X-Note: a\r\nSubject: b\n\r\r\n");
-    show(b"NUL", b"X-Note: a\x00b\r\n");
-    show(b"NUL in a continuation", b"X-Note: a\r\n b\x00\r\n");
+    show_all(
+        b"\
+        empty header\xFE\xFE\
+        one field\xFESubject: \xC3\xA9\r\n\xFE\
+        two fields\xFESubject: \xC3\xA9\r\nX-Note: ok\r\n\xFE\
+        empty line inside\xFEX-Note: a\r\n\r\nSubject: b\r\n\xFE\
+        empty line first\xFE\r\nSubject: b\r\n\xFE\
+        empty line last\xFESubject: b\r\n\r\n\xFE\
+        rest without CRLF\xFEX-Note: a\r\nSubject: b\xFE\
+        rest with CR\xFEX-Note: a\r\nSubject: b\r\xFE\
+        rest with LF\xFEX-Note: a\r\nSubject: b\n\xFE\
+        lone CR\xFEX-Note: a\rb\r\n\xFE\
+        lone LF\xFEX-Note: a\nb\r\n\xFE\
+        CR CR LF\xFEX-Note: a\r\r\n\xFE\
+        LF CR\xFEX-Note: a\r\nSubject: b\n\r\r\n\xFE\
+        NUL\xFEX-Note: a\x00b\r\n\xFE\
+        NUL in a continuation\xFEX-Note: a\r\n b\x00\r\n\xFE",
+    );
 }
 
 // How lines start: names and continuations.
 fn starts() {
-    show(b"first line a continuation", b" a\r\nX-Note: b\r\n");
-    show(b"first line a TAB", b"\tX-Note: b\r\n");
-    show(b"no colon", b"Subject\r\n");
-    show(b"no colon in the second line", b"X-Note: a\r\nSubject\r\n");
-    show(b"no name", b": a\r\n");
-    show(b"space before the colon", b"Subject : \xC3\xA9\r\n");
-    show(b"TAB before the colon", b"Subject\t: \xC3\xA9\r\n");
-    show(b"space in the name", b"X Note: a\r\n");
-    show(b"e acute in the name", b"X-Not\xC3\xA9: a\r\n");
-    show(b"DEL in the name", b"X-\x7F: a\r\n");
-    show(b"control byte in the name", b"X-\x1F: a\r\n");
-    show(
-        b"other bytes in the name",
-        b"!\"#$%&'()*+,-./0;<=>?@[\\]^_`{|}~: \xC3\xA9\r\n",
-    );
-    show(
-        b"name of 76 bytes",
-        b"X-abcdefghijabcdefghijabcdefghijabcdefghijabcdefghijabcdefghijabcdefghijabcd: \xC3\xA9\r\n",
-    );
-    show(
-        b"name of 77 bytes",
-        b"X-abcdefghijabcdefghijabcdefghijabcdefghijabcdefghijabcdefghijabcdefghijabcde: \xC3\xA9\r\n",
-    );
-    show(
-        b"name of 77 bytes, ASCII value",
-        b"X-Note: a\r\nX-abcdefghijabcdefghijabcdefghijabcdefghijabcdefghijabcdefghijabcdefghijabcde: b\r\n",
+    show_all(
+        b"\
+        first line a continuation\xFE a\r\nX-Note: b\r\n\xFE\
+        first line a TAB\xFE\tX-Note: b\r\n\xFE\
+        no colon\xFESubject\r\n\xFE\
+        no colon in the second line\xFEX-Note: a\r\nSubject\r\n\xFE\
+        no name\xFE: a\r\n\xFE\
+        space before the colon\xFESubject : \xC3\xA9\r\n\xFE\
+        TAB before the colon\xFESubject\t: \xC3\xA9\r\n\xFE\
+        space in the name\xFEX Note: a\r\n\xFE\
+        e acute in the name\xFEX-Not\xC3\xA9: a\r\n\xFE\
+        DEL in the name\xFEX-\x7F: a\r\n\xFE\
+        control byte in the name\xFEX-\x1F: a\r\n\xFE\
+        other bytes in the name\xFE!\"#$%&'()*+,-./0;<=>?@[\\]^_`{|}~: \xC3\xA9\r\n\xFE\
+        name of 76 bytes\xFEX-abcdefghijabcdefghijabcdefghijabcdefghijabcdefghijabcdefghijabcdefghijabcd: \xC3\xA9\r\n\xFE\
+        name of 77 bytes\xFEX-abcdefghijabcdefghijabcdefghijabcdefghijabcdefghijabcdefghijabcdefghijabcde: \xC3\xA9\r\n\xFE\
+        name of 77 bytes, ASCII value\xFEX-Note: a\r\nX-abcdefghijabcdefghijabcdefghijabcdefghijabcdefghijabcdefghijabcdefghijabcde: b\r\n\xFE",
     );
 }
 
 // Lines that are not UTF-8.
 fn not_utf8() {
-    show(b"overlong C0 80", b"X-Note: \xC0\x80\r\n");
-    show(b"overlong C1 BF", b"X-Note: \xC1\xBF\r\n");
-    show(b"overlong E0 80 AF", b"X-Note: \xE0\x80\xAF\r\n");
-    show(b"overlong F0 80 80 AF", b"X-Note: \xF0\x80\x80\xAF\r\n");
-    show(b"surrogate", b"X-Note: \xED\xA0\x80\r\n");
-    show(b"above 10FFFF", b"X-Note: \xF4\x90\x80\x80\r\n");
-    show(b"10FFFF", b"X-Note: \xF4\x8F\xBF\xBF\r\n");
-    show(b"F5", b"X-Note: \xF5\x80\x80\x80\r\n");
-    show(b"FF", b"X-Note: \xFF\r\n");
-    show(b"lone 80", b"X-Note: \x80\r\n");
-    show(
-        b"character cut by the end of its line",
-        b"X-Note: a\xC3\r\n",
+    show_all(
+        b"\
+        overlong C0 80\xFEX-Note: \xC0\x80\r\n\xFE\
+        overlong C1 BF\xFEX-Note: \xC1\xBF\r\n\xFE\
+        overlong E0 80 AF\xFEX-Note: \xE0\x80\xAF\r\n\xFE\
+        overlong F0 80 80 AF\xFEX-Note: \xF0\x80\x80\xAF\r\n\xFE\
+        surrogate\xFEX-Note: \xED\xA0\x80\r\n\xFE\
+        above 10FFFF\xFEX-Note: \xF4\x90\x80\x80\r\n\xFE\
+        10FFFF\xFEX-Note: \xF4\x8F\xBF\xBF\r\n\xFE\
+        F5\xFEX-Note: \xF5\x80\x80\x80\r\n\xFE\
+        FF\xFEX-Note: \xFF\r\n\xFE\
+        lone 80\xFEX-Note: \x80\r\n\xFE\
+        character cut by the end of its line\xFEX-Note: a\xC3\r\n\xFE\
+        character cut by a fold\xFESubject: a\xC3\r\n \xA9\r\n\xFE\
+        the same in the second field\xFEX-Note: a\r\nSubject: \xE2\x82\r\n \xAC\r\n\xFE\
+        Latin-1\xFESubject: caf\xE9\r\n\xFE",
     );
-    show(b"character cut by a fold", b"Subject: a\xC3\r\n \xA9\r\n");
-    show(
-        b"the same in the second field",
-        b"X-Note: a\r\nSubject: \xE2\x82\r\n \xAC\r\n",
-    );
-    show(b"Latin-1", b"Subject: caf\xE9\r\n");
 }
 
 // Folds, and the blanks before the text.
 fn folds() {
-    show(b"fold before a space", b"Subject: a\r\n \xC3\xA9\r\n");
-    show(b"fold before a TAB", b"Subject: a\r\n\t\xC3\xA9\r\n");
-    show(b"fold before blanks", b"Subject: a\r\n \t \xC3\xA9\r\n");
-    show(b"two folds", b"Subject: a\r\n b\r\n \xC3\xA9\r\n");
-    show(b"text on the next line", b"Subject:\r\n \xC3\xA9\r\n");
-    show(
-        b"text on the third line",
-        b"Subject: \t\r\n \t \r\n\t\xC3\xA9\r\n",
+    show_all(
+        b"\
+        fold before a space\xFESubject: a\r\n \xC3\xA9\r\n\xFE\
+        fold before a TAB\xFESubject: a\r\n\t\xC3\xA9\r\n\xFE\
+        fold before blanks\xFESubject: a\r\n \t \xC3\xA9\r\n\xFE\
+        two folds\xFESubject: a\r\n b\r\n \xC3\xA9\r\n\xFE\
+        text on the next line\xFESubject:\r\n \xC3\xA9\r\n\xFE\
+        text on the third line\xFESubject: \t\r\n \t \r\n\t\xC3\xA9\r\n\xFE\
+        leading TAB\xFESubject:\t\xC3\xA9\r\n\xFE\
+        no blank after the colon\xFESubject:\xC3\xA9\r\n\xFE\
+        blanks at the end\xFESubject: \xC3\xA9 \t\r\n\xFE\
+        continuation of blanks inside\xFESubject: \xC3\xA9\r\n  \r\n b\r\n\xFE\
+        continuation of blanks at the end\xFESubject: \xC3\xA9\r\n \t\r\n\xFE\
+        folded other field\xFEX-Note: \xC3\xA9\r\n\tb\r\nSubject: c\r\n\xFE\
+        folded ASCII field\xFEX-Note:  a\r\n \t b \r\nSubject: \xC3\xA9\r\n\xFE\
+        no value\xFESubject:\r\n\xFE\
+        value of blanks\xFESubject: \t \r\n\xFE",
     );
-    show(b"leading TAB", b"Subject:\t\xC3\xA9\r\n");
-    show(b"no blank after the colon", b"Subject:\xC3\xA9\r\n");
-    show(b"blanks at the end", b"Subject: \xC3\xA9 \t\r\n");
-    show(
-        b"continuation of blanks inside",
-        b"Subject: \xC3\xA9\r\n  \r\n b\r\n",
-    );
-    show(
-        b"continuation of blanks at the end",
-        b"Subject: \xC3\xA9\r\n \t\r\n",
-    );
-    show(
-        b"folded other field",
-        b"X-Note: \xC3\xA9\r\n\tb\r\nSubject: c\r\n",
-    );
-    show(
-        b"folded ASCII field",
-        b"X-Note:  a\r\n \t b \r\nSubject: \xC3\xA9\r\n",
-    );
-    show(b"no value", b"Subject:\r\n");
-    show(b"value of blanks", b"Subject: \t \r\n");
 }
 
 // Texts that are encoded, and values that are copied.
 fn texts() {
-    show(b"encoded word, ASCII", b"Subject: =?UTF-8?Q?=C3=A9?=\r\n");
-    show(
-        b"encoded word in a text that is encoded",
-        b"Subject: =?UTF-8?Q?=C3=A9?= \xC3\xA9\r\n",
-    );
-    show(
-        b"row in a text that is encoded",
-        b"X-Note: =?UTF-8?Q?a?=\r\n =?UTF-8?Q?b?= \xC3\xA9\r\n",
-    );
-    show(
-        b"name that begins Downgraded-",
-        b"Downgraded-From: \xC3\xA9\r\n",
-    );
-    show(b"the same, ASCII value", b"Downgraded-From: e\r\n");
-    show(
-        b"control bytes, ASCII value",
-        b"X-Note: \x01\x0B\x0C\x1B\x7F\r\n",
-    );
-    show(
-        b"control bytes",
-        b"X-Note: \x01\x0B\x0C\x1B\x7F\xC2\x85\r\n",
-    );
-    show(b"U+00A0 first", b"Subject: \xC2\xA0a\r\n");
-    show(b"U+2028", b"Subject: a\xE2\x80\xA8b\r\n");
-    show(b"U+3000 first", b"Comments:\xE3\x80\x80a\r\n");
-    show(
-        b"eleven e acute",
-        b"Subject: \xC3\xA9\xC3\xA9\xC3\xA9\xC3\xA9\xC3\xA9\xC3\xA9\xC3\xA9\xC3\xA9\xC3\xA9\xC3\xA9\xC3\xA9\r\n",
-    );
-    show(b"colon in the text", b"Subject: a: \xC3\xA9: b\r\n");
-    show(b"four bytes", b"Content-Description: \xF0\x9F\x9A\xA2\r\n");
-    show(
-        b"held field after a folded one",
-        b"Subject: a\r\n \xC3\xA9\r\nX-Note: b\r\n c\r\nDate: \xC3\xA9\r\nKeywords: \xC3\xA9\r\n",
-    );
-    show(
-        b"held field, ASCII value",
-        b"Date: Sun, 15 Nov 2026 22:44:27 +0000\r\nReceived: from a\r\n\tby b\r\n",
-    );
-    show(
-        b"malformed line after a held field",
-        b"Date: \xC3\xA9\r\nX-Note\r\n",
+    show_all(
+        b"\
+        encoded word, ASCII\xFESubject: =?UTF-8?Q?=C3=A9?=\r\n\xFE\
+        encoded word in a text that is encoded\xFESubject: =?UTF-8?Q?=C3=A9?= \xC3\xA9\r\n\xFE\
+        row in a text that is encoded\xFEX-Note: =?UTF-8?Q?a?=\r\n =?UTF-8?Q?b?= \xC3\xA9\r\n\xFE\
+        name that begins Downgraded-\xFEDowngraded-From: \xC3\xA9\r\n\xFE\
+        the same, ASCII value\xFEDowngraded-From: e\r\n\xFE\
+        control bytes, ASCII value\xFEX-Note: \x01\x0B\x0C\x1B\x7F\r\n\xFE\
+        control bytes\xFEX-Note: \x01\x0B\x0C\x1B\x7F\xC2\x85\r\n\xFE\
+        U+00A0 first\xFESubject: \xC2\xA0a\r\n\xFE\
+        U+2028\xFESubject: a\xE2\x80\xA8b\r\n\xFE\
+        U+3000 first\xFEComments:\xE3\x80\x80a\r\n\xFE\
+        eleven e acute\xFESubject: \xC3\xA9\xC3\xA9\xC3\xA9\xC3\xA9\xC3\xA9\xC3\xA9\xC3\xA9\xC3\xA9\xC3\xA9\xC3\xA9\xC3\xA9\r\n\xFE\
+        colon in the text\xFESubject: a: \xC3\xA9: b\r\n\xFE\
+        four bytes\xFEContent-Description: \xF0\x9F\x9A\xA2\r\n\xFE\
+        held field after a folded one\xFESubject: a\r\n \xC3\xA9\r\nX-Note: b\r\n c\r\nDate: \xC3\xA9\r\nKeywords: \xC3\xA9\r\n\xFE\
+        held field, ASCII value\xFEDate: Sun, 15 Nov 2026 22:44:27 +0000\r\nReceived: from a\r\n\tby b\r\n\xFE\
+        malformed line after a held field\xFEDate: \xC3\xA9\r\nX-Note\r\n\xFE",
     );
 }
 
