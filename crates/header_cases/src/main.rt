@@ -312,6 +312,64 @@ fn lengths() {
     show_length(b"X-Note: \xC3\xA9", 1000);
 }
 
+// A field into the front of a buffer: all of the buffer afterwards, and the length that is answered.
+fn lend(out: &mut [u8], size: usize) {
+    let end = buffer::clip(size, out.len());
+    let n = field::write_encoded(&mut out[..end], b"X-Note: a\r\n \xC3\xA9\r\n", true);
+    say(b"buffer of ");
+    number(end);
+    say(b", ");
+    number(n);
+    say(b"\r\n");
+    say(out);
+    say(b"\r\n");
+}
+
+// The same into a part of 50 bytes #.
+fn short_buffer(size: usize) {
+    let mut out = [b'#'; 50];
+    lend(&mut out, size);
+}
+
+// Buffers that are too short, long enough just so, and longer.
+fn short_buffers() {
+    short_buffer(0);
+    short_buffer(1);
+    short_buffer(11);
+    short_buffer(18);
+    short_buffer(19);
+    short_buffer(20);
+    short_buffer(40);
+    short_buffer(42);
+    short_buffer(43);
+    short_buffer(44);
+    short_buffer(50);
+}
+
+// The length of what is written for a field of n bytes: a front, letters a, and CRLF.
+fn show_size(front: &[u8], n: usize) {
+    let mut field = [b'a'; 33000];
+    let mut none = [0u8; 0];
+    let last = if n < 2 { 0 } else { n - 2 };
+    buffer::put_slice(&mut field, front);
+    let end = buffer::add_slice(&mut field, last, b"\r\n");
+    let size = buffer::clip(end, 33000);
+    say(b"field of ");
+    number(size);
+    say(b", ");
+    number(field::write_encoded(&mut none, &field[..size], false));
+    say(b"\r\n");
+}
+
+// Fields of up to 32,768 bytes are written, a longer one counts as empty.
+fn sizes() {
+    show_size(b"Subject: \xC3\xA9", 32767);
+    show_size(b"Subject: \xC3\xA9", 32768);
+    show_size(b"Subject: \xC3\xA9", 32769);
+    show_size(b"Subject: \xC3\xA9\r\n\t", 32768);
+    show_size(b"Subject: \xC3\xA9\r\n\t", 32769);
+}
+
 fn main() {
     address_names();
     text_names();
@@ -322,4 +380,6 @@ fn main() {
     folds();
     texts();
     lengths();
+    short_buffers();
+    sizes();
 }
