@@ -65,8 +65,8 @@ module _ (field : List ℕ) (n : ℕ) (e : n ≡ cond (leb (length field) 32768)
       go true = omega arith
       go false = omega arith
 
-  pub bounded-short : length (take n field) ≤ 32768
-  bounded-short = rw bounded-part (length-bounded field)
+  pub bounded-within : length (take n field) ≤ 32768
+  bounded-within = rw bounded-part (length-bounded field)
 
 -- ---- the length of what is written
 
