@@ -10,7 +10,7 @@ use lib.Dec.{T, leb, ltb, eqb, le→leb, eqb→eq}
 use lib.ListN.{length, take, drop, getD, length-drop, length-take, take-append-drop, drop-of-length-le, List·getD-eq-default}
 use lib.Seq.{drop-cons, drop-drop, getD-drop, getD-take, take-take, take-append-add, drop-append-add, length-take-le}
 use borrow.Author.Tests.{ne-eqb}
-use mir.Facts.{and-yes, leb-yes, leb-no, ltb-no}
+use mir.Facts.{and-yes, yes-and, leb-yes, leb-no, ltb-no}
 use Rattle.utf8.specs.Lists.{by-test, cond-yes, cond-has, yes-true, true-yes, no-false, all, all-past, all-weaken}
 use Rattle.utf8.specs.Byte.{isAscii, within}
 use Rattle.utf8.specs.Run.{run, run-le, run-all, run-step}
@@ -227,6 +227,16 @@ module _ (h : List ℕ) (i : ℕ) (k : i < length h) where
     passed = passed-plain h i r (omega arith) e;
     stop = λ z. absurd (omega (arith, z, e, run-step plain h i k t));
   }
+
+  pub step-one : plain (getD h i 0) ≡ true → Step h i (i + 1)
+  step-one e =
+      let b = getD h i 0 in
+      let t = true-yes (plain b) e in
+      let front : take 1 (drop i h) ≡ b ∷ [] = rw (drop-cons h i 0 k) in
+      record {
+        passed = passed-part h i 1 (omega arith) (rw front (yes-and (lineByte b) true (plain-line b t) tt)) (rw front (utf8-ascii (b ∷ []) (yes-and (isAscii b) true (plain-ascii b t) tt)));
+        stop = λ z. absurd (omega (arith, z));
+      }
 
   pub step-none : getD h i 0 < 128 → plain (getD h i 0) ≡ false → Step h i i
   step-none low e = record { passed = passed-none (omega arith); stop = λ z. stopped-byte h i k low e }

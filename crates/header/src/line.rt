@@ -60,17 +60,20 @@ fn plain_end(h: &[u8], at: usize) -> usize
 }
 
 // The place after the ASCII bytes or the character at i; i itself where the text of a line stops there. A block costs more than a
-// test of the first byte, which ends most runs in text that is not ASCII.
+// test of the next byte, which ends most runs in text that is not ASCII.
 fn text_step(h: &[u8], i: usize) -> usize
     requires { ⌜ i < length (now h) ⌝ }
     ensures { λ r. ⌜ Step (now (h .entry)) i r ⌝ }
 {
     let b = h[i];
     if b < 128 {
-        if is_plain(b) {
-            return plain_end(h, i);
+        if !is_plain(b) {
+            return i;
         }
-        return i;
+        if 128 <= byte_at(h, i + 1) {
+            return i + 1;
+        }
+        return plain_end(h, i);
     }
     let n = utf8::char_at(h, i);
     i + n
