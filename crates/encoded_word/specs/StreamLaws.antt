@@ -9,14 +9,14 @@ use native.Mathlib.Omega.{arith}
 use lib.ListN.{length, take, drop, getD, length-append, length-take, length-drop}
 use lib.Seq.{drop-cons}
 use lib.Dec.{T, leb, ltb, eqb, eqb→eq, leb→le, le→leb, lit≤, lt→ltb}
-use mir.Facts.{and-yes, yes-and, leb-no, ltb-yes, ltb-no}
+use mir.Facts.{and-yes, yes-and, leb-yes, leb-no, ltb-yes, ltb-no}
 use borrow.Author.Tests.{le-leb, lt-leb, leb-true, ltb-true, eqb-true, eqb-false, not-true}
-use Rattle.utf8.specs.Lists.{by-test, cond-yes, cond-no, all, joined, joined-append}
+use Rattle.utf8.specs.Lists.{by-test, cond-yes, cond-no, all, joined, joined-append, nonempty}
 use Rattle.utf8.specs.Byte.{to-within}
 use Rattle.utf8.specs.Utf8.{charLen, charsAfter, chars}
 use Rattle.buffer.specs.Buffer.{Wrote, Appended, AppendedCapped, Reached, greatest}
 use Rattle.buffer.specs.BufferLaws.{overlay-front, wrote-from, appended-from, appended-of, appended-then, length-appended, reached-then, reached-last}
-use Rattle.utf8.specs.Utf8Laws.{char-len-some, char-len-le, chars-cons, chars-at, chars-end, chars-nil}
+use Rattle.utf8.specs.Utf8Laws.{char-len-some, char-len-le, chars-cons, chars-at, chars-end, chars-nil, chars-joined, chars-some}
 use Rattle.encoded_word.specs.Cut.{cut}
 use Rattle.encoded_word.specs.CutLaws.{cut-more, cut-next}
 use Rattle.encoded_word.specs.Spelling.{bare, high, hexDigit, escape, spellByte, spell}
@@ -161,6 +161,34 @@ row-long text h = rw (lt-leb (length text) 4294967296 h) (row-nil [] refl)
 pub length-row : (text : List ℕ) → 0 < length text → length (rowIn 63 text) ≡ 13 + length (onwardsAt text 0 63)
 unfolding start
 length-row text h = ap length (row-start text h) ∙ length-append start (onwardsAt text 0 63)
+
+length-onwards : (left : ℕ) (cs : List (List ℕ)) → T (all nonempty cs) → length (onwards 63 left cs) ≤ 2 + 18 * length (joined cs)
+unfolding onwards
+length-onwards left [] h = lit≤ tt
+length-onwards left (c ∷ cs) h =
+    let both = and-yes (nonempty c) (all nonempty cs) h in
+    let more = onwards 63 (leftAfter 63 left (cost c)) cs in
+    omega (
+      arith,
+      some c (both .0),
+      length-append (gap left (cost c) ++ spell c) more,
+      length-append (gap left (cost c)) (spell c),
+      length-gap left (cost c),
+      length-spell c,
+      length-append c (joined cs),
+      length-onwards (leftAfter 63 left (cost c)) cs (both .1),
+    )
+  where
+    some : (c : List ℕ) → T (nonempty c) → 0 < length c
+    some [] t = absurd t
+    some (b ∷ c) t = omega arith
+
+-- a row takes at most 18 bytes for each byte of its text, and 15 more
+pub length-row-le : (text : List ℕ) → length (rowIn 63 text) ≤ 15 + 18 * length text
+length-row-le text =
+    by-test (leb 1 (length text))
+    (λ t. omega (arith, length-row text (leb-yes t), length-onwards 63 (chars text) (chars-some text), ap length (chars-joined text)))
+    (λ t. let none : length text ≡ 0 = omega (arith, leb-no {a = 1} {b = length text} t) in omega (arith, ap length (row-nil text none)))
 
 pub onwards-end : (s : List ℕ) (i left : ℕ) → length s ≤ i → onwardsAt s i left ≡ closing
 unfolding onwards

@@ -1,3 +1,4 @@
 pub mod Field
 pub mod TextLaws
 pub mod FieldLaws
+pub mod FieldSound

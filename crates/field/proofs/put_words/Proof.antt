@@ -1,4 +1,4 @@
-use Rattle.field.specs.FieldLaws.{bounded-part, bounded-size, bounded-short}
+use Rattle.field.specs.FieldLaws.{bounded-part, bounded-size, bounded-within}
 use borrow.Author.Needs.{needs}
 use Rattle.field.proofs.put_words.Statement.{statement}
 use Rattle.field.proofs.put_words.Tie as tie
@@ -10,7 +10,7 @@ slice-aggregate-put-words : tie.Need-slice-aggregate-put-words
 slice-aggregate-put-words c = bounded-size (c .before .before .before .before .before .args .field .now) (c .before .before .bounded-len .result) (c .before .before .bounded-len .ensures)
 
 put-words-requires : tie.Need-put-words-requires
-put-words-requires c κs = bounded-short (c .before .before .before .before .before .args .field .now) (c .before .before .bounded-len .result) (c .before .before .bounded-len .ensures)
+put-words-requires c κs = bounded-within (c .before .before .before .before .before .args .field .now) (c .before .before .bounded-len .result) (c .before .before .bounded-len .ensures)
 
 same-length : tie.Need-same-length
 same-length c = search needs

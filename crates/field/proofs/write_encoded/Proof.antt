@@ -1,4 +1,4 @@
-use Rattle.field.specs.FieldLaws.{bounded-part, bounded-size, bounded-short}
+use Rattle.field.specs.FieldLaws.{bounded-part, bounded-size, bounded-within}
 use borrow.Author.Needs.{needs}
 use Rattle.field.proofs.write_encoded.Statement.{statement}
 use Rattle.field.proofs.write_encoded.Tie as tie
@@ -10,7 +10,7 @@ slice-aggregate-put-encoded : tie.Need-slice-aggregate-put-encoded
 slice-aggregate-put-encoded c = bounded-size (c .before .before .before .before .before .args .field .now) (c .before .before .bounded-len .result) (c .before .before .bounded-len .ensures)
 
 put-encoded-requires : tie.Need-put-encoded-requires
-put-encoded-requires c κs = bounded-short (c .before .before .before .before .before .args .field .now) (c .before .before .bounded-len .result) (c .before .before .bounded-len .ensures)
+put-encoded-requires c κs = bounded-within (c .before .before .before .before .before .args .field .now) (c .before .before .bounded-len .result) (c .before .before .bounded-len .ensures)
 
 same-length : tie.Need-same-length
 same-length c = search needs
