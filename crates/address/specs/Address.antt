@@ -2,6 +2,7 @@
 --
 -- A scan goes as far as the bytes at the front are a beginning of what it looks for. `To n`: these n bytes are one, and no more
 -- bytes go on with it. `Stop n`: they are none, and the byte at n, or the end of the text, is where none can go on.
+-- GrammarLaws.antt proves that scans take what the paper's grammar makes, BeginningLaws.antt that they go exactly so far.
 -- Scans take bytes: a run of bytes that are not ASCII is a run of non-ASCII characters in a text that is UTF-8, which is
 -- tested apart.
 use mathlib.Core.Bool.{Bool, true, false, not, cond, _&&_, _||_}

@@ -35,13 +35,13 @@ unfolding later
 later-stop k = rw add-zero
 
 -- a byte that is there
-pub inside : (s : List ℕ) (i b : ℕ) → getD s i 0 ≡ suc b → i < length s
-inside [] i b e = absurd (omega arith)
-inside (x ∷ s) zero b e = omega arith
-inside (x ∷ s) (suc i) b e = omega (arith, inside s i b e)
+pub byte-within : (s : List ℕ) (i b : ℕ) → getD s i 0 ≡ suc b → i < length s
+byte-within [] i b e = absurd (omega arith)
+byte-within (x ∷ s) zero b e = omega arith
+byte-within (x ∷ s) (suc i) b e = omega (arith, byte-within s i b e)
 
-pub first : (s : List ℕ) (i : ℕ) → getD (drop i s) 0 0 ≡ getD s i 0
-first s i = rw (getD-drop i s 0 0, add-zero)
+pub front-byte : (s : List ℕ) (i : ℕ) → getD (drop i s) 0 0 ≡ getD s i 0
+front-byte s i = rw (getD-drop i s 0 0, add-zero)
 
 -- ---- dot-atom
 
@@ -98,11 +98,11 @@ module _ (s : List ℕ) (i : ℕ) (escaped : Bool) where
 module _ (s : List ℕ) (i b : ℕ) (next : List ℕ → Scan) where
   pub byte-then : getD s i 0 ≡ b → later i (byteThen b next (drop i s)) ≡ later (i + 1) (next (drop (i + 1) s))
   unfolding byteThen
-  byte-then e = rw (first s i, eq-eqb (getD s i 0) b e, drop-drop, later-later)
+  byte-then e = rw (front-byte s i, eq-eqb (getD s i 0) b e, drop-drop, later-later)
 
   pub byte-other : (getD s i 0 ≡ b → ⊥) → later i (byteThen b next (drop i s)) ≡ Stop i
   unfolding byteThen
-  byte-other n = rw (first s i, ne-eqb (getD s i 0) b n) (later-stop i)
+  byte-other n = rw (front-byte s i, ne-eqb (getD s i 0) b n) (later-stop i)
 
 -- ---- domain
 
@@ -126,21 +126,21 @@ module _ (s : List ℕ) (i e : ℕ) (r : e ≡ i + run isLiteralByte (drop i s))
 module _ (s : List ℕ) (i : ℕ) where
   pub domain-literal : getD s i 0 ≡ 91 → later i (domainScan (drop i s)) ≡ later (i + 1) (literalFrom (drop (i + 1) s))
   unfolding domainScan literalScan
-  domain-literal e = rw (first s i, eq-eqb (getD s i 0) 91 e) (byte-then s i 91 literalFrom e)
+  domain-literal e = rw (front-byte s i, eq-eqb (getD s i 0) 91 e) (byte-then s i 91 literalFrom e)
 
   pub domain-atoms : (getD s i 0 ≡ 91 → ⊥) → later i (domainScan (drop i s)) ≡ later i (dotAtomScan (drop i s))
   unfolding domainScan
-  domain-atoms n = rw (first s i, ne-eqb (getD s i 0) 91 n)
+  domain-atoms n = rw (front-byte s i, ne-eqb (getD s i 0) 91 n)
 
   -- ---- address
 
   pub local-quoted : getD s i 0 ≡ 34 → later i (localScan (drop i s)) ≡ later i (quotedScan (drop i s))
   unfolding localScan
-  local-quoted e = rw (first s i, eq-eqb (getD s i 0) 34 e)
+  local-quoted e = rw (front-byte s i, eq-eqb (getD s i 0) 34 e)
 
   pub local-atoms : (getD s i 0 ≡ 34 → ⊥) → later i (localScan (drop i s)) ≡ later i (dotAtomScan (drop i s))
   unfolding localScan
-  local-atoms n = rw (first s i, ne-eqb (getD s i 0) 34 n)
+  local-atoms n = rw (front-byte s i, ne-eqb (getD s i 0) 34 n)
 
   -- the local part ends at n
   pub address-to : (n : ℕ) → To n ≡ later i (localScan (drop i s)) → later i (addressScan (drop i s)) ≡ later n (byteThen 64 domainScan (drop n s))

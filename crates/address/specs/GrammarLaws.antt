@@ -17,7 +17,7 @@ use Rattle.utf8.specs.Run.{run, run-all, run-past}
 use Rattle.address.specs.declared.Scan.{Scan}
 use Rattle.address.specs.declared.Scan.the-variants.{To, Stop}
 use Rattle.address.specs.Address.{later, byteThen, scanThen, isAtext, isAtomByte, isQuotedByte, isLiteralByte, isHigh, dotAtomEnd, dotAtomFrom, dotAtomScan, quotedFrom, quotedScan, literalFrom, literalScan, domainScan, localScan, addressScan, takesAll, isAddress}
-use Rattle.address.specs.AddressLaws.{later-later, later-to, inside}
+use Rattle.address.specs.AddressLaws.{later-later, later-to, byte-within}
 use Rattle.address.specs.TakenLaws.{Taken, taken-quoted, taken-literal, utf8-front, utf8-through}
 use Rattle.address.specs.Grammar.{Atom, DotAtom, Content, QuotedString, LocalPart, Domain, Address}
 
@@ -37,7 +37,7 @@ unfolding later
 moved k (To m) n e = record { m = m; is = refl; size = cc }
 moved k (Stop m) n e = absurd (no-to e)
 
-take-one-more : (b : ℕ) (s : List ℕ) (n m : ℕ) → n ≡ 1 + m → take n (b ∷ s) ≡ b ∷ take m s
+pub take-one-more : (b : ℕ) (s : List ℕ) (n m : ℕ) → n ≡ 1 + m → take n (b ∷ s) ≡ b ∷ take m s
 take-one-more b s n m e = let k : n ≡ suc m = omega (arith, e) in rw k
 
 later-more : (k m n : ℕ) → n ≡ k + m → later k (To m) ≡ To n
@@ -52,11 +52,11 @@ unfolding isAtomByte isAtext
 atom-byte b t = (ne-eqb b 46 (λ e. rw e at t), ne-eqb b 34 (λ e. rw e at t), ne-eqb b 91 (λ e. rw e at t))
 
 -- what is due after an atom, or where one is due
-abbrev After : Bool → List ℕ → Type 0
+abbrev pub After : Bool → List ℕ → Type 0
 After true t = DotAtom t
 After false t = (a : List ℕ) → Atom a → DotAtom (a ++ t)
 
-atom-one : (b : ℕ) → T (isAtomByte b) → Atom (b ∷ [])
+pub atom-one : (b : ℕ) → T (isAtomByte b) → Atom (b ∷ [])
 atom-one b t = record { some = tt; bytes = rw (yes-true (isAtomByte b) t) tt }
 
 atom-snoc : (a : List ℕ) (b : ℕ) → Atom a → T (isAtomByte b) → Atom (a ++ (b ∷ []))
@@ -66,7 +66,7 @@ atom-snoc a b h t = record { some = go a (h .some); bytes = all-append isAtomByt
     go [] h = absurd h
     go (x ∷ a) h = tt
 
-atom-step : (due : Bool) (b : ℕ) (t : List ℕ) → T (isAtomByte b || (eqb b 46 && not due)) → After (eqb b 46 && not due) t → After due (b ∷ t)
+pub atom-step : (due : Bool) (b : ℕ) (t : List ℕ) → T (isAtomByte b || (eqb b 46 && not due)) → After (eqb b 46 && not due) t → After due (b ∷ t)
 atom-step true b t h rest =
     let atom : T (isAtomByte b) = rw (and-false (eqb b 46), or-false (isAtomByte b)) at h in
     let more : After false t = rw (and-false (eqb b 46)) at rest in
@@ -138,12 +138,12 @@ dot-atom-complete (DotAtom.then {a} {more} h d) rest c =
 -- ---- quoted string
 
 -- what a string holds from a place on, with the backslash before it where its first byte is escaped
-record Inside (escaped : Bool) (t : List ℕ) : Type 0 where
-  text : List ℕ
-  content : Content (cond escaped (92 ∷ text) text)
-  is : t ≡ text ++ (34 ∷ [])
+pub record Inside (escaped : Bool) (t : List ℕ) : Type 0 where
+  pub text : List ℕ
+  pub content : Content (cond escaped (92 ∷ text) text)
+  pub is : t ≡ text ++ (34 ∷ [])
 
-inside-plain : (b : ℕ) (t : List ℕ) → T (isQuotedByte b) → (b ≡ 34 → ⊥) → Inside (eqb b 92) t → Inside false (b ∷ t)
+pub inside-plain : (b : ℕ) (t : List ℕ) → T (isQuotedByte b) → (b ≡ 34 → ⊥) → Inside (eqb b 92) t → Inside false (b ∷ t)
 inside-plain b t q n i =
     by-test (eqb b 92)
     (λ u.
@@ -152,6 +152,9 @@ inside-plain b t q n i =
     (λ u.
     let content : Content (i .text) = rw (no-false (eqb b 92) u) at (i .content) in
     record { text = b ∷ i .text; content = Content.plain q n (eqb-no {a = b} {b = 92} u) content; is = ap (λ (l : List ℕ). b ∷ l) (i .is) })
+
+pub inside-escaped : (b : ℕ) (t : List ℕ) → T (within 32 126 b) → Inside false t → Inside true (b ∷ t)
+inside-escaped b t q i = record { text = b ∷ i .text; content = Content.escaped q (i .content); is = ap (λ (l : List ℕ). b ∷ l) (i .is) }
 
 quoted-sound : (escaped : Bool) (s : List ℕ) (n : ℕ) → quotedFrom escaped s ≡ To n → Inside escaped (take n s)
 unfolding quotedFrom
@@ -162,9 +165,7 @@ quoted-sound true (b ∷ s) n e =
     cond-has (λ r. r ≡ To n → Inside true (take n (b ∷ s))) (within 32 126 b) (later 1 (quotedFrom false s)) (Stop 0)
     (λ t k.
     let i = moved 1 (quotedFrom false s) n k in
-    let rest = more (i .m) (i .is) in
-    rw (take-one-more b s n (i .m) (i .size))
-    (record { text = b ∷ rest .text; content = Content.escaped t (rest .content); is = ap (λ (l : List ℕ). b ∷ l) (rest .is) }))
+    rw (take-one-more b s n (i .m) (i .size)) (inside-escaped b (take (i .m) s) t (more (i .m) (i .is))))
     (λ t k. absurd (no-to k))
     e
 quoted-sound false (b ∷ s) n e =
@@ -215,19 +216,25 @@ open-complete : (b : ℕ) (next : List ℕ → Scan) (s : List ℕ) (m n : ℕ) 
 unfolding byteThen
 open-complete b next s m n e k = rw (eq-eqb b b refl, e) (later-more 1 m n k)
 
-quoted-string-sound : (s : List ℕ) (n : ℕ) → quotedScan s ≡ To n → QuotedString (take n s)
+pub quoted-string-sound : (s : List ℕ) (n : ℕ) → quotedScan s ≡ To n → QuotedString (take n s)
 unfolding quotedScan
 quoted-string-sound s n e =
     let o = opened 33 (quotedFrom false) s n e in
     let i = quoted-sound false (o .rest) (o .m) (o .is) in
     rw (o .text, take-one-more 34 (o .rest) n (o .m) (o .size), i .is) (QuotedString.quoted (i .content))
 
+pub quoted-string-complete : {q : List ℕ} → QuotedString q → (rest : List ℕ) → quotedScan (q ++ rest) ≡ To (length q)
+unfolding quotedScan
+quoted-string-complete (QuotedString.quoted {text} q) rest =
+    rw (append-snoc text 34 rest)
+    (open-complete 34 (quotedFrom false) (text ++ (34 ∷ rest)) (length text + 1) (length (34 ∷ (text ++ (34 ∷ [])))) (quoted-complete q rest) (omega (arith, length-append text (34 ∷ []))))
+
 -- ---- domain
 
-record Closing (t : List ℕ) : Type 0 where
-  text : List ℕ
-  bytes : T (all isLiteralByte text)
-  is : t ≡ text ++ (93 ∷ [])
+pub record Closing (t : List ℕ) : Type 0 where
+  pub text : List ℕ
+  pub bytes : T (all isLiteralByte text)
+  pub is : t ≡ text ++ (93 ∷ [])
 
 literal-from-sound : (s : List ℕ) (n : ℕ) → literalFrom s ≡ To n → Closing (take n s)
 unfolding literalFrom
@@ -237,7 +244,7 @@ literal-from-sound s n e =
     (λ t q.
     let last : getD s k 0 ≡ 93 = eqb→eq (getD s k 0) 93 t in
     let size : n ≡ suc k = (let z : n ≡ k + 1 = cc in omega arith) in
-    record { text = take k s; bytes = run-all isLiteralByte s; is = rw (size, take-suc s k 0 (inside s k 92 last), last) })
+    record { text = take k s; bytes = run-all isLiteralByte s; is = rw (size, take-suc s k 0 (byte-within s k 92 last), last) })
     (λ t q. absurd (no-to q))
     e
 
@@ -280,7 +287,7 @@ domain-complete (Domain.literal text h) rest c =
 
 -- ---- address
 
-local-sound : (s : List ℕ) (n : ℕ) → localScan s ≡ To n → LocalPart (take n s)
+pub local-sound : (s : List ℕ) (n : ℕ) → localScan s ≡ To n → LocalPart (take n s)
 unfolding localScan dotAtomScan
 local-sound s n e =
     cond-has (λ r. r ≡ To n → LocalPart (take n s)) (eqb (getD s 0 0) 34) (quotedScan s) (dotAtomScan s)
@@ -288,17 +295,10 @@ local-sound s n e =
     (λ t k. LocalPart.atoms (dot-atom-sound true s n k))
     e
 
--- the choice between the two is by the first byte
-quoted-string-complete : {q : List ℕ} → QuotedString q → (rest : List ℕ) → localScan (q ++ rest) ≡ To (length q)
-unfolding localScan quotedScan
-quoted-string-complete (QuotedString.quoted {text} q) rest =
-    rw (append-snoc text 34 rest)
-    (open-complete 34 (quotedFrom false) (text ++ (34 ∷ rest)) (length text + 1) (length (34 ∷ (text ++ (34 ∷ [])))) (quoted-complete q rest) (omega (arith, length-append text (34 ∷ []))))
-
 local-complete : {l : List ℕ} → LocalPart l → (rest : List ℕ) → Closed rest → localScan (l ++ rest) ≡ To (length l)
 unfolding localScan dotAtomScan
 local-complete (LocalPart.atoms {text} a) rest c = rw (atom-byte (getD (text ++ rest) 0 0) (dot-atom-first a rest) .1) (dot-atom-complete a rest c)
-local-complete (LocalPart.string q) rest c = quoted-string-complete q rest
+local-complete (LocalPart.string (QuotedString.quoted {text} q)) rest c = quoted-string-complete (QuotedString.quoted q) rest
 
 pub address-sound : (s : List ℕ) (n : ℕ) → addressScan s ≡ To n → Address (take n s)
 unfolding addressScan scanThen
@@ -329,7 +329,7 @@ address-complete (Address.address {local} {domain} l d) rest c =
 
 -- ---- a whole text
 
-nothing-closed : Closed []
+pub nothing-closed : Closed []
 unfolding isAtomByte isAtext
 nothing-closed = record { atom = refl; dot = refl }
 

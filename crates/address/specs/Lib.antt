@@ -3,6 +3,7 @@ pub mod AddressLaws
 pub mod TakenLaws
 pub mod Grammar
 pub mod GrammarLaws
+pub mod BeginningLaws
 pub mod Xtext
 pub mod XtextLaws
 pub mod AddressCases

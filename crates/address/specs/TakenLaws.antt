@@ -1,24 +1,24 @@
 -- Laws of what the scans take: within the text, of which bytes, how many at least. Assumes nothing.
 use mathlib.Core.Path.{_≡_}
-use mathlib.Core.Bool.{Bool, true, false, not, cond, _&&_, _||_, or-true}
+use mathlib.Core.Bool.{Bool, true, false, not, cond, _&&_, _||_, or-true, or-false}
 use mathlib.Core.List.{List, [], _∷_}
 use Prim.Native.Nat.{ℕ, suc, _+_, _-_, _≤_, _<_}
 use native.Mathlib.Nat.{add-zero}
 use native.Mathlib.Omega.{arith}
 use lib.Dec.{T, eqb, leb, ltb, eqb→eq}
 use lib.ListN.{length, take, drop, getD, length-drop, take-append-drop}
-use lib.Seq.{take-add, take-all, take-suc, split-at, getD-drop}
-use borrow.Author.Tests.{lt-ltb}
+use lib.Seq.{take-add, take-all, take-length, take-suc, split-at, getD-drop}
+use borrow.Author.Tests.{lt-ltb, lt-leb}
 use native.Mathlib.Numerals.{add-one}
 use Rattle.utf8.specs.Utf8.{utf8}
 use Rattle.utf8.specs.Utf8Laws.{utf8-cut, utf8-append, utf8-ascii}
-use mir.Facts.{leb-no, ltb-yes, ltb-no}
+use mir.Facts.{and-yes, yes-and, leb-no, ltb-yes, ltb-no}
 use Rattle.utf8.specs.Lists.{by-test, cond-has, yes-true, all, all-append, all-weaken, all-left, all-right}
 use Rattle.utf8.specs.Byte.{within, isAscii, allBelow, below, implies}
 use Rattle.utf8.specs.Run.{run, run-le, run-all}
 use Rattle.address.specs.declared.Scan.{Scan}
 use Rattle.address.specs.declared.Scan.the-variants.{To, Stop}
-use Rattle.address.specs.Address.{later, byteThen, scanThen, isHigh, isAtext, isAtomByte, isQuotedByte, isLiteralByte, dotAtomEnd, dotAtomFrom, dotAtomScan, quotedFrom, quotedScan, literalFrom, literalScan, domainScan, localScan, addressScan}
+use Rattle.address.specs.Address.{later, byteThen, scanThen, isHigh, isAtext, isAtomByte, isQuotedByte, isLiteralByte, dotAtomEnd, dotAtomFrom, dotAtomScan, quotedFrom, quotedScan, literalFrom, literalScan, domainScan, localScan, addressScan, takesAll, isAddress, isAsciiAddress}
 
 -- the place that a scan answers
 abbrev pub reach : Scan → ℕ
@@ -247,3 +247,34 @@ pub utf8-through : (s : List ℕ) (n : ℕ) → T (utf8 s) → n < length s → 
 utf8-through s n h l k =
     let last : T (utf8 (getD s n 0 ∷ [])) = utf8-ascii (getD s n 0 ∷ []) (rw (lt-ltb (getD s n 0) 128 k) tt) in
     rw (add-one, take-suc s n 0 l) (utf8-append (take n s) (getD s n 0 ∷ []) (utf8-front s n h k) last)
+
+-- ---- a whole address
+
+-- a text that is taken whole is taken
+whole-taken : {least : ℕ} (s : List ℕ) (r : Scan) → Taken least s r → T (takesAll r s) → (least ≤ length s) × T (all isQuotedByte s)
+whole-taken s (To n) t h =
+    let size : n ≡ length s = eqb→eq n (length s) h in
+    (omega (arith, t .some), rw (size, take-length) at (t .covers .bytes))
+whole-taken s (Stop n) t h = absurd h
+
+-- an address has at least 3 bytes, each of them 32 to 126 or not ASCII
+pub address-bytes : (s : List ℕ) → T (isAddress s) → (3 ≤ length s) × T (all isQuotedByte s)
+unfolding isAddress
+address-bytes s h = whole-taken s (addressScan s) (taken-address s) (and-yes (utf8 s) (takesAll (addressScan s) s) h .1)
+
+-- the bytes of an ASCII address are 32 to 126: no CR, LF, TAB or NUL
+pub ascii-address-bytes : (s : List ℕ) → T (isAsciiAddress s) → T (all (within 32 126) s)
+unfolding isAsciiAddress isQuotedByte
+ascii-address-bytes s h =
+    let both = and-yes (isAddress s) (all isAscii s) h in
+    all-both isQuotedByte isAscii (within 32 126) visible s (address-bytes s (both .0) .1) (both .1)
+  where
+    all-both : (f g k : ℕ → Bool) → ((b : ℕ) → T (f b) → T (g b) → T (k b)) → (s : List ℕ) → T (all f s) → T (all g s) → T (all k s)
+    all-both f g k w [] p q = tt
+    all-both f g k w (b ∷ s) p q =
+        let x = and-yes (f b) (all f s) p in
+        let y = and-yes (g b) (all g s) q in
+        yes-and (k b) (all k s) (w b (x .0) (y .0)) (all-both f g k w s (x .1) (y .1))
+
+    visible : (b : ℕ) → T (isQuotedByte b) → T (isAscii b) → T (within 32 126 b)
+    visible b p q = rw (lt-leb 128 b (ltb-yes {a = b} {b = 128} q), or-false (within 32 126 b)) at p

@@ -5,17 +5,19 @@ use mathlib.Core.Bool.{Bool, true, false, not, _&&_, and-false}
 use mathlib.Core.List.{List, [], _∷_, _++_}
 use Prim.Native.Nat.{ℕ, zero, suc, pred, _+_, _*_, _-_, _≤_, _<_}
 use native.Mathlib.Omega.{arith}
-use lib.Dec.{T, eqb, ltb}
+use lib.Dec.{T, eqb, ltb, leb}
+use mathlib.Core.Option.{none, some}
+use Rattle.address.specs.TakenLaws.{ascii-address-bytes}
 use lib.ListN.{length, take, drop, getD, length-drop, drop-of-length-le, List·getD-eq-default}
 use lib.Seq.{drop-drop, getD-drop}
 use mir.Facts.{and-yes}
-use Rattle.utf8.specs.Lists.{by-test, cond-yes, cond-no, cond-has, yes-true, no-false, true-yes}
+use Rattle.utf8.specs.Lists.{by-test, cond-yes, cond-no, cond-has, yes-true, no-false, true-yes, all}
 use Rattle.utf8.specs.Byte.{within, within-low, within-high}
 use Rattle.buffer.specs.Buffer.{Wrote, AppendedCapped, Reached, greatest}
 use Rattle.buffer.specs.BufferLaws.{reached-start, reached-then, reached-end, reached-within, length-reached, appended-of, wrote-from, overlay-front}
 use Rattle.address.specs.Address.{isAsciiAddress}
-use Rattle.address.specs.AddressLaws.{first}
-use Rattle.address.specs.Xtext.{isXchar, isHexDigit, hexValue, isHexchar, unitLen, unitByte, Decoding, byteBefore, decodingAfter, decoding, isXtext, decoded, isAltAddress}
+use Rattle.address.specs.AddressLaws.{front-byte}
+use Rattle.address.specs.Xtext.{isXchar, isHexDigit, hexValue, isHexchar, unitLen, unitByte, Decoding, byteBefore, decodingAfter, decoding, isXtext, decoded, isAltAddress, altAddress}
 
 -- ---- a unit: an xchar or a hexchar
 
@@ -50,17 +52,17 @@ pub record UnitAt (s : List ℕ) (i n b : ℕ) : Type 0 where
 -- a hexchar by position
 hexchar-at : (s : List ℕ) (i : ℕ) → isHexchar (drop i s) ≡ eqb (getD s i 0) 43 && isHexDigit (getD s (i + 1) 0) && isHexDigit (getD s (i + 2) 0)
 unfolding isHexchar
-hexchar-at s i = rw (first s i, getD-drop i s 1 0, getD-drop i s 2 0)
+hexchar-at s i = rw (front-byte s i, getD-drop i s 1 0, getD-drop i s 2 0)
 
 -- `x` is the test of the byte at i, and `high` and `low` those of the two bytes after it, as code makes them
 module _ (s : List ℕ) (i : ℕ) (h : i < length s) (x : Bool) (e : x ≡ isXchar (getD s i 0)) where
   pub unit-bare : x ≡ true → UnitAt s i 1 (getD s i 0)
   unfolding unitLen unitByte
-  unit-bare t = record { size = rw (first s i, ← e, t); byte = rw (first s i, ← e, t); fits = omega arith }
+  unit-bare t = record { size = rw (front-byte s i, ← e, t); byte = rw (front-byte s i, ← e, t); fits = omega arith }
 
   unit-none : x ≡ false → isHexchar (drop i s) ≡ false → UnitAt s i 0 0
   unfolding unitLen unitByte
-  unit-none n t = record { size = rw (first s i, ← e, n, t); byte = rw (first s i, ← e, n, t); fits = omega arith }
+  unit-none n t = record { size = rw (front-byte s i, ← e, n, t); byte = rw (front-byte s i, ← e, n, t); fits = omega arith }
 
   -- a third byte is missing
   pub unit-short : x ≡ false → length s - i < 3 → UnitAt s i 0 0
@@ -79,8 +81,8 @@ module _ (s : List ℕ) (i : ℕ) (h : i < length s) (x : Bool) (e : x ≡ isXch
     unit-hex t k a b p q =
         let hex : isHexchar (drop i s) ≡ true = rw (hexchar-at s i, ← u, ← v) t in
         record {
-          size = rw (first s i, ← e, n, hex);
-          byte = rw (first s i, ← e, n, hex, getD-drop i s 1 0, getD-drop i s 2 0, p, q);
+          size = rw (front-byte s i, ← e, n, hex);
+          byte = rw (front-byte s i, ← e, n, hex, getD-drop i s 1 0, getD-drop i s 2 0, p, q);
           fits = omega arith;
         }
 
@@ -208,3 +210,14 @@ module _ (value : List ℕ) where
       let fits : length (decoded value) ≤ length before = omega (arith, decoded-le value) in
       let held : take n after ≡ decoded value = rw (w .size, w .bytes) (overlay-front (decoded value) before fits) in
       rw (le-leb (length value) 998 h, ← e, held)
+
+-- the decoded bytes of an ALT-ADDRESS are an ASCII address; each is 32 to 126, so that no line break enters with them
+pub alt-address : (value : List ℕ) → T (isAltAddress value) → T (isAsciiAddress (decoded value)) × T (all (within 32 126) (decoded value))
+unfolding isAltAddress
+alt-address value h =
+    let address = and-yes (leb (length value) 998 && isXtext value) (isAsciiAddress (decoded value)) h .1 in
+    (address, ascii-address-bytes (decoded value) address)
+
+pub alt-some : (value : List ℕ) → T (isAltAddress value) → altAddress value ≡ some (decoded value)
+unfolding altAddress
+alt-some value h = cond-yes (isAltAddress value) (some (decoded value)) none h

@@ -5,7 +5,7 @@ ghost use Rattle.address.specs.Address.{later, isAtomByte, dotAtomEnd, d
 use crate::Scan;
 
 // Whether a byte is atext or not ASCII. Without branches.
-fn is_atom_byte(b: u8) -> bool
+pub fn is_atom_byte(b: u8) -> bool
     ensures { λ r. ⌜ r ≡ isAtomByte b ⌝ }
 {
     ((65 <= b) & (b <= 90))

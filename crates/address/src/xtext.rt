@@ -69,7 +69,7 @@ struct Decoded {
     pub whole: bool,
 }
 
-// Writes what a value decodes to to the front of out, as far as it fits.
+// Writes the decoded bytes of a value to the front of out, as far as they fit.
 fn decode(out: &mut [u8], value: &[u8]) -> Decoded
     ensures { λ r. ⌜ Wrote (decoded (now (value .entry))) (now (out .entry)) (now (out .exit)) (r .size) × (r .whole ≡ isXtext (now (value .entry))) ⌝ }
 {
@@ -94,7 +94,7 @@ fn decode(out: &mut [u8], value: &[u8]) -> Decoded
     }
 }
 
-// Writes what a value decodes to to the front of out, as far as it fits; answers the length of the whole. What is not xtext is
+// Writes the decoded bytes of a value to the front of out, as far as they fit; answers how many they are. What is not xtext is
 // decoded up to its fault.
 pub fn put_decoded(out: &mut [u8], value: &[u8]) -> usize
     ensures { λ r. ⌜ Wrote (decoded (now (value .entry))) (now (out .entry)) (now (out .exit)) r ⌝ }
@@ -110,7 +110,7 @@ pub fn is_alt_address(value: &[u8]) -> bool
     if LIMIT < value.len() {
         return false;
     }
-    let mut bytes = [0u8; 998];
+    let mut bytes = [0u8; LIMIT];
     let d = decode(&mut bytes, value);
     let n = d.size;
     if !d.whole {

@@ -1,4 +1,4 @@
-use Rattle.address.specs.AddressLaws.{inside, byte-then, byte-other}
+use Rattle.address.specs.AddressLaws.{byte-within, byte-then, byte-other}
 use mathlib.Core.Path.{sym, _∙_}
 use native.Mathlib.Omega.{arith}
 use borrow.Author.Needs.{needs}
@@ -12,7 +12,7 @@ returns : tie.Need-returns
 returns c = sym (byte-other _ _ 64 _ (λ e. c .if1 .taken (c .before .byte-at .ensures ∙ e)))
 
 add-domain : tie.Need-add-domain
-add-domain c = omega (arith, inside (c .before .before .before .args .s .now) _ 63 (sym (c .before .byte-at .ensures) ∙ c .if1 .left))
+add-domain c = omega (arith, byte-within (c .before .before .before .args .s .now) _ 63 (sym (c .before .byte-at .ensures) ∙ c .if1 .left))
 
 domain-requires : tie.Need-domain-requires
 domain-requires c κs = search needs

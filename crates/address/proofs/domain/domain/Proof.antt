@@ -1,4 +1,4 @@
-use Rattle.address.specs.AddressLaws.{inside, domain-literal, domain-atoms}
+use Rattle.address.specs.AddressLaws.{byte-within, domain-literal, domain-atoms}
 use mathlib.Core.Path.{sym, _∙_}
 use native.Mathlib.Omega.{arith}
 use borrow.Author.Needs.{needs}
@@ -9,7 +9,7 @@ byte-at-requires : tie.Need-byte-at-requires
 byte-at-requires c κs = search needs
 
 add-inside : tie.Need-add-inside
-add-inside c = omega (arith, inside (c .before .before .before .args .s .now) _ 90 (sym (c .before .byte-at .ensures) ∙ c .if1 .taken))
+add-inside c = omega (arith, byte-within (c .before .before .before .args .s .now) _ 90 (sym (c .before .byte-at .ensures) ∙ c .if1 .taken))
 
 inside-requires : tie.Need-inside-requires
 inside-requires c κs = search needs

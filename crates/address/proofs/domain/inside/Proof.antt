@@ -1,4 +1,4 @@
-use Rattle.address.specs.AddressLaws.{inside, literal-close, literal-stop}
+use Rattle.address.specs.AddressLaws.{byte-within, literal-close, literal-stop}
 use mathlib.Core.Path.{sym, _∙_}
 use native.Mathlib.Omega.{arith}
 use borrow.Author.Needs.{needs}
@@ -12,7 +12,7 @@ byte-at-requires : tie.Need-byte-at-requires
 byte-at-requires c κs = search needs
 
 add-t6 : tie.Need-add-t6
-add-t6 c = omega (arith, inside (c .before .before .before .before .args .s .now) _ 92 (sym (c .before .byte-at .ensures) ∙ c .if1 .taken))
+add-t6 c = omega (arith, byte-within (c .before .before .before .before .args .s .now) _ 92 (sym (c .before .byte-at .ensures) ∙ c .if1 .taken))
 
 returns : tie.Need-returns
 returns c = sym (literal-close _ _ _ (c .before .before .literal-run .ensures) (sym (c .before .byte-at .ensures) ∙ c .if1 .taken))

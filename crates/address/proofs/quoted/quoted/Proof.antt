@@ -1,4 +1,4 @@
-use Rattle.address.specs.AddressLaws.{inside, byte-then, byte-other}
+use Rattle.address.specs.AddressLaws.{byte-within, byte-then, byte-other}
 use Rattle.address.specs.Address.{quotedScan}
 use mathlib.Core.Path.{sym, _∙_}
 use native.Mathlib.Omega.{arith}
@@ -14,7 +14,7 @@ unfolding quotedScan
 returns c = sym (byte-other _ _ 34 _ (λ e. c .if1 .taken (c .before .byte-at .ensures ∙ e)))
 
 add-inside : tie.Need-add-inside
-add-inside c = omega (arith, inside (c .before .before .before .args .s .now) _ 33 (sym (c .before .byte-at .ensures) ∙ c .if1 .left))
+add-inside c = omega (arith, byte-within (c .before .before .before .args .s .now) _ 33 (sym (c .before .byte-at .ensures) ∙ c .if1 .left))
 
 inside-requires : tie.Need-inside-requires
 inside-requires c κs = search needs
