@@ -1,6 +1,6 @@
 use Rattle.envelope_line.specs.FaultLaws.{line-long, line-not-utf8, line-no-verb, line-no-path, line-open, line-tail}
 use Rattle.envelope_line.specs.PathLaws.{pathAt}
-use Rattle.address.specs.AddressLaws.{inside}
+use Rattle.address.specs.AddressLaws.{byte-within}
 use borrow.Author.Tests.{not-true, not-false}
 use native.Mathlib.Omega.{arith}
 use mathlib.Core.Path.{sym, _∙_}
@@ -44,7 +44,7 @@ unfolding pathAt
 returns-5 c = line-open _ _ (c .before .before .before .before .before .before .before .before .before .before .if1 .left) (sym (c .before .before .before .before .before .before .before .before .before .is-utf8 .ensures) ∙ not-false _ (c .before .before .before .before .before .before .before .before .if2 .left)) (sym (c .before .before .before .before .before .before .before .has-verb .ensures) ∙ not-false _ (c .before .before .before .before .before .before .if3 .left)) _ (sym (c .before .before .before .end .given .1) ∙ c .before .before .before .before .before .path .ensures) (λ e. c .if4 .taken (c .before .byte-at .ensures ∙ e))
 
 add-tail-fault : tie.Need-add-tail-fault
-add-tail-fault c = omega (arith, inside (c .before .before .before .before .before .before .before .before .before .before .before .before .args .line .now) (c .before .before .before .end .given .0 .0) 61 (sym (c .before .byte-at .ensures) ∙ c .if4 .left))
+add-tail-fault c = omega (arith, byte-within (c .before .before .before .before .before .before .before .before .before .before .before .before .args .line .now) (c .before .before .before .end .given .0 .0) 61 (sym (c .before .byte-at .ensures) ∙ c .if4 .left))
 
 path-start-requires : tie.Need-path-start-requires
 path-start-requires c κs = search needs
