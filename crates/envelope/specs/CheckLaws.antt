@@ -17,19 +17,15 @@ use Rattle.buffer.specs.Buffer.{overlay, Reached}
 use Rattle.buffer.specs.BufferLaws.{reached-start, reached-then, reached-end, appended-byte, wrote-from}
 use Rattle.line.specs.Line.{lineLen}
 use Rattle.line.specs.LineLaws.{crlf-at}
+use Rattle.address.specs.AddressLaws.{byte-within}
 use Rattle.envelope_line.specs.declared.Fault.{Fault}
 use Rattle.envelope_line.specs.declared.Fault.the-variants.{Fine, Malformed, NoAlternative, BadAlternative}
 use Rattle.envelope_line.specs.EnvelopeLine.{lineFault}
 use Rattle.envelope.specs.declared.Checked.{Checked}
 use Rattle.envelope.specs.declared.Checked.the-variants.{Passed, Refused}
-use Rattle.envelope.specs.Envelope.{frontFault, thenNext, rcptFault, rcptsFrom, checked, isFine, startsFrom, rcptStarts}
+use Rattle.envelope.specs.Envelope.{EnvelopeChecked, frontFault, thenNext, rcptFault, rcptsFrom, checked, isFine, startsFrom, rcptStarts}
 
--- what the check answers, and the array of line starts afterwards
-pub record EnvelopeChecked (e before after : List ℕ) (r : Checked) : Type 0 where
-  pub answer : r ≡ checked e
-  pub starts : after ≡ overlay (rcptStarts e) before
-
--- the same for the RCPT lines from a place on
+-- what the check of the RCPT lines from a place on answers, and the array of line starts afterwards
 pub record RcptsChecked (e : List ℕ) (at : ℕ) (before after : List ℕ) (r : Checked) : Type 0 where
   pub answer : r ≡ rcptsFrom 0 0 (drop at e)
   pub starts : after ≡ overlay (startsFrom 0 0 at (drop at e)) before

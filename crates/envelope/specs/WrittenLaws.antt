@@ -14,8 +14,8 @@ use Rattle.line.specs.Line.{lineLen}
 use Rattle.envelope_line.specs.EnvelopeLine.{writtenLine, replacement}
 use Rattle.envelope_line.specs.WriteLaws.{capped-same}
 use Rattle.envelope.specs.declared.Checked.the-variants.{Passed}
-use Rattle.envelope.specs.Envelope.{frontFault, rcptFault, rcptsFrom, checked, isFine, startsFrom, rcptStarts, lineAt, writtenAt, writtenBy, written, entries, mailReplacement, replacementBy, rcptReplacement}
-use Rattle.envelope.specs.CheckLaws.{EnvelopeChecked, fine-next, fault-next, fine-few}
+use Rattle.envelope.specs.Envelope.{EnvelopeChecked, frontFault, rcptFault, rcptsFrom, checked, isFine, startsFrom, rcptStarts, lineAt, writtenAt, writtenBy, written, entries, mailReplacement, replacementBy, rcptReplacement}
+use Rattle.envelope.specs.CheckLaws.{fine-next, fault-next, fine-few}
 
 -- the line as code lends it
 pub line-part : (s : List ℕ) (at end : ℕ) {l : List ℕ} → end ≡ at + lineLen (drop at s) → l ≡ take (end - at) (drop at s) → l ≡ lineAt at s
