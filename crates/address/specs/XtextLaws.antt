@@ -13,7 +13,7 @@ use lib.Seq.{drop-drop, getD-drop}
 use mir.Facts.{and-yes}
 use Rattle.utf8.specs.Lists.{by-test, cond-yes, cond-no, cond-has, yes-true, no-false, true-yes, all}
 use Rattle.utf8.specs.Byte.{within, within-low, within-high}
-use Rattle.buffer.specs.Buffer.{Wrote, Added, Reached, greatest}
+use Rattle.buffer.specs.Buffer.{Wrote, AppendedCapped, Reached, greatest}
 use Rattle.buffer.specs.BufferLaws.{reached-start, reached-then, reached-end, reached-within, length-reached, appended-of, wrote-from, overlay-front}
 use Rattle.address.specs.Address.{isAsciiAddress}
 use Rattle.address.specs.AddressLaws.{front-byte}
@@ -176,7 +176,7 @@ length-decoded d = length-reached (d .reached)
 
 module _ {value before mid : List ℕ} {i n : ℕ} (d : DecodedTo value i before mid n) where
   module _ {size b : ℕ} (u : UnitAt value i size b) (h : i < length value) where
-    pub decoded-more : {after : List ℕ} {m : ℕ} → (size ≡ 0 → ⊥) → length value ≤ greatest → Added (b ∷ []) n mid after m → DecodedTo value (i + size) before after m
+    pub decoded-more : {after : List ℕ} {m : ℕ} → (size ≡ 0 → ⊥) → length value ≤ greatest → AppendedCapped (b ∷ []) n mid after m → DecodedTo value (i + size) before after m
     decoded-more z k a =
         let next : decoded (drop i value) ≡ (b ∷ []) ++ decoded (drop (i + size) value) = decoded-step value i size b u h z in
         let room : n + 1 ≤ greatest = omega (arith, reached-within (d .reached), decoded-le value, ap length next) in

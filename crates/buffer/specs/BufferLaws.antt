@@ -1,11 +1,14 @@
 -- Laws of writing: how two writings join, by lending the rest and from a place on. Assumes nothing.
 use mathlib.Core.Path.{_≡_, refl, ap, sym, _∙_}
+use mathlib.Core.Bool.{Bool, true, false}
 use mathlib.Core.List.{List, [], _∷_, _++_, append-nil, append-assoc}
 use Prim.Native.Nat.{ℕ, zero, suc, _+_, _-_, _≤_, _<_, min}
 use native.Mathlib.Nat.{not-suc-le-zero, le-of-suc-le-suc, suc-add}
 use native.Mathlib.Numerals.{unary-clauses, add-one}
 use native.Mathlib.Omega.{arith}
 use lib.ListN.{length, take, drop, set, getD, length-drop, drop-of-length-le, length-append, length-take, take-append-drop}
+use lib.Dec.{leb}
+use borrow.Author.Tests.{leb-true, leb-false}
 use lib.Seq.{take-all, take-nil, drop-nil}
 use Rattle.buffer.specs.Buffer.{overlay, overlayAt, Wrote, Appended, AppendedCapped, greatest, Reached}
 
@@ -172,6 +175,35 @@ length-added {text} {before} {after} {at} {r} a = rw (a .bytes) (length-overlay-
 -- where the place after the text is a usize
 pub appended-of : {text before after : List ℕ} {at r : ℕ} → AppendedCapped text at before after r → at + length text ≤ greatest → Appended text at before after r
 appended-of {text} {before} {after} {at} {r} a h = record { place = omega (arith, a .place, h); bytes = a .bytes }
+
+-- no text
+pub capped-none : (at : ℕ) (before : List ℕ) → at ≤ greatest → AppendedCapped [] at before before at
+capped-none at before h = record { place = omega arith; bytes = appended-none at before .bytes }
+
+-- past the end of the buffer nothing is written
+overlay-at-end : (at : ℕ) (text out : List ℕ) → length out ≤ at → overlayAt at text out ≡ out
+unfolding overlayAt
+overlay-at-end at text out h = rw (take-all at out h, drop-of-length-le out {i = at} h, overlay-nil, append-nil)
+
+-- one text after another; a place that is capped lies past the end of the buffer
+pub capped-then : {xs ys before mid after : List ℕ} {at r s : ℕ} → AppendedCapped xs at before mid r → AppendedCapped ys r mid after s → length before ≤ greatest
+    → AppendedCapped (xs ++ ys) at before after s
+capped-then {xs} {ys} {before} {mid} {after} {at} {r} {s} v w h = record {
+  place = rw length-append (omega (arith, v .place, w .place));
+  bytes = w .bytes ∙ by-place ∙ rw (v .bytes) (overlay-at-then at xs ys before);
+}
+  where
+    same : length mid ≡ length before
+    same = length-added v
+
+    by-place : overlayAt r ys mid ≡ overlayAt (at + length xs) ys mid
+    by-place = pick (leb (at + length xs) greatest) refl
+      where
+        pick : (b : Bool) → leb (at + length xs) greatest ≡ b → overlayAt r ys mid ≡ overlayAt (at + length xs) ys mid
+        pick true k = let le = leb-true (at + length xs) greatest k in let e : r ≡ at + length xs = omega (arith, v .place) in rw e
+        pick false k =
+            let gt = leb-false (at + length xs) greatest k in
+            rw (overlay-at-end r ys mid (omega (arith, v .place, same)), overlay-at-end (at + length xs) ys mid (omega (arith, same)))
 
 -- ---- a loop that writes
 

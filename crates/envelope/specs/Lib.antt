@@ -1,0 +1,5 @@
+pub mod Envelope
+pub mod CheckLaws
+pub mod OrcptLaws
+pub mod WrittenLaws
+pub mod EnvelopeCases

@@ -1,0 +1,134 @@
+-- Laws of faults: the tests in the order in which code makes them. Assumes nothing.
+use mathlib.Core.Path.{_≡_, refl, ap, sym, _∙_}
+use mathlib.Core.Bool.{Bool, true, false, not, cond, _&&_}
+use mathlib.Core.List.{List, [], _∷_, _++_}
+use Prim.Native.Nat.{ℕ, suc, _+_, _-_, _≤_, _<_}
+use native.Mathlib.Omega.{arith}
+use lib.ListN.{length, take, drop, getD}
+use borrow.Author.Tests.{lt-leb, le-leb, eq-eqb, ne-eqb}
+use Rattle.utf8.specs.Lists.{all}
+use Rattle.utf8.specs.Byte.{isAscii}
+use Rattle.utf8.specs.Utf8.{utf8}
+use Rattle.address.specs.declared.Scan.{Scan}
+use Rattle.address.specs.declared.Scan.the-variants.{To, Stop}
+use Rattle.address.specs.Address.{later}
+use Rattle.address.specs.Xtext.{isAltAddress}
+use Rattle.envelope_line.specs.PathLaws.{pathAt, path-end-to}
+use Rattle.envelope_line.specs.declared.Fault.{Fault}
+use Rattle.envelope_line.specs.declared.Fault.the-variants.{Fine, Malformed, NoAlternative, BadAlternative}
+use Rattle.envelope_line.specs.EnvelopeLine.{verbLen, hasVerb, pathScan, isTo, pathLen, path, hasPath, tail, params, spaced, isParam, hasValue, value, alts, altsOk, wellFormed, altFault, lineFault}
+
+-- the fault of a line by its tail; `ascii` says whether the path is ASCII
+unfoldable pub tailFault : Bool → List ℕ → Fault
+tailFault ascii t = cond (spaced t && all isParam (params t) && altsOk (alts (params t))) (altFault ascii (alts (params t))) Malformed
+
+-- the same where p is the only ALT-ADDRESS and all else is well-formed
+unfoldable pub onlyAltFault : Bool → List ℕ → Fault
+onlyAltFault ascii p = cond (hasValue p) (altFault ascii (p ∷ [])) Malformed
+
+module _ (ascii : Bool) (t : List ℕ) where
+  pub tail-unspaced : spaced t ≡ false → tailFault ascii t ≡ Malformed
+  unfolding tailFault
+  tail-unspaced e = rw e
+
+  module _ (s : spaced t ≡ true) where
+    pub tail-no-params : all isParam (params t) ≡ false → tailFault ascii t ≡ Malformed
+    unfolding tailFault
+    tail-no-params e = rw (s, e)
+
+    module _ (p : all isParam (params t) ≡ true) where
+      pub tail-no-alt : alts (params t) ≡ [] → tailFault ascii t ≡ altFault ascii []
+      unfolding tailFault altsOk
+      tail-no-alt e = rw (s, p, e)
+
+      pub tail-two-alts : {a b : List ℕ} {more : List (List ℕ)} → alts (params t) ≡ a ∷ b ∷ more → tailFault ascii t ≡ Malformed
+      unfolding tailFault altsOk
+      tail-two-alts e = rw (s, p, e)
+
+      pub tail-one-alt : {a : List ℕ} → alts (params t) ≡ a ∷ [] → tailFault ascii t ≡ onlyAltFault ascii a
+      unfolding tailFault altsOk onlyAltFault
+      tail-one-alt e = rw (s, p, e)
+
+      pub tail-plain : alts (params t) ≡ [] → ascii ≡ true → Fine ≡ tailFault ascii t
+      unfolding altFault
+      tail-plain e a = sym (tail-no-alt e ∙ rw a)
+
+      pub tail-high : alts (params t) ≡ [] → ascii ≡ false → NoAlternative ≡ tailFault ascii t
+      unfolding altFault
+      tail-high e a = sym (tail-no-alt e ∙ rw a)
+
+-- ---- the only ALT-ADDRESS
+
+module _ (ascii : Bool) (p : List ℕ) where
+  pub only-bare : hasValue p ≡ false → Malformed ≡ onlyAltFault ascii p
+  unfolding onlyAltFault
+  only-bare e = rw e
+
+  module _ (h : hasValue p ≡ true) where
+    pub only-beside : ascii ≡ true → BadAlternative ≡ onlyAltFault ascii p
+    unfolding onlyAltFault altFault
+    only-beside a = rw (h, a)
+
+    module _ (a : ascii ≡ false) {v : List ℕ} (e : v ≡ value p) where
+      pub only-fine : isAltAddress v ≡ true → Fine ≡ onlyAltFault ascii p
+      unfolding onlyAltFault altFault
+      only-fine t = rw (h, a, ← e, t)
+
+      pub only-bad : isAltAddress v ≡ false → BadAlternative ≡ onlyAltFault ascii p
+      unfolding onlyAltFault altFault
+      only-bad t = rw (h, a, ← e, t)
+
+-- ---- the whole line
+
+module _ (mail : Bool) (line : List ℕ) where
+  is-to : (n : ℕ) → To n ≡ pathAt mail line → isTo (pathScan mail (drop (verbLen mail) line)) ≡ true
+  unfolding pathAt later
+  is-to n e = go (pathScan mail (drop (verbLen mail) line)) e
+    where
+      go : (x : Scan) → To n ≡ later (verbLen mail) x → isTo x ≡ true
+      go (To k) e = refl
+      go (Stop k) e = absurd (let z : _≡_ {A = ℕ} 0 1 = cc in omega arith)
+
+  is-stop : (n : ℕ) → Stop n ≡ pathAt mail line → isTo (pathScan mail (drop (verbLen mail) line)) ≡ false
+  unfolding pathAt later
+  is-stop n e = go (pathScan mail (drop (verbLen mail) line)) e
+    where
+      go : (x : Scan) → Stop n ≡ later (verbLen mail) x → isTo x ≡ false
+      go (Stop k) e = refl
+      go (To k) e = absurd (let z : _≡_ {A = ℕ} 0 1 = cc in omega arith)
+
+  pub line-long : 998 < length line → Malformed ≡ lineFault mail line
+  unfolding lineFault wellFormed
+  line-long h = rw (lt-leb (length line) 998 h)
+
+  module _ (l : length line ≤ 998) where
+    pub line-not-utf8 : utf8 line ≡ false → Malformed ≡ lineFault mail line
+    unfolding lineFault wellFormed
+    line-not-utf8 u = rw (le-leb (length line) 998 l, u)
+
+    module _ (u : utf8 line ≡ true) where
+      pub line-no-verb : hasVerb mail line ≡ false → Malformed ≡ lineFault mail line
+      unfolding lineFault wellFormed
+      line-no-verb v = rw (le-leb (length line) 998 l, u, v)
+
+      module _ (v : hasVerb mail line ≡ true) where
+        no-path : hasPath mail line ≡ false → Malformed ≡ lineFault mail line
+        unfolding lineFault wellFormed
+        no-path w = rw (le-leb (length line) 998 l, u, v, w)
+
+        pub line-no-path : (n : ℕ) → Stop n ≡ pathAt mail line → Malformed ≡ lineFault mail line
+        unfolding hasPath
+        line-no-path n e = no-path (rw (is-stop n e))
+
+        module _ (n : ℕ) (e : To n ≡ pathAt mail line) where
+          pub line-open : (getD line n 0 ≡ 62 → ⊥) → Malformed ≡ lineFault mail line
+          unfolding hasPath
+          line-open o = no-path (rw (is-to n e, ← path-end-to mail line n e, ne-eqb (getD line n 0) 62 o))
+
+          pub line-tail : {p : List ℕ} {a : Bool} {f : Fault} → getD line n 0 ≡ 62 → p ≡ take (n - verbLen mail) (drop (verbLen mail) line)
+              → a ≡ all isAscii p → f ≡ tailFault a (drop (n + 1) line) → f ≡ lineFault mail line
+          unfolding lineFault wellFormed tailFault hasPath path tail
+          line-tail {p} {a} {f} o d b q =
+              let k = path-end-to mail line n e in
+              let m : n - verbLen mail ≡ pathLen mail line = omega arith in
+              q ∙ rw (le-leb (length line) 998 l, u, v, is-to n e, ← k, eq-eqb (getD line n 0) 62 o, b, d, m)

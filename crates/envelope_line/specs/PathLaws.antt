@@ -1,0 +1,69 @@
+-- Laws of the verb and the path, as code finds them. Assumes nothing.
+use mathlib.Core.Path.{_≡_, refl, ap, sym, _∙_}
+use mathlib.Core.Bool.{Bool, true, false, cond}
+use mathlib.Core.List.{List, [], _∷_}
+use Prim.Native.Nat.{ℕ, _+_, _-_, _≤_, min}
+use native.Mathlib.Nat.{add-zero}
+use native.Mathlib.Omega.{arith}
+use lib.Dec.{eqb}
+use lib.ListN.{length, take, drop, getD}
+use lib.Seq.{getD-drop}
+use borrow.Author.Tests.{eq-eqb, ne-eqb}
+use Rattle.letter_case.specs.LetterCase.{bytes, sameAnyCase}
+use Rattle.buffer.specs.Buffer.{greatest}
+use Rattle.line.specs.LineLaws.{drop-capped}
+use Rattle.address.specs.declared.Scan.{Scan}
+use Rattle.address.specs.declared.Scan.the-variants.{To, Stop}
+use Rattle.address.specs.Address.{later, addressScan}
+use Rattle.envelope_line.specs.EnvelopeLine.{verb, verbLen, hasVerb, pathScan, scanEnd, pathLen, tail}
+
+module _ (mail : Bool) (line : List ℕ) where
+  pub has-verb-mail : {front : List ℕ} {r : Bool} → mail ≡ true → front ≡ take 11 line → r ≡ sameAnyCase (verb true) front → r ≡ hasVerb mail line
+  unfolding hasVerb
+  has-verb-mail m f e = rw (m, ← f) e
+
+  pub has-verb-rcpt : {front : List ℕ} {r : Bool} → mail ≡ false → front ≡ take 9 line → r ≡ sameAnyCase (verb false) front → r ≡ hasVerb mail line
+  unfolding hasVerb
+  has-verb-rcpt m f e = rw (m, ← f) e
+
+  -- the path by place in the line
+  unfoldable pub pathAt : Scan
+  pathAt = later (verbLen mail) (pathScan mail (drop (verbLen mail) line))
+
+  module _ (m : mail ≡ true) where
+    pub path-empty : getD line 11 0 ≡ 62 → To 11 ≡ pathAt
+    unfolding pathAt pathScan later
+    path-empty e = rw (m, getD-drop 11 line 0 0, eq-eqb (getD line 11 0) 62 e)
+
+    pub path-mail : {r : Scan} → (getD line 11 0 ≡ 62 → ⊥) → r ≡ later 11 (addressScan (drop 11 line)) → r ≡ pathAt
+    unfolding pathAt pathScan
+    path-mail n e = rw (m, getD-drop 11 line 0 0, ne-eqb (getD line 11 0) 62 n) e
+
+  module _ (m : mail ≡ false) {word : List ℕ} (w : word ≡ take 11 (drop 9 line)) where
+    pub path-postmaster : sameAnyCase (bytes "Postmaster>") word ≡ true → To 19 ≡ pathAt
+    unfolding pathAt pathScan later
+    path-postmaster e = rw (m, ← w, e)
+
+    pub path-rcpt : {r : Scan} → sameAnyCase (bytes "Postmaster>") word ≡ false → r ≡ later 9 (addressScan (drop 9 line)) → r ≡ pathAt
+    unfolding pathAt pathScan
+    path-rcpt n e = rw (m, ← w, n) e
+
+  pub path-end-to : (n : ℕ) → To n ≡ pathAt → n ≡ verbLen mail + pathLen mail line
+  unfolding pathAt pathLen later
+  path-end-to n e = go (pathScan mail (drop (verbLen mail) line)) e
+    where
+      go : (x : Scan) → To n ≡ later (verbLen mail) x → n ≡ verbLen mail + scanEnd x
+      go (To k) e = cc
+      go (Stop k) e = absurd (let z : _≡_ {A = ℕ} 0 1 = cc in omega arith)
+
+  pub path-end-stop : (n : ℕ) → Stop n ≡ pathAt → n ≡ verbLen mail + pathLen mail line
+  unfolding pathAt pathLen later
+  path-end-stop n e = go (pathScan mail (drop (verbLen mail) line)) e
+    where
+      go : (x : Scan) → Stop n ≡ later (verbLen mail) x → n ≡ verbLen mail + scanEnd x
+      go (Stop k) e = cc
+      go (To k) e = absurd (let z : _≡_ {A = ℕ} 0 1 = cc in omega arith)
+
+  pub tail-from : (n r : ℕ) → n ≡ verbLen mail + pathLen mail line → r ≡ min (n + 1) greatest → length line ≤ greatest → drop r line ≡ tail mail line
+  unfolding tail
+  tail-from n r e k h = drop-capped line (n + 1) r k h ∙ rw e

@@ -1,0 +1,84 @@
+// The fault of a line.
+ghost use mathlib.Core.Path.{_≡_};
+ghost use lib.ListN.{drop};
+ghost use Rattle.envelope_line.specs.EnvelopeLine.{lineFault};
+ghost use Rattle.envelope_line.specs.FaultLaws.{onlyAltFault, tailFault};
+use crate::Fault;
+use crate::parameter::alt_place;
+use crate::parameter::are_params;
+use crate::parameter::is_spaced;
+use crate::parameter::keyword_len;
+use crate::parameter::param_end;
+use crate::parameter::value_start;
+use crate::path::has_verb;
+use crate::path::path;
+use crate::path::path_start;
+use address::Scan;
+use line::part;
+
+// The fault of a line whose parameters are well-formed and of which p is the only ALT-ADDRESS.
+fn only_alt_fault(p: &[u8], ascii: bool) -> Fault
+    ensures { λ r. ⌜ r ≡ onlyAltFault ascii (now (p .entry)) ⌝ }
+{
+    if p.len() <= keyword_len(p) {
+        return Fault::Malformed;
+    }
+    if ascii {
+        return Fault::BadAlternative;
+    }
+    if address::xtext::is_alt_address(part(p, value_start(p), p.len())) {
+        return Fault::Fine;
+    }
+    Fault::BadAlternative
+}
+
+// The fault of a line whose verb and path are well-formed, by what follows the path's `>` from a place on.
+fn tail_fault(line: &[u8], at: usize, ascii: bool) -> Fault
+    ensures { λ r. ⌜ r ≡ tailFault ascii (drop at (now (line .entry))) ⌝ }
+{
+    if !is_spaced(line, at) {
+        return Fault::Malformed;
+    }
+    if !are_params(line, at) {
+        return Fault::Malformed;
+    }
+    let place = alt_place(line, at);
+    if line.len() <= place {
+        if ascii {
+            return Fault::Fine;
+        }
+        return Fault::NoAlternative;
+    }
+    let start = place + 1;
+    let end = param_end(line, start);
+    if alt_place(line, end) < line.len() {
+        return Fault::Malformed;
+    }
+    only_alt_fault(part(line, start, end), ascii)
+}
+
+// The fault of a line.
+pub fn line_fault(line: &[u8], mail: bool) -> Fault
+    ensures { λ r. ⌜ r ≡ lineFault mail (now (line .entry)) ⌝ }
+{
+    if 998 < line.len() {
+        return Fault::Malformed;
+    }
+    if !utf8::is_utf8(line) {
+        return Fault::Malformed;
+    }
+    if !has_verb(line, mail) {
+        return Fault::Malformed;
+    }
+    let Scan::To(end) = path(line, mail) else {
+        return Fault::Malformed;
+    };
+    if line::byte_at(line, end) != b'>' {
+        return Fault::Malformed;
+    }
+    tail_fault(
+        line,
+        end + 1,
+        address::is_ascii(part(line, path_start(mail), end)),
+    )
+}

@@ -1,0 +1,2 @@
+pub mod LetterCase
+pub mod LetterCaseLaws

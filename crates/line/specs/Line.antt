@@ -1,0 +1,15 @@
+-- Lines, each up to its CRLF. Assumes nothing.
+use mathlib.Core.Bool.{Bool, cond, _&&_}
+use mathlib.Core.List.{List, [], _∷_}
+use Prim.Native.Nat.{ℕ, suc}
+use lib.Dec.{eqb}
+use lib.ListN.{getD}
+
+-- CRLF stands at the front
+unfoldable pub crlf : List ℕ → Bool
+crlf h = eqb (getD h 0 0) 13 && eqb (getD h 1 0) 10
+
+-- how many bytes stand before the first CRLF; all bytes where there is none
+unfoldable pub lineLen : List ℕ → ℕ
+lineLen [] = 0
+lineLen (b ∷ rest) = cond (crlf (b ∷ rest)) 0 (suc (lineLen rest))
