@@ -6,13 +6,18 @@ use Prim.Native.Nat.{ℕ, zero, suc, _+_, _-_, _≤_, _<_, min}
 use native.Mathlib.Numerals.{add-one}
 use native.Mathlib.Omega.{arith}
 use lib.ListN.{length, take, drop, getD, length-append}
-use Rattle.utf8.specs.Lists.{joined, joined-append}
-use Rattle.buffer.specs.Buffer.{AppendedCapped, greatest}
-use Rattle.buffer.specs.BufferLaws.{capped-none, capped-then}
+use lib.Seq.{take-suc}
+use Rattle.utf8.specs.Lists.{joined, joined-append, by-test, yes-true, no-false}
+use Rattle.buffer.specs.Buffer.{overlay, AppendedCapped, greatest}
+use Rattle.buffer.specs.BufferLaws.{length-overlay, overlay-front, capped-none, capped-then}
 use Rattle.line.specs.Line.{lineLen}
 use Rattle.envelope_line.specs.EnvelopeLine.{writtenLine, replacement}
 use Rattle.envelope_line.specs.WriteLaws.{capped-same}
-use Rattle.envelope.specs.Envelope.{lineAt, writtenAt, writtenBy, entries, mailReplacement, replacementBy}
+use Rattle.envelope_line.specs.declared.Fault.{Fault}
+use Rattle.envelope.specs.declared.Checked.{Checked}
+use Rattle.envelope.specs.declared.Checked.the-variants.{Passed, Refused}
+use Rattle.envelope.specs.Envelope.{frontFault, rcptFault, rcptsFrom, checked, isFine, startsFrom, rcptStarts, lineAt, writtenAt, writtenBy, written, entries, mailReplacement, replacementBy, rcptReplacement}
+use Rattle.envelope.specs.CheckLaws.{EnvelopeChecked, fine-next, fault-next, fine-few}
 
 -- the line as code lends it
 pub line-part : (s : List ℕ) (at end : ℕ) {l : List ℕ} → end ≡ at + lineLen (drop at s) → l ≡ take (end - at) (drop at s) → l ≡ lineAt at s
@@ -75,3 +80,81 @@ module _ (e array : List ℕ) (count : ℕ) where
 pub replaced-mail : (e : List ℕ) {l : List ℕ} → l ≡ lineAt 0 e → replacement true l ≡ mailReplacement e
 unfolding mailReplacement
 replaced-mail e f = rw f
+
+-- ---- the starts that the check stored
+
+pub starts-counted : (k n at m : ℕ) (s : List ℕ) → rcptsFrom k n s ≡ Passed m → n + length (startsFrom k n at s) ≡ m
+unfolding rcptsFrom startsFrom
+starts-counted k zero at m [] e = absurd (let z : _≡_ {A = ℕ} 0 1 = cc in omega arith)
+starts-counted k (suc n) at m [] e = let q : suc n ≡ m = cc in omega arith
+starts-counted (suc k) n at m (b ∷ s) e = starts-counted k n (suc at) m s e
+starts-counted zero n at m (b ∷ s) e =
+    let f = rcptFault n (b ∷ s) in
+    let next = rcptsFrom (suc (lineLen (b ∷ s))) (suc n) s in
+    by-test (isFine f)
+    (λ t. let g = yes-true (isFine f) t in
+    let k = starts-counted (suc (lineLen (b ∷ s))) (suc n) (suc at) m s (sym (fine-next f (suc n) next g) ∙ e) in
+    rw g (omega arith))
+    (λ t. let g = fault-next f (suc n) next (no-false (isFine f) t) in
+    absurd (let z : _≡_ {A = ℕ} 0 1 = cc in omega arith))
+
+pub few-counted : (k n m : ℕ) (s : List ℕ) → n ≤ 100 → rcptsFrom k n s ≡ Passed m → m ≤ 100
+unfolding rcptsFrom
+few-counted k zero m [] h e = absurd (let z : _≡_ {A = ℕ} 0 1 = cc in omega arith)
+few-counted k (suc n) m [] h e = let q : suc n ≡ m = cc in omega arith
+few-counted (suc k) n m (b ∷ s) h e = few-counted k n m s h e
+few-counted zero n m (b ∷ s) h e =
+    let f = rcptFault n (b ∷ s) in
+    let next = rcptsFrom (suc (lineLen (b ∷ s))) (suc n) s in
+    by-test (isFine f)
+    (λ t. let g = yes-true (isFine f) t in
+    let l = fine-few n (b ∷ s) g in
+    few-counted (suc (lineLen (b ∷ s))) (suc n) m s (omega arith) (sym (fine-next f (suc n) next g) ∙ e))
+    (λ t. let g = fault-next f (suc n) next (no-false (isFine f) t) in
+    absurd (let z : _≡_ {A = ℕ} 0 1 = cc in omega arith))
+
+module _ (e : List ℕ) (m : ℕ) (p : checked e ≡ Passed m) where
+  pub mail-fine : isFine (frontFault true e) ≡ true
+  unfolding checked
+  mail-fine =
+      let f = frontFault true e in
+      let next = rcptsFrom 0 0 (drop (lineLen e + 2) e) in
+      by-test (isFine f) (λ t. yes-true (isFine f) t)
+      (λ t. let g = fault-next f 0 next (no-false (isFine f) t) in
+      absurd (let z : _≡_ {A = ℕ} 0 1 = cc in omega arith))
+
+  pub rcpts-fine : rcptsFrom 0 0 (drop (lineLen e + 2) e) ≡ Passed m
+  unfolding checked
+  rcpts-fine = sym (fine-next (frontFault true e) 0 (rcptsFrom 0 0 (drop (lineLen e + 2) e)) mail-fine) ∙ p
+
+  -- as many starts as RCPT lines, at most 100
+  pub length-starts : length (rcptStarts e) ≡ m
+  unfolding rcptStarts
+  length-starts = rw mail-fine (omega (arith, starts-counted 0 0 (lineLen e + 2) m (drop (lineLen e + 2) e) rcpts-fine))
+
+  pub starts-few : m ≤ 100
+  starts-few = few-counted 0 0 m (drop (lineLen e + 2) e) (omega arith) rcpts-fine
+
+entries-take : (n : ℕ) (array : List ℕ) → n ≤ length array → entries n array ≡ take n array
+unfolding entries
+entries-take zero array h = refl
+entries-take (suc n) array h = rw (entries-take n array (omega arith), take-suc array n 0 (omega arith))
+
+-- what is written by the starts that the check stored in an array of 100 is the envelope written; and so for the header
+module _ {e before after : List ℕ} {m : ℕ} (c : EnvelopeChecked e before after (Passed m)) (h : length before ≡ 100) where
+  pub stored : entries (min m 100) after ≡ rcptStarts e
+  stored =
+      let p : checked e ≡ Passed m = sym (c .answer) in
+      let n = length-starts e m p in
+      let l = starts-few e m p in
+      let q : min m 100 ≡ length (rcptStarts e) = omega arith in
+      let fits : length (rcptStarts e) ≤ length (overlay (rcptStarts e) before) = rw length-overlay (omega arith) in
+      rw (q, c .starts, entries-take (length (rcptStarts e)) (overlay (rcptStarts e) before) fits) (overlay-front (rcptStarts e) before (omega arith))
+
+  pub stored-written : writtenBy (entries (min m 100) after) e ≡ written e
+  unfolding written
+  stored-written = rw stored
+
+  pub stored-replacement : replacementBy (entries (min m 100) after) e ≡ rcptReplacement e
+  unfolding rcptReplacement
+  stored-replacement = rw stored

@@ -3,3 +3,4 @@ pub mod PathLaws
 pub mod ParameterLaws
 pub mod FaultLaws
 pub mod WriteLaws
+pub mod AsciiLaws
