@@ -1,6 +1,6 @@
 use Rattle.envelope_line.specs.FaultLaws.{line-long, line-not-utf8, line-no-verb, line-no-path, line-open, line-tail}
 use Rattle.envelope_line.specs.PathLaws.{pathAt}
-use Rattle.address.specs.AddressLaws.{inside}
+use Rattle.address.specs.AddressLaws.{byte-within}
 use borrow.Author.Tests.{not-true, not-false}
 use native.Mathlib.Omega.{arith}
 use mathlib.Core.Path.{sym, _∙_}
@@ -66,7 +66,7 @@ returns-5 c = line-open _ _ (c .before .before .before .before .before .before .
 
 -- src/faults.rt:72:22
 add-tail-fault : tie.Need-add-tail-fault
-add-tail-fault c = omega (arith, inside (c .before .before .before .before .before .before .before .before .before .before .before .before .args .line .now) (c .before .before .before .end .given .0 .0) 61 (sym (c .before .byte-at .ensures) ∙ c .if4 .left))
+add-tail-fault c = omega (arith, byte-within (c .before .before .before .before .before .before .before .before .before .before .before .before .args .line .now) (c .before .before .before .end .given .0 .0) 61 (sym (c .before .byte-at .ensures) ∙ c .if4 .left))
 
 -- src/faults.rt:72:60
 path-start-requires : tie.Need-path-start-requires
