@@ -1,5 +1,5 @@
 -- Laws of the check: line by line, as code goes through an envelope. Assumes nothing.
-use mathlib.Core.Path.{_≡_, refl, ap, sym, _∙_}
+use mathlib.Core.Path.{_≡_, refl, sym, _∙_}
 use mathlib.Core.Bool.{Bool, true, false, cond, _&&_}
 use mathlib.Core.List.{List, [], _∷_, _++_}
 use Prim.Native.Nat.{ℕ, zero, suc, _+_, _-_, _≤_, _<_}
@@ -14,21 +14,16 @@ use mir.Facts.{and-yes, ltb-yes}
 use Rattle.utf8.specs.Lists.{by-test, true-yes, no-false}
 use Rattle.buffer.specs.Buffer.{overlay, Reached}
 use Rattle.buffer.specs.BufferLaws.{reached-start, reached-then, reached-end, appended-byte, wrote-from}
-use Rattle.line.specs.Line.{crlf, lineLen}
+use Rattle.line.specs.Line.{lineLen}
 use Rattle.line.specs.LineLaws.{crlf-at}
 use Rattle.envelope_line.specs.declared.Fault.{Fault}
 use Rattle.envelope_line.specs.declared.Fault.the-variants.{Fine, Malformed, NoAlternative, BadAlternative}
 use Rattle.envelope_line.specs.EnvelopeLine.{lineFault}
 use Rattle.envelope.specs.declared.Checked.{Checked}
 use Rattle.envelope.specs.declared.Checked.the-variants.{Passed, Refused}
-use Rattle.envelope.specs.Envelope.{frontFault, thenNext, rcptFault, rcptsFrom, checked, isFine, startsFrom, rcptStarts}
+use Rattle.envelope.specs.Envelope.{EnvelopeChecked, frontFault, thenNext, rcptFault, rcptsFrom, checked, isFine, startsFrom, rcptStarts}
 
--- what the check answers, and the array of line starts afterwards
-pub record EnvelopeChecked (e before after : List ℕ) (r : Checked) : Type 0 where
-  pub answer : r ≡ checked e
-  pub starts : after ≡ overlay (rcptStarts e) before
-
--- the same for the RCPT lines from a place on
+-- what the check of the RCPT lines from a place on answers, and the array of line starts afterwards
 pub record RcptsChecked (e : List ℕ) (at : ℕ) (before after : List ℕ) (r : Checked) : Type 0 where
   pub answer : r ≡ rcptsFrom 0 0 (drop at e)
   pub starts : after ≡ overlay (startsFrom 0 0 at (drop at e)) before

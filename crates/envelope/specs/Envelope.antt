@@ -1,10 +1,12 @@
 -- An envelope: which refusal it gets, where its lines start, and what is written for it. Assumes nothing.
+use mathlib.Core.Path.{_≡_}
 use mathlib.Core.Bool.{Bool, true, false, cond}
 use mathlib.Core.List.{List, [], _∷_, _++_, map}
 use Prim.Native.Nat.{ℕ, zero, suc, _+_}
 use lib.Dec.{eqb, ltb}
 use lib.ListN.{take, drop, getD}
 use Rattle.utf8.specs.Lists.{joined}
+use Rattle.buffer.specs.Buffer.{overlay}
 use Rattle.line.specs.Line.{crlf, lineLen}
 use Rattle.envelope_line.specs.declared.Fault.{Fault}
 use Rattle.envelope_line.specs.declared.Fault.the-variants.{Fine, Malformed, NoAlternative, BadAlternative}
@@ -78,6 +80,11 @@ startsFrom zero n at (b ∷ e) =
 
 unfoldable pub rcptStarts : List ℕ → List ℕ
 rcptStarts e = cond (isFine (frontFault true e)) (startsFrom 0 0 (lineLen e + 2) (drop (lineLen e + 2) e)) []
+
+-- What the check answers; and the array afterwards, in which the starts of the RCPT lines are stored from the front.
+pub record EnvelopeChecked (e before after : List ℕ) (r : Checked) : Type 0 where
+  pub answer : r ≡ checked e
+  pub starts : after ≡ overlay (rcptStarts e) before
 
 -- ---- ORCPT
 

@@ -1,5 +1,5 @@
 -- Laws of the search for an ORCPT that carries non-ASCII, line by line. Assumes nothing.
-use mathlib.Core.Path.{_≡_, refl, ap, sym, _∙_}
+use mathlib.Core.Path.{_≡_, refl, _∙_}
 use mathlib.Core.Bool.{Bool, true, false, cond}
 use mathlib.Core.List.{List, [], _∷_}
 use Prim.Native.Nat.{ℕ, zero, suc, _+_, _-_, _≤_, _<_, min}
@@ -12,11 +12,10 @@ use Rattle.buffer.specs.Buffer.{greatest}
 use Rattle.line.specs.Line.{lineLen}
 use Rattle.line.specs.LineLaws.{drop-capped}
 use Rattle.envelope_line.specs.EnvelopeLine.{orcptFault}
-use Rattle.envelope.specs.declared.Orcpt.{Orcpt}
 use Rattle.envelope.specs.declared.Orcpt.the-variants.{Clean, At}
 use Rattle.envelope.specs.Envelope.{orcptFrom}
 
-orcpt-after : (k n : ℕ) (s : List ℕ) → orcptFrom k n s ≡ orcptFrom 0 n (drop k s)
+pub orcpt-after : (k n : ℕ) (s : List ℕ) → orcptFrom k n s ≡ orcptFrom 0 n (drop k s)
 unfolding orcptFrom
 orcpt-after zero n s = refl
 orcpt-after (suc k) n [] = refl

@@ -1,8 +1,8 @@
 -- Laws of what is written: by the line starts that the check stored. Assumes nothing.
 use mathlib.Core.Path.{_≡_, refl, ap, sym, _∙_}
-use mathlib.Core.Bool.{Bool, true, false, cond}
-use mathlib.Core.List.{List, [], _∷_, _++_, append-nil, append-assoc, map}
-use Prim.Native.Nat.{ℕ, zero, suc, _+_, _-_, _≤_, _<_, min}
+use mathlib.Core.Bool.{Bool, true, false}
+use mathlib.Core.List.{List, [], _∷_, _++_, append-nil, map}
+use Prim.Native.Nat.{ℕ, zero, suc, _+_, _-_, _≤_, min}
 use native.Mathlib.Numerals.{add-one}
 use native.Mathlib.Omega.{arith}
 use lib.ListN.{length, take, drop, getD, length-append}
@@ -13,11 +13,9 @@ use Rattle.buffer.specs.BufferLaws.{length-overlay, overlay-front, capped-none,
 use Rattle.line.specs.Line.{lineLen}
 use Rattle.envelope_line.specs.EnvelopeLine.{writtenLine, replacement}
 use Rattle.envelope_line.specs.WriteLaws.{capped-same}
-use Rattle.envelope_line.specs.declared.Fault.{Fault}
-use Rattle.envelope.specs.declared.Checked.{Checked}
-use Rattle.envelope.specs.declared.Checked.the-variants.{Passed, Refused}
-use Rattle.envelope.specs.Envelope.{frontFault, rcptFault, rcptsFrom, checked, isFine, startsFrom, rcptStarts, lineAt, writtenAt, writtenBy, written, entries, mailReplacement, replacementBy, rcptReplacement}
-use Rattle.envelope.specs.CheckLaws.{EnvelopeChecked, fine-next, fault-next, fine-few}
+use Rattle.envelope.specs.declared.Checked.the-variants.{Passed}
+use Rattle.envelope.specs.Envelope.{EnvelopeChecked, frontFault, rcptFault, rcptsFrom, checked, isFine, startsFrom, rcptStarts, lineAt, writtenAt, writtenBy, written, entries, mailReplacement, replacementBy, rcptReplacement}
+use Rattle.envelope.specs.CheckLaws.{fine-next, fault-next, fine-few}
 
 -- the line as code lends it
 pub line-part : (s : List ℕ) (at end : ℕ) {l : List ℕ} → end ≡ at + lineLen (drop at s) → l ≡ take (end - at) (drop at s) → l ≡ lineAt at s
@@ -58,7 +56,7 @@ all-written e array k count v w q h = rw q at (capped-then v w h)
 
 -- ---- for the header
 
-length-entries : (n : ℕ) (array : List ℕ) → length (entries n array) ≡ n
+pub length-entries : (n : ℕ) (array : List ℕ) → length (entries n array) ≡ n
 unfolding entries
 length-entries zero array = refl
 length-entries (suc n) array = rw (length-append, length-entries n array) (omega arith)

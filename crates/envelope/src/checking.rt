@@ -5,8 +5,8 @@ ghost use mathlib.Core.List.{[]};
 ghost use Prim.Native.Nat.{_+_};
 ghost use lib.ListN.{drop};
 ghost use Rattle.line.specs.Line.{lineLen};
-ghost use Rattle.envelope.specs.Envelope.{frontFault, rcptFault, rcptsFrom, isFine};
-ghost use Rattle.envelope.specs.CheckLaws.{RcptsChecked, EnvelopeChecked};
+ghost use Rattle.envelope.specs.Envelope.{EnvelopeChecked, frontFault, rcptFault, rcptsFrom, isFine};
+ghost use Rattle.envelope.specs.CheckLaws.{RcptsChecked};
 use crate::Checked;
 use envelope_line::Fault;
 

@@ -1,25 +1,23 @@
 -- What is written for a line without fault, in which no ORCPT carries non-ASCII, is ASCII. Assumes nothing.
-use mathlib.Core.Path.{_≡_, refl, ap, sym, _∙_}
-use mathlib.Core.Bool.{Bool, true, false, not, cond, _&&_, _||_, and-false, or-false}
+use mathlib.Core.Path.{_≡_, refl}
+use mathlib.Core.Bool.{Bool, true, false, not, cond, _&&_, _||_, and-false}
 use mathlib.Core.List.{List, [], _∷_, _++_}
-use Prim.Native.Nat.{ℕ, zero, suc, _+_, _-_, _≤_, _<_, zero-le, suc-le-suc}
-use native.Mathlib.Nat.{le-of-suc-le-suc, not-suc-le-zero}
+use Prim.Native.Nat.{ℕ, zero, suc, _+_, _≤_, _<_, zero-le, suc-le-suc}
 use native.Mathlib.Numerals.{add-one}
 use native.Mathlib.Omega.{arith}
 use lib.Dec.{T, eqb, leb, ltb, eqb→eq}
 use lib.ListN.{length, take, drop, getD, take-append-drop, drop-of-length-le}
 use lib.Seq.{drop-cons, drop-drop}
-use mir.Facts.{and-yes, yes-and, ltb-yes, yes-ltb, ltb-no, leb-yes, leb-no}
+use mir.Facts.{and-yes, yes-and, ltb-yes, yes-ltb, ltb-no}
 use borrow.Author.Tests.{lt-leb, ne-eqb, eqb-true, not-false}
 use Rattle.utf8.specs.Lists.{by-test, cond-has, yes-true, true-yes, no-false, all, all-append, all-left, all-right, all-weaken, nonempty}
 use Rattle.utf8.specs.Byte.{within, within-high, isAscii}
 use Rattle.utf8.specs.Run.{run, run-all, run-after}
 use Rattle.utf8.specs.Utf8.{utf8}
 use Rattle.letter_case.specs.LetterCase.{bytes, lower, sameAnyCase}
-use Rattle.address.specs.Address.{isHigh, isAddress, isAsciiAddress}
+use Rattle.address.specs.Address.{isAddress, isAsciiAddress}
 use Rattle.address.specs.Xtext.{decoded, isXtext, isAltAddress}
-use Rattle.envelope_line.specs.declared.Fault.{Fault}
-use Rattle.envelope_line.specs.declared.Fault.the-variants.{Fine, Malformed, NoAlternative, BadAlternative}
+use Rattle.envelope_line.specs.declared.Fault.the-variants.{Fine, BadAlternative}
 use Rattle.envelope_line.specs.EnvelopeLine.{verb, verbLen, hasVerb, pathScan, isTo, pathLen, path, hasPath, tail, notSpace, paramsAfter, params, spaced, isKeywordByte, keywordLen, keyword, hasValue, value, isOrcpt, isValueByte, isParam, alts, altsOk, alt, altPlace, wellFormed, altFault, lineFault, orcptClean, orcptFault, newPath, withoutAlt, writtenLine}
 
 module _ (f : ℕ → Bool) (n : ℕ) (s : List ℕ) (h : T (all f s)) where

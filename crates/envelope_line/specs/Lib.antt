@@ -4,3 +4,4 @@ pub mod ParameterLaws
 pub mod FaultLaws
 pub mod WriteLaws
 pub mod AsciiLaws
+pub mod LengthLaws

@@ -1,6 +1,6 @@
 -- Laws of what is written for a line. Assumes nothing.
-use mathlib.Core.Path.{_≡_, refl, ap, sym, _∙_}
-use mathlib.Core.Bool.{Bool, true, false, cond}
+use mathlib.Core.Path.{_≡_, ap, sym, _∙_}
+use mathlib.Core.Bool.{Bool, true, false}
 use mathlib.Core.List.{List, [], _∷_, _++_, append-assoc, append-nil}
 use Prim.Native.Nat.{ℕ, suc, _+_, _-_, _≤_, _<_}
 use native.Mathlib.Omega.{arith}
@@ -9,8 +9,7 @@ use lib.Seq.{take-all, drop-drop}
 use Rattle.utf8.specs.Lists.{all}
 use Rattle.utf8.specs.Byte.{isAscii}
 use Rattle.utf8.specs.Run.{run}
-use Rattle.buffer.specs.Buffer.{Wrote, AppendedCapped, greatest}
-use Rattle.buffer.specs.BufferLaws.{capped-none, capped-then}
+use Rattle.buffer.specs.Buffer.{Wrote, AppendedCapped}
 use Rattle.address.specs.Xtext.{decoded}
 use Rattle.address.specs.XtextLaws.{decoded-end}
 use Rattle.envelope_line.specs.EnvelopeLine.{verbLen, pathLen, path, tail, notSpace, params, keywordLen, value, alt, altPlace, newPath, withoutAlt, writtenLine, replacement}

@@ -8,10 +8,6 @@ use Rattle.line.specs.LineLaws.{line-past, line-next-cr, cr-there, line-
 use Rattle.line.specs.Line.{lineLen}
 use Rattle.line.proofs.line_end.Statement.{statement}
 use Rattle.line.proofs.line_end.Tie as tie
-use Rattle.line.proofs.line_end.Reads as reads
-use Rattle.line.proofs.line_end.Lts as lts
-use Rattle.line.proofs.byte_at.Reads as byte-at-reads
-use Rattle.line.proofs.next_cr.Reads as next-cr-reads
 
 abbrev Inv-loop : tie.InvT-loop
 Inv-loop s at i₀ i = (at + lineLen (drop at s) ≡ i + lineLen (drop i s)) × (i < length s → getD s i 0 ≡ 13)
@@ -19,43 +15,33 @@ Inv-loop s at i₀ i = (at + lineLen (drop at s) ≡ i + lineLen (drop i s)) × 
 abbrev μ-loop : tie.MeasureT-loop
 μ-loop s at i₀ i = length s - i
 
--- src/lib.rt:65:9
 returns : tie.Need-returns Inv-loop μ-loop
 returns c = sym (line-past _ _ (c .if1 .taken))
 
--- src/lib.rt:67:9
 next-cr-requires : tie.Need-next-cr-requires Inv-loop μ-loop
 next-cr-requires c κs = omega arith
 
--- src/lib.rt:68:5
 loop-holds : tie.Need-loop-holds Inv-loop μ-loop
 loop-holds c = (line-next-cr (c .before .before .before .args .s .now) _ _ (c .next-cr .ensures), cr-there (c .before .before .before .args .s .now) _ _ (c .next-cr .ensures))
 
--- src/lib.rt:69:21
 add-after : tie.Need-add-after Inv-loop μ-loop
 add-after c = omega arith
 
--- src/lib.rt:70:12
 byte-at-requires : tie.Need-byte-at-requires Inv-loop μ-loop
 byte-at-requires c κs = search needs
 
--- src/lib.rt:71:13
 returns-2 : tie.Need-returns-2 Inv-loop μ-loop
 returns-2 c = sym (c .before .before .before .loop .inv .0 ∙ line-here _ _ (c .before .before .before .loop .inv .1 (c .before .before .loop-test .taken)) (eq-eqb _ _ (sym (c .before .byte-at .ensures) ∙ c .if2 .taken)))
 
--- src/lib.rt:73:9
 next-cr-requires-2 : tie.Need-next-cr-requires-2 Inv-loop μ-loop
 next-cr-requires-2 c κs = omega arith
 
--- src/lib.rt:68:5
 loop-less : tie.Need-loop-less Inv-loop μ-loop
 loop-less c = omega (arith, c .next-cr2 .ensures)
 
--- src/lib.rt:68:5
 loop-again : tie.Need-loop-again Inv-loop μ-loop
 loop-again c = (c .before .before .before .before .loop .inv .0 ∙ line-lone-cr _ _ (c .before .before .before .loop-test .taken) (ne-eqb _ _ (λ e. c .before .if2 .left (c .before .before .byte-at .ensures ∙ e))) ∙ line-next-cr (c .before .before .before .before .before .before .before .before .args .s .now) _ _ (c .next-cr2 .ensures), cr-there (c .before .before .before .before .before .before .before .before .args .s .now) _ _ (c .next-cr2 .ensures))
 
--- src/lib.rt:61:1
 returns-3 : tie.Need-returns-3 Inv-loop μ-loop
 returns-3 c = sym (c .before .loop .inv .0 ∙ line-past _ _ (c .loop-test .left))
 

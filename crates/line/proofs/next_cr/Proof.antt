@@ -7,9 +7,6 @@ use Rattle.utf8.specs.Run.{run-step, run-stop, run-end}
 use Rattle.line.specs.LineLaws.{notCr, crRun}
 use Rattle.line.proofs.next_cr.Statement.{statement}
 use Rattle.line.proofs.next_cr.Tie as tie
-use Rattle.line.proofs.next_cr.Reads as reads
-use Rattle.line.proofs.next_cr.Lts as lts
-use Rattle.line.proofs.no_cr_blocks.Reads as no-cr-blocks-reads
 
 abbrev Inv-loop : tie.InvT-loop
 Inv-loop s at i₀ i = at + crRun (drop at s) ≡ i + crRun (drop i s)
@@ -17,37 +14,29 @@ Inv-loop s at i₀ i = at + crRun (drop at s) ≡ i + crRun (drop i s)
 abbrev μ-loop : tie.MeasureT-loop
 μ-loop s at i₀ i = length s - i
 
--- src/lib.rt:44:9
 no-cr-blocks-requires : tie.Need-no-cr-blocks-requires Inv-loop μ-loop
 no-cr-blocks-requires c κs = omega arith
 
--- src/lib.rt:45:5
 loop-holds : tie.Need-loop-holds Inv-loop μ-loop
 loop-holds c = c .no-cr-blocks .ensures .1
 
--- src/lib.rt:46:12
 shared-slice-read-if1 : tie.Need-shared-slice-read-if1 Inv-loop μ-loop
 shared-slice-read-if1 c = omega arith
 
--- src/lib.rt:47:13
 returns : tie.Need-returns Inv-loop μ-loop
 unfolding crRun
 returns c = sym (c .before .before .before .loop .inv ∙ run-stop notCr _ _ (c .before .before .loop-test .taken) (rw (eq-eqb _ _ (c .if1 .taken))))
 
--- src/lib.rt:49:9
 add-i : tie.Need-add-i Inv-loop μ-loop
 add-i c = omega arith
 
--- src/lib.rt:45:5
 loop-less : tie.Need-loop-less Inv-loop μ-loop
 loop-less c = omega arith
 
--- src/lib.rt:45:5
 loop-again : tie.Need-loop-again Inv-loop μ-loop
 unfolding crRun
 loop-again c = c .before .before .before .loop .inv ∙ run-step notCr _ _ (c .before .before .loop-test .taken) (rw (ne-eqb _ _ (c .if1 .left)))
 
--- src/lib.rt:40:1
 returns-2 : tie.Need-returns-2 Inv-loop μ-loop
 unfolding crRun
 returns-2 c = sym (c .before .loop .inv ∙ run-end notCr _ _ (c .loop-test .left))

@@ -1,14 +1,10 @@
 use Rattle.envelope.specs.CheckLaws.{none-counted, some-counted}
 use Rattle.envelope.proofs.checking.counted.Statement.{statement}
 use Rattle.envelope.proofs.checking.counted.Tie as tie
-use Rattle.envelope.proofs.checking.counted.Reads as reads
-use Rattle.envelope.proofs.checking.counted.Lts as lts
 
--- src/checking.rt:54:9
 returns : tie.Need-returns
 returns c = none-counted _ (c .if1 .taken)
 
--- src/checking.rt:50:1
 returns-2 : tie.Need-returns-2
 returns-2 c = some-counted _ (c .if1 .left)
 

@@ -4,41 +4,28 @@ use mathlib.Core.Path.{sym, _∙_}
 use borrow.Author.Needs.{needs}
 use Rattle.envelope.proofs.checking.front_fault.Statement.{statement}
 use Rattle.envelope.proofs.checking.front_fault.Tie as tie
-use Rattle.envelope.proofs.checking.front_fault.Reads as reads
-use Rattle.envelope.proofs.checking.front_fault.Lts as lts
-use Rattle.envelope_line.proofs.line_fault.Reads as line-fault-reads
-use Rattle.line.proofs.byte_at.Reads as byte-at-reads
-use Rattle.line.proofs.part.Reads as part-reads
 
--- src/checking.rt:29:8
 byte-at-requires : tie.Need-byte-at-requires
 byte-at-requires c κs = search needs
 
--- src/checking.rt:30:9
 returns : tie.Need-returns
 returns c = front-no-cr _ _ _ (c .before .before .before .pre) _ (λ e. c .if1 .taken (c .before .byte-at .ensures ∙ e))
 
--- src/checking.rt:32:32
 add-byte-at : tie.Need-add-byte-at
 add-byte-at c = omega (arith, front-in (c .before .before .before .args .envelope .now) (c .before .before .before .args .at) (c .before .before .before .args .end) (c .before .before .before .pre) (c .before .before .before .args .mail) (sym (c .before .byte-at .ensures) ∙ c .if1 .left))
 
--- src/checking.rt:32:8
 byte-at-requires-2 : tie.Need-byte-at-requires-2
 byte-at-requires-2 c κs = search needs
 
--- src/checking.rt:33:9
 returns-2 : tie.Need-returns-2
 returns-2 c = front-no-lf _ _ _ (c .before .before .before .before .before .pre) _ (sym (c .before .before .before .byte-at .ensures) ∙ c .before .before .if1 .left) (λ e. c .if2 .taken (c .before .byte-at2 .ensures ∙ e))
 
--- src/checking.rt:35:31
 part-requires : tie.Need-part-requires
 part-requires c κs = search needs
 
--- src/checking.rt:35:5
 line-fault-requires : tie.Need-line-fault-requires
 line-fault-requires c κs = search needs
 
--- src/checking.rt:25:1
 returns-3 : tie.Need-returns-3
 returns-3 c = front-line _ _ _ (c .before .before .before .before .before .before .before .pre) _ (sym (c .before .before .before .before .before .byte-at .ensures) ∙ c .before .before .before .before .if1 .left) (sym (c .before .before .before .byte-at2 .ensures) ∙ c .before .before .if2 .left) (c .before .part .ensures) (c .line-fault .ensures)
 

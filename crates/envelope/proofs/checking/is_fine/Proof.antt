@@ -3,41 +3,31 @@ use mathlib.Core.Path.{sym, ap}
 use borrow.Author.Needs.{needs}
 use Rattle.envelope.proofs.checking.is_fine.Statement.{statement}
 use Rattle.envelope.proofs.checking.is_fine.Tie as tie
-use Rattle.envelope.proofs.checking.is_fine.Reads as reads
-use Rattle.envelope.proofs.checking.is_fine.Lts as lts
 
--- src/checking.rt:17:24
 enum-told : tie.Need-enum-told
 enum-told c = search needs
 
--- src/checking.rt:18:29
 enum-told-2 : tie.Need-enum-told-2
 enum-told-2 c = search needs
 
--- src/checking.rt:19:33
 enum-told-3 : tie.Need-enum-told-3
 enum-told-3 c = search needs
 
--- src/checking.rt:20:34
 enum-told-4 : tie.Need-enum-told-4
 enum-told-4 c = search needs
 
--- src/checking.rt:13:1
 returns : tie.Need-returns
 unfolding isFine
 returns c = ap isFine (sym (c .enum-told .given .1))
 
--- src/checking.rt:13:1
 returns-2 : tie.Need-returns-2
 unfolding isFine
 returns-2 c = ap isFine (sym (c .enum-told2 .given .1))
 
--- src/checking.rt:13:1
 returns-3 : tie.Need-returns-3
 unfolding isFine
 returns-3 c = ap isFine (sym (c .enum-told3 .given .1))
 
--- src/checking.rt:13:1
 returns-4 : tie.Need-returns-4
 unfolding isFine
 returns-4 c = ap isFine (sym (c .enum-told4 .given .1))

@@ -3,19 +3,13 @@ use mathlib.Core.Path.{_∙_}
 use borrow.Author.Needs.{needs}
 use Rattle.envelope.proofs.checking.rcpt_fault.Statement.{statement}
 use Rattle.envelope.proofs.checking.rcpt_fault.Tie as tie
-use Rattle.envelope.proofs.checking.rcpt_fault.Reads as reads
-use Rattle.envelope.proofs.checking.rcpt_fault.Lts as lts
-use Rattle.envelope.proofs.checking.front_fault.Reads as front-fault-reads
 
--- src/checking.rt:44:9
 returns : tie.Need-returns
 returns c = rcpt-many _ _ (c .if1 .taken)
 
--- src/checking.rt:46:5
 front-fault-requires : tie.Need-front-fault-requires
 front-fault-requires c κs = search needs
 
--- src/checking.rt:39:1
 returns-2 : tie.Need-returns-2
 returns-2 c = c .front-fault .ensures ∙ rcpt-front _ _ (c .before .if1 .left)
 

@@ -7,12 +7,6 @@ use Prim.Native.Nat.{_-_, _≤_}
 use lib.ListN.{length, drop}
 use Rattle.envelope.proofs.original.orcpt_line.Statement.{statement}
 use Rattle.envelope.proofs.original.orcpt_line.Tie as tie
-use Rattle.envelope.proofs.original.orcpt_line.Reads as reads
-use Rattle.envelope.proofs.original.orcpt_line.Lts as lts
-use Rattle.buffer.proofs.place_after.Reads as place-after-reads
-use Rattle.envelope_line.proofs.orcpt_fault.Reads as orcpt-fault-reads
-use Rattle.line.proofs.line_end.Reads as line-end-reads
-use Rattle.line.proofs.part.Reads as part-reads
 
 abbrev Inv-loop : tie.InvT-loop
 Inv-loop envelope n₀ i₀ n i = (n ≤ i) × (orcptLine envelope ≡ orcptFrom 0 n (drop i envelope))
@@ -20,44 +14,34 @@ Inv-loop envelope n₀ i₀ n i = (n ≤ i) × (orcptLine envelope ≡ orcptFrom
 abbrev μ-loop : tie.MeasureT-loop
 μ-loop envelope n₀ i₀ n i = length envelope - i
 
--- src/original.rt:12:5
 loop-holds : tie.Need-loop-holds Inv-loop μ-loop
 unfolding orcptLine
 loop-holds c = (omega arith, refl)
 
--- src/original.rt:13:13
 line-end-requires : tie.Need-line-end-requires Inv-loop μ-loop
 line-end-requires c κs = search needs
 
--- src/original.rt:14:39
 part-requires : tie.Need-part-requires Inv-loop μ-loop
 part-requires c κs = search needs
 
--- src/original.rt:14:12
 orcpt-fault-requires : tie.Need-orcpt-fault-requires Inv-loop μ-loop
 orcpt-fault-requires c κs = search needs
 
--- src/original.rt:15:13
 returns : tie.Need-returns Inv-loop μ-loop
 returns c = sym (c .before .before .before .before .before .loop .inv .1 ∙ orcpt-found _ _ _ (c .before .before .before .before .loop-test .taken) _ (c .before .before .before .line-end .ensures) (c .before .before .part .ensures) (c .before .orcpt-fault .ensures) (c .if1 .taken))
 
--- src/original.rt:17:9
 add-n : tie.Need-add-n Inv-loop μ-loop
 add-n c = omega arith
 
--- src/original.rt:18:9
 place-after-requires : tie.Need-place-after-requires Inv-loop μ-loop
 place-after-requires c κs = search needs
 
--- src/original.rt:12:5
 loop-less : tie.Need-loop-less Inv-loop μ-loop
 loop-less c = omega (arith, c .before .before .before .before .line-end .ensures, c .place-after .ensures)
 
--- src/original.rt:12:5
 loop-again : tie.Need-loop-again Inv-loop μ-loop
 loop-again c = (omega (arith, c .before .before .before .before .line-end .ensures, c .place-after .ensures), c .before .before .before .before .before .before .loop .inv .1 ∙ orcpt-next _ _ _ (c .before .before .before .before .before .loop-test .taken) _ (c .before .before .before .before .line-end .ensures) _ (c .before .before .before .part .ensures) (c .before .before .orcpt-fault .ensures) (c .before .if1 .left) (c .place-after .ensures) (omega arith))
 
--- src/original.rt:7:1
 returns-2 : tie.Need-returns-2 Inv-loop μ-loop
 returns-2 c = sym (c .before .loop .inv .1 ∙ orcpt-end _ _ _ (c .loop-test .left))
 

@@ -5,13 +5,8 @@ use Rattle.buffer.specs.Buffer.{AppendedCapped}
 use native.Mathlib.Omega.{arith}
 use borrow.Author.Needs.{needs}
 use Prim.Native.Nat.{_-_, _≤_}
-use lib.ListN.{length, drop}
 use Rattle.envelope.proofs.writing.put.Statement.{statement}
 use Rattle.envelope.proofs.writing.put.Tie as tie
-use Rattle.envelope.proofs.writing.put.Reads as reads
-use Rattle.envelope.proofs.writing.put.Lts as lts
-use Rattle.buffer.proofs.clip.Reads as clip-reads
-use Rattle.envelope.proofs.writing.add_line_at.Reads as add-line-at-reads
 
 abbrev Inv-loop : tie.InvT-loop
 Inv-loop out₀ envelope starts count n next₀ k₀ out next k = (k ≤ n) × AppendedCapped (rcptsWritten envelope starts k) next₀ out₀ out next
@@ -19,47 +14,36 @@ Inv-loop out₀ envelope starts count n next₀ k₀ out next k = (k ≤ n) × A
 abbrev μ-loop : tie.MeasureT-loop
 μ-loop out₀ envelope starts count n next₀ k₀ out next k = n - k
 
--- src/writing.rt:19:9
 clip-requires : tie.Need-clip-requires Inv-loop μ-loop
 clip-requires c κs = search needs
 
--- src/writing.rt:20:9
 add-line-at-requires : tie.Need-add-line-at-requires Inv-loop μ-loop
 add-line-at-requires c κs = search needs
 
--- src/writing.rt:22:5
 loop-holds : tie.Need-loop-holds Inv-loop μ-loop
 loop-holds c = (omega arith, rcpts-none _ _ _ _ (omega arith))
 
--- src/writing.rt:23:18
 mul-at : tie.Need-mul-at Inv-loop μ-loop
 mul-at c = omega (arith, c .before .before .before .before .before .before .clip .ensures)
 
--- src/writing.rt:23:18
 element-copy-out-at : tie.Need-element-copy-out-at Inv-loop μ-loop
 element-copy-out-at c = omega (arith, c .before .before .before .before .before .before .clip .ensures)
 
--- src/writing.rt:24:9
 add-line-at-requires-2 : tie.Need-add-line-at-requires-2 Inv-loop μ-loop
 add-line-at-requires-2 c κs = search needs
 
--- src/writing.rt:25:9
 add-k : tie.Need-add-k Inv-loop μ-loop
 add-k c = omega (arith, c .before .before .before .before .before .before .before .before .before .before .before .clip .ensures)
 
--- src/writing.rt:22:5
 loop-less : tie.Need-loop-less Inv-loop μ-loop
 loop-less c = omega arith
 
--- src/writing.rt:22:5
 loop-again : tie.Need-loop-again Inv-loop μ-loop
 loop-again c = (omega arith, rcpts-next (c .before .before .before .before .before .before .before .before .before .before .before .before .before .before .args .envelope .now) (c .before .before .before .before .before .before .before .before .before .before .before .before .before .before .args .starts .now) (c .before .before .before .before .before .before .loop .k) (c .before .before .before .before .before .before .loop .inv .1) refl (c .before .before .add-line-at2 .ensures) (omega (arith, length-added (c .before .before .before .before .before .before .before .before .before .add-line-at .ensures), c .before .before .before .before .before .before .before .before .before .before .before .before .before .before .good .0 .0)))
 
--- src/writing.rt:16:1
 same-length : tie.Need-same-length Inv-loop μ-loop
 same-length c = length-added (c .before .loop .inv .1) ∙ length-added (c .before .before .before .before .add-line-at .ensures)
 
--- src/writing.rt:16:1
 returns : tie.Need-returns Inv-loop μ-loop
 returns c = all-written (c .before .before .before .before .before .before .before .before .before .args .envelope .now) (c .before .before .before .before .before .before .before .before .before .args .starts .now) (c .before .loop .k) (c .before .before .before .before .before .before .before .before .before .args .count) (c .before .before .before .before .add-line-at .ensures) (c .before .loop .inv .1) (omega (arith, c .before .before .before .before .before .before .clip .ensures)) (omega (arith, c .before .before .before .before .before .before .before .before .before .good .0 .0))
 

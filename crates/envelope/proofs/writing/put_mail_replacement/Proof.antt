@@ -3,29 +3,19 @@ use Rattle.envelope_line.specs.WriteLaws.{capped-same}
 use borrow.Author.Needs.{needs}
 use Rattle.envelope.proofs.writing.put_mail_replacement.Statement.{statement}
 use Rattle.envelope.proofs.writing.put_mail_replacement.Tie as tie
-use Rattle.envelope.proofs.writing.put_mail_replacement.Reads as reads
-use Rattle.envelope.proofs.writing.put_mail_replacement.Lts as lts
-use Rattle.envelope_line.proofs.add_replacement.Reads as add-replacement-reads
-use Rattle.line.proofs.line_end.Reads as line-end-reads
-use Rattle.line.proofs.part.Reads as part-reads
 
--- src/writing.rt:34:9
 line-end-requires : tie.Need-line-end-requires
 line-end-requires c κs = search needs
 
--- src/writing.rt:35:44
 part-requires : tie.Need-part-requires
 part-requires c κs = search needs
 
--- src/writing.rt:35:5
 add-replacement-requires : tie.Need-add-replacement-requires
 add-replacement-requires c κs = search needs
 
--- src/writing.rt:31:1
 same-length : tie.Need-same-length
 same-length c = search needs
 
--- src/writing.rt:31:1
 returns : tie.Need-returns
 returns c = capped-same (replaced-mail _ (line-part _ _ _ (c .before .before .before .before .before .line-end .ensures) (c .before .before .before .part .ensures))) (c .before .before .add-replacement .ensures)
 

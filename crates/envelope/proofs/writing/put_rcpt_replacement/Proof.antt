@@ -5,37 +5,25 @@ use native.Mathlib.Omega.{arith}
 use borrow.Author.Needs.{needs}
 use Rattle.envelope.proofs.writing.put_rcpt_replacement.Statement.{statement}
 use Rattle.envelope.proofs.writing.put_rcpt_replacement.Tie as tie
-use Rattle.envelope.proofs.writing.put_rcpt_replacement.Reads as reads
-use Rattle.envelope.proofs.writing.put_rcpt_replacement.Lts as lts
-use Rattle.envelope_line.proofs.add_replacement.Reads as add-replacement-reads
-use Rattle.line.proofs.line_end.Reads as line-end-reads
-use Rattle.line.proofs.part.Reads as part-reads
 
--- src/writing.rt:43:9
 returns : tie.Need-returns
 returns c = capped-same (replaced-other _ _ _ (c .if1 .taken)) (capped-none _ _ (omega arith))
 
--- src/writing.rt:45:14
 element-copy-out-at : tie.Need-element-copy-out-at
 element-copy-out-at c = search needs
 
--- src/writing.rt:46:9
 line-end-requires : tie.Need-line-end-requires
 line-end-requires c κs = search needs
 
--- src/writing.rt:47:44
 part-requires : tie.Need-part-requires
 part-requires c κs = search needs
 
--- src/writing.rt:47:5
 add-replacement-requires : tie.Need-add-replacement-requires
 add-replacement-requires c κs = search needs
 
--- src/writing.rt:39:1
 same-length : tie.Need-same-length
 same-length c = search needs
 
--- src/writing.rt:39:1
 returns-2 : tie.Need-returns-2
 returns-2 c = capped-same (replaced-one _ _ _ (c .before .before .before .before .before .before .before .if1 .left) (line-part _ _ _ (c .before .before .before .before .before .line-end .ensures) (c .before .before .before .part .ensures))) (c .before .before .add-replacement .ensures)
 

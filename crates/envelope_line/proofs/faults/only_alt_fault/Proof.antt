@@ -4,42 +4,28 @@ use mathlib.Core.Path.{sym, _∙_}
 use borrow.Author.Needs.{needs}
 use Rattle.envelope_line.proofs.faults.only_alt_fault.Statement.{statement}
 use Rattle.envelope_line.proofs.faults.only_alt_fault.Tie as tie
-use Rattle.envelope_line.proofs.faults.only_alt_fault.Reads as reads
-use Rattle.envelope_line.proofs.faults.only_alt_fault.Lts as lts
-use Rattle.address.proofs.xtext.is_alt_address.Reads as is-alt-address-reads
-use Rattle.envelope_line.proofs.parameter.keyword_len.Reads as keyword-len-reads
-use Rattle.envelope_line.proofs.parameter.value_start.Reads as value-start-reads
-use Rattle.line.proofs.part.Reads as part-reads
 
--- src/faults.rt:16:19
 keyword-len-requires : tie.Need-keyword-len-requires
 keyword-len-requires c κs = search needs
 
--- src/faults.rt:17:9
 returns : tie.Need-returns
 returns c = only-bare _ _ (has-none _ _ (c .before .keyword-len .ensures) (c .if1 .taken))
 
--- src/faults.rt:20:9
 returns-2 : tie.Need-returns-2
 returns-2 c = only-beside _ _ (has-value _ _ (c .before .before .keyword-len .ensures) (c .before .if1 .left)) (c .if2 .taken)
 
--- src/faults.rt:22:47
 value-start-requires : tie.Need-value-start-requires
 value-start-requires c κs = search needs
 
--- src/faults.rt:22:39
 part-requires : tie.Need-part-requires
 part-requires c κs = search needs
 
--- src/faults.rt:22:8
 is-alt-address-requires : tie.Need-is-alt-address-requires
 is-alt-address-requires c κs = search needs
 
--- src/faults.rt:23:9
 returns-3 : tie.Need-returns-3
 returns-3 c = only-fine _ _ (has-value _ _ (c .before .before .before .before .before .before .keyword-len .ensures) (c .before .before .before .before .before .if1 .left)) (c .before .before .before .before .if2 .left) (value-part _ _ (c .before .before .part .ensures) (c .before .before .before .value-start .ensures)) (sym (c .before .is-alt-address .ensures) ∙ c .if3 .taken)
 
--- src/faults.rt:13:1
 returns-4 : tie.Need-returns-4
 returns-4 c = only-bad _ _ (has-value _ _ (c .before .before .before .before .before .before .keyword-len .ensures) (c .before .before .before .before .before .if1 .left)) (c .before .before .before .before .if2 .left) (value-part _ _ (c .before .before .part .ensures) (c .before .before .before .value-start .ensures)) (sym (c .before .is-alt-address .ensures) ∙ c .if3 .left)
 

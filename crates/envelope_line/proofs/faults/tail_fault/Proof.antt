@@ -1,74 +1,50 @@
-use Rattle.envelope_line.specs.ParameterLaws.{one-alt, two-alts}
+use Rattle.envelope_line.specs.ParameterLaws.{one-alt, two-alts, no-alts, param-part}
 use Rattle.envelope_line.specs.FaultLaws.{onlyAltFault, tail-unspaced, tail-no-params, tail-plain, tail-high, tail-two-alts, tail-one-alt}
-use Rattle.envelope_line.specs.ParameterLaws.{no-alts, first-alt, param-part}
 use borrow.Author.Tests.{not-true, not-false}
-use mathlib.Core.List.{_∷_}
-use mathlib.Core.Path.{refl, sym, ap, _∙_}
+use mathlib.Core.Path.{sym, ap, _∙_}
 use borrow.Author.Needs.{needs}
 use Rattle.envelope_line.proofs.faults.tail_fault.Statement.{statement}
 use Rattle.envelope_line.proofs.faults.tail_fault.Tie as tie
-use Rattle.envelope_line.proofs.faults.tail_fault.Reads as reads
-use Rattle.envelope_line.proofs.faults.tail_fault.Lts as lts
-use Rattle.envelope_line.proofs.faults.only_alt_fault.Reads as only-alt-fault-reads
-use Rattle.envelope_line.proofs.parameter.alt_place.Reads as alt-place-reads
-use Rattle.envelope_line.proofs.parameter.are_params.Reads as are-params-reads
-use Rattle.envelope_line.proofs.parameter.is_spaced.Reads as is-spaced-reads
-use Rattle.envelope_line.proofs.parameter.param_end.Reads as param-end-reads
-use Rattle.line.proofs.part.Reads as part-reads
 
--- src/faults.rt:32:9
 is-spaced-requires : tie.Need-is-spaced-requires
 is-spaced-requires c κs = search needs
 
--- src/faults.rt:33:9
 returns : tie.Need-returns
 returns c = sym (tail-unspaced _ _ (sym (c .before .is-spaced .ensures) ∙ not-true _ (c .if1 .taken)))
 
--- src/faults.rt:35:9
 are-params-requires : tie.Need-are-params-requires
 are-params-requires c κs = search needs
 
--- src/faults.rt:36:9
 returns-2 : tie.Need-returns-2
 returns-2 c = sym (tail-no-params _ _ (sym (c .before .before .before .is-spaced .ensures) ∙ not-false _ (c .before .before .if1 .left)) (sym (c .before .are-params .ensures) ∙ not-true _ (c .if2 .taken)))
 
--- src/faults.rt:38:9
 alt-place-requires : tie.Need-alt-place-requires
 alt-place-requires c κs = search needs
 
--- src/faults.rt:41:13
 returns-3 : tie.Need-returns-3
 returns-3 c = tail-plain _ _ (sym (c .before .before .before .before .before .before .is-spaced .ensures) ∙ not-false _ (c .before .before .before .before .before .if1 .left)) (sym (c .before .before .before .before .are-params .ensures) ∙ not-false _ (c .before .before .before .if2 .left)) (no-alts (c .before .before .alt-place .ensures) (c .before .if3 .taken)) (c .if4 .taken)
 
--- src/faults.rt:43:9
 returns-4 : tie.Need-returns-4
 returns-4 c = tail-high _ _ (sym (c .before .before .before .before .before .before .is-spaced .ensures) ∙ not-false _ (c .before .before .before .before .before .if1 .left)) (sym (c .before .before .before .before .are-params .ensures) ∙ not-false _ (c .before .before .before .if2 .left)) (no-alts (c .before .before .alt-place .ensures) (c .before .if3 .taken)) (c .if4 .left)
 
--- src/faults.rt:45:17
 add-start : tie.Need-add-start
 add-start c = search needs
 
--- src/faults.rt:46:9
 param-end-requires : tie.Need-param-end-requires
 param-end-requires c κs = search needs
 
--- src/faults.rt:47:8
 alt-place-requires-2 : tie.Need-alt-place-requires-2
 alt-place-requires-2 c κs = search needs
 
--- src/faults.rt:48:9
 returns-5 : tie.Need-returns-5
 returns-5 c = sym (tail-two-alts _ _ (sym (c .before .before .before .before .before .before .before .before .is-spaced .ensures) ∙ not-false _ (c .before .before .before .before .before .before .before .if1 .left)) (sym (c .before .before .before .before .before .before .are-params .ensures) ∙ not-false _ (c .before .before .before .before .before .if2 .left)) (two-alts (c .before .before .before .before .alt-place .ensures) _ (c .before .before .param-end .ensures) (c .before .before .before .if3 .left) (c .before .alt-place2 .ensures) (c .if5 .taken)))
 
--- src/faults.rt:50:20
 part-requires : tie.Need-part-requires
 part-requires c κs = search needs
 
--- src/faults.rt:50:5
 only-alt-fault-requires : tie.Need-only-alt-fault-requires
 only-alt-fault-requires c κs = search needs
 
--- src/faults.rt:29:1
 returns-6 : tie.Need-returns-6
 returns-6 c = c .only-alt-fault .ensures ∙ ap (onlyAltFault _) (c .before .part .ensures ∙ param-part _ _ _ (c .before .before .before .before .param-end .ensures)) ∙ sym (tail-one-alt _ _ (sym (c .before .before .before .before .before .before .before .before .before .before .is-spaced .ensures) ∙ not-false _ (c .before .before .before .before .before .before .before .before .before .if1 .left)) (sym (c .before .before .before .before .before .before .before .before .are-params .ensures) ∙ not-false _ (c .before .before .before .before .before .before .before .if2 .left)) (one-alt (c .before .before .before .before .before .before .alt-place .ensures) _ (c .before .before .before .before .param-end .ensures) (c .before .before .before .before .before .if3 .left) (c .before .before .before .alt-place2 .ensures) (c .before .before .if5 .left)))
 

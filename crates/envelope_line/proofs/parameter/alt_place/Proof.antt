@@ -1,17 +1,12 @@
 use native.Mathlib.Omega.{arith}
 use Prim.Native.Nat.{_-_}
-use mathlib.Core.Path.{_≡_, refl, sym, ap, _∙_}
+use mathlib.Core.Path.{refl, sym, ap, _∙_}
 use lib.ListN.{length}
 use borrow.Author.Needs.{needs}
 use Rattle.envelope_line.specs.ParameterLaws.{param-part, AltSought, sought-step, sought-here, sought-end}
 use Rattle.envelope_line.specs.EnvelopeLine.{isAlt}
 use Rattle.envelope_line.proofs.parameter.alt_place.Statement.{statement}
 use Rattle.envelope_line.proofs.parameter.alt_place.Tie as tie
-use Rattle.envelope_line.proofs.parameter.alt_place.Reads as reads
-use Rattle.envelope_line.proofs.parameter.alt_place.Lts as lts
-use Rattle.envelope_line.proofs.parameter.is_alt.Reads as is-alt-reads
-use Rattle.envelope_line.proofs.parameter.param_end.Reads as param-end-reads
-use Rattle.line.proofs.part.Reads as part-reads
 
 abbrev Inv-loop : tie.InvT-loop
 Inv-loop line at i₀ i = AltSought line at i
@@ -19,39 +14,30 @@ Inv-loop line at i₀ i = AltSought line at i
 abbrev μ-loop : tie.MeasureT-loop
 μ-loop line at i₀ i = length line - i
 
--- src/parameter.rt:169:5
 loop-holds : tie.Need-loop-holds Inv-loop μ-loop
 loop-holds c = record { place = refl; same = refl }
 
--- src/parameter.rt:170:21
 add-start : tie.Need-add-start Inv-loop μ-loop
 add-start c = omega arith
 
--- src/parameter.rt:171:13
 param-end-requires : tie.Need-param-end-requires Inv-loop μ-loop
 param-end-requires c κs = search needs
 
--- src/parameter.rt:172:19
 part-requires : tie.Need-part-requires Inv-loop μ-loop
 part-requires c κs = search needs
 
--- src/parameter.rt:172:12
 is-alt-requires : tie.Need-is-alt-requires Inv-loop μ-loop
 is-alt-requires c κs = search needs
 
--- src/parameter.rt:173:13
 returns : tie.Need-returns Inv-loop μ-loop
 returns c = sought-here (c .before .before .before .before .before .loop .inv) (c .before .before .before .before .loop-test .taken) (ap isAlt (sym (c .before .before .part .ensures ∙ param-part _ _ _ (c .before .before .before .param-end .ensures))) ∙ sym (c .before .is-alt .ensures) ∙ c .if1 .taken)
 
--- src/parameter.rt:169:5
 loop-less : tie.Need-loop-less Inv-loop μ-loop
 loop-less c = omega (arith, c .before .before .before .param-end .ensures)
 
--- src/parameter.rt:169:5
 loop-again : tie.Need-loop-again Inv-loop μ-loop
 loop-again c = sought-step _ (c .before .before .before .before .before .loop .inv) (c .before .before .before .param-end .ensures) (c .before .before .before .before .loop-test .taken) (ap isAlt (sym (c .before .before .part .ensures ∙ param-part _ _ _ (c .before .before .before .param-end .ensures))) ∙ sym (c .before .is-alt .ensures) ∙ c .if1 .left)
 
--- src/parameter.rt:165:1
 returns-2 : tie.Need-returns-2 Inv-loop μ-loop
 returns-2 c = sought-end (c .before .loop .inv) (c .loop-test .left)
 

@@ -3,62 +3,43 @@ use native.Mathlib.Omega.{arith}
 use borrow.Author.Needs.{needs}
 use Rattle.envelope_line.proofs.parameter.is_param.Statement.{statement}
 use Rattle.envelope_line.proofs.parameter.is_param.Tie as tie
-use Rattle.envelope_line.proofs.parameter.is_param.Reads as reads
-use Rattle.envelope_line.proofs.parameter.is_param.Lts as lts
-use Rattle.envelope_line.proofs.parameter.is_orcpt.Reads as is-orcpt-reads
-use Rattle.envelope_line.proofs.parameter.is_value.Reads as is-value-reads
-use Rattle.envelope_line.proofs.parameter.keyword_len.Reads as keyword-len-reads
-use Rattle.line.proofs.part.Reads as part-reads
 
--- src/parameter.rt:80:9
 keyword-len-requires : tie.Need-keyword-len-requires
 keyword-len-requires c κs = search needs
 
--- src/parameter.rt:82:9
 returns : tie.Need-returns
 returns c = param-empty _ _ (c .before .keyword-len .ensures) (c .if1 .taken)
 
--- src/parameter.rt:84:8
 shared-slice-read-if2 : tie.Need-shared-slice-read-if2
 shared-slice-read-if2 c = omega (arith, keyword-le (c .before .before .before .before .args .p .now) _ (c .before .before .keyword-len .ensures))
 
--- src/parameter.rt:85:9
 returns-2 : tie.Need-returns-2
 returns-2 c = param-hyphen _ _ (c .before .before .before .keyword-len .ensures) (c .before .before .if1 .left) (c .if2 .taken)
 
--- src/parameter.rt:88:9
 returns-3 : tie.Need-returns-3
 returns-3 c = param-bare _ _ (c .before .before .before .before .keyword-len .ensures) (c .before .before .before .if1 .left) (c .before .if2 .left) (c .if3 .taken)
 
--- src/parameter.rt:90:8
 shared-slice-read-if4 : tie.Need-shared-slice-read-if4
 shared-slice-read-if4 c = search needs
 
--- src/parameter.rt:91:9
 returns-4 : tie.Need-returns-4
 returns-4 c = param-unequal _ _ (c .before .before .before .before .before .before .keyword-len .ensures) (c .before .before .before .before .before .if1 .left) (c .before .before .before .if2 .left) (c .before .before .if3 .left) (c .if4 .taken)
 
--- src/parameter.rt:93:17
 add-start : tie.Need-add-start
 add-start c = search needs
 
--- src/parameter.rt:95:9
 returns-5 : tie.Need-returns-5
 returns-5 c = param-no-value _ _ (c .before .before .before .before .before .before .before .keyword-len .ensures) (c .before .before .before .before .before .before .if1 .left) (c .before .before .before .before .if2 .left) (c .before .before .before .if3 .left) (c .before .if4 .left) (c .if5 .taken)
 
--- src/parameter.rt:97:14
 part-requires : tie.Need-part-requires
 part-requires c κs = search needs
 
--- src/parameter.rt:97:39
 is-orcpt-requires : tie.Need-is-orcpt-requires
 is-orcpt-requires c κs = search needs
 
--- src/parameter.rt:97:5
 is-value-requires : tie.Need-is-value-requires
 is-value-requires c κs = search needs
 
--- src/parameter.rt:77:1
 returns-6 : tie.Need-returns-6
 returns-6 c = param-value _ _ (c .before .before .before .before .before .before .before .before .before .before .keyword-len .ensures) (c .before .before .before .before .before .before .before .before .before .if1 .left) (c .before .before .before .before .before .before .before .if2 .left) (c .before .before .before .before .before .before .if3 .left) (c .before .before .before .before .if4 .left) (c .before .before .before .if5 .left) (c .before .before .part .ensures) (c .before .is-orcpt .ensures) (c .is-value .ensures)
 

@@ -2,18 +2,13 @@ use Rattle.envelope_line.specs.ParameterLaws.{spaced-at, spaced-end}
 use borrow.Author.Needs.{needs}
 use Rattle.envelope_line.proofs.parameter.is_spaced.Statement.{statement}
 use Rattle.envelope_line.proofs.parameter.is_spaced.Tie as tie
-use Rattle.envelope_line.proofs.parameter.is_spaced.Reads as reads
-use Rattle.envelope_line.proofs.parameter.is_spaced.Lts as lts
 
--- src/parameter.rt:128:26
 shared-slice-read-result : tie.Need-shared-slice-read-result
 shared-slice-read-result c = search needs
 
--- src/parameter.rt:125:1
 returns : tie.Need-returns
 returns c = spaced-at _ _ (c .before .if1 .taken)
 
--- src/parameter.rt:125:1
 returns-2 : tie.Need-returns-2
 returns-2 c = spaced-end _ _ (c .if1 .left)
 

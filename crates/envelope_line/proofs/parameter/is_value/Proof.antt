@@ -1,5 +1,5 @@
 use native.Mathlib.Omega.{arith}
-use Prim.Native.Nat.{_+_, _-_}
+use Prim.Native.Nat.{_-_}
 use mathlib.Core.Path.{_≡_, refl, sym, _∙_}
 use lib.ListN.{length, drop}
 use borrow.Author.Needs.{needs}
@@ -9,9 +9,6 @@ use Rattle.envelope_line.specs.ParameterLaws.{bytes-step, bytes-stop, by
 use Rattle.envelope_line.specs.EnvelopeLine.{isValueByte}
 use Rattle.envelope_line.proofs.parameter.is_value.Statement.{statement}
 use Rattle.envelope_line.proofs.parameter.is_value.Tie as tie
-use Rattle.envelope_line.proofs.parameter.is_value.Reads as reads
-use Rattle.envelope_line.proofs.parameter.is_value.Lts as lts
-use Rattle.envelope_line.proofs.parameter.is_value_byte.Reads as is-value-byte-reads
 
 abbrev Inv-loop : tie.InvT-loop
 Inv-loop v orcpt i₀ i = all (isValueByte orcpt) v ≡ all (isValueByte orcpt) (drop i v)
@@ -19,35 +16,27 @@ Inv-loop v orcpt i₀ i = all (isValueByte orcpt) v ≡ all (isValueByte orcpt) 
 abbrev μ-loop : tie.MeasureT-loop
 μ-loop v orcpt i₀ i = length v - i
 
--- src/parameter.rt:67:5
 loop-holds : tie.Need-loop-holds Inv-loop μ-loop
 loop-holds c = refl
 
--- src/parameter.rt:68:27
 shared-slice-read-is-value-byte : tie.Need-shared-slice-read-is-value-byte Inv-loop μ-loop
 shared-slice-read-is-value-byte c = omega arith
 
--- src/parameter.rt:68:13
 is-value-byte-requires : tie.Need-is-value-byte-requires Inv-loop μ-loop
 is-value-byte-requires c κs = search needs
 
--- src/parameter.rt:69:13
 returns : tie.Need-returns Inv-loop μ-loop
 returns c = sym (c .before .before .before .before .loop .inv ∙ bytes-stop (isValueByte _) _ _ (c .before .before .before .loop-test .taken) (sym (c .before .is-value-byte .ensures) ∙ not-true _ (c .if1 .taken)))
 
--- src/parameter.rt:71:9
 add-i : tie.Need-add-i Inv-loop μ-loop
 add-i c = omega arith
 
--- src/parameter.rt:67:5
 loop-less : tie.Need-loop-less Inv-loop μ-loop
 loop-less c = omega arith
 
--- src/parameter.rt:67:5
 loop-again : tie.Need-loop-again Inv-loop μ-loop
 loop-again c = c .before .before .before .before .loop .inv ∙ bytes-step (isValueByte _) _ _ (c .before .before .before .loop-test .taken) (sym (c .before .is-value-byte .ensures) ∙ not-false _ (c .if1 .left))
 
--- src/parameter.rt:63:1
 returns-2 : tie.Need-returns-2 Inv-loop μ-loop
 returns-2 c = sym (c .before .loop .inv ∙ bytes-end (isValueByte _) _ _ (c .loop-test .left))
 

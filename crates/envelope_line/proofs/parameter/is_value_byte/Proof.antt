@@ -2,10 +2,7 @@ use Rattle.envelope_line.specs.EnvelopeLine.{isValueByte}
 use mathlib.Core.Path.{refl}
 use Rattle.envelope_line.proofs.parameter.is_value_byte.Statement.{statement}
 use Rattle.envelope_line.proofs.parameter.is_value_byte.Tie as tie
-use Rattle.envelope_line.proofs.parameter.is_value_byte.Reads as reads
-use Rattle.envelope_line.proofs.parameter.is_value_byte.Lts as lts
 
--- src/parameter.rt:56:1
 returns : tie.Need-returns
 unfolding isValueByte
 returns c = refl

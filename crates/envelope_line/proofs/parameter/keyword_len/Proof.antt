@@ -8,9 +8,6 @@ use Rattle.utf8.specs.Run.{run, run-step, run-stop, run-end}
 use Rattle.envelope_line.specs.EnvelopeLine.{isKeywordByte, keywordLen}
 use Rattle.envelope_line.proofs.parameter.keyword_len.Statement.{statement}
 use Rattle.envelope_line.proofs.parameter.keyword_len.Tie as tie
-use Rattle.envelope_line.proofs.parameter.keyword_len.Reads as reads
-use Rattle.envelope_line.proofs.parameter.keyword_len.Lts as lts
-use Rattle.envelope_line.proofs.parameter.is_keyword_byte.Reads as is-keyword-byte-reads
 
 abbrev Inv-loop : tie.InvT-loop
 Inv-loop p i₀ i = keywordLen p ≡ i + run isKeywordByte (drop i p)
@@ -18,36 +15,28 @@ Inv-loop p i₀ i = keywordLen p ≡ i + run isKeywordByte (drop i p)
 abbrev μ-loop : tie.MeasureT-loop
 μ-loop p i₀ i = length p - i
 
--- src/parameter.rt:25:5
 loop-holds : tie.Need-loop-holds Inv-loop μ-loop
 unfolding keywordLen
 loop-holds c = omega arith
 
--- src/parameter.rt:26:29
 shared-slice-read-is-keyword-byte : tie.Need-shared-slice-read-is-keyword-byte Inv-loop μ-loop
 shared-slice-read-is-keyword-byte c = omega arith
 
--- src/parameter.rt:26:13
 is-keyword-byte-requires : tie.Need-is-keyword-byte-requires Inv-loop μ-loop
 is-keyword-byte-requires c κs = search needs
 
--- src/parameter.rt:27:13
 returns : tie.Need-returns Inv-loop μ-loop
 returns c = sym (c .before .before .before .before .loop .inv ∙ run-stop isKeywordByte _ _ (c .before .before .before .loop-test .taken) (sym (c .before .is-keyword-byte .ensures) ∙ not-true _ (c .if1 .taken)))
 
--- src/parameter.rt:29:9
 add-i : tie.Need-add-i Inv-loop μ-loop
 add-i c = omega arith
 
--- src/parameter.rt:25:5
 loop-less : tie.Need-loop-less Inv-loop μ-loop
 loop-less c = omega arith
 
--- src/parameter.rt:25:5
 loop-again : tie.Need-loop-again Inv-loop μ-loop
 loop-again c = c .before .before .before .before .loop .inv ∙ run-step isKeywordByte _ _ (c .before .before .before .loop-test .taken) (sym (c .before .is-keyword-byte .ensures) ∙ not-false _ (c .if1 .left))
 
--- src/parameter.rt:21:1
 returns-2 : tie.Need-returns-2 Inv-loop μ-loop
 returns-2 c = sym (c .before .loop .inv ∙ run-end isKeywordByte _ _ (c .loop-test .left))
 

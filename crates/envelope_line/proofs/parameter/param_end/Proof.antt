@@ -7,8 +7,6 @@ use Rattle.utf8.specs.Run.{run, run-step, run-stop, run-end}
 use Rattle.envelope_line.specs.EnvelopeLine.{notSpace}
 use Rattle.envelope_line.proofs.parameter.param_end.Statement.{statement}
 use Rattle.envelope_line.proofs.parameter.param_end.Tie as tie
-use Rattle.envelope_line.proofs.parameter.param_end.Reads as reads
-use Rattle.envelope_line.proofs.parameter.param_end.Lts as lts
 
 abbrev Inv-loop : tie.InvT-loop
 Inv-loop line at i₀ i = at + run notSpace (drop at line) ≡ i + run notSpace (drop i line)
@@ -16,31 +14,24 @@ Inv-loop line at i₀ i = at + run notSpace (drop at line) ≡ i + run notSpace 
 abbrev μ-loop : tie.MeasureT-loop
 μ-loop line at i₀ i = length line - i
 
--- src/parameter.rt:115:5
 loop-holds : tie.Need-loop-holds Inv-loop μ-loop
 loop-holds c = refl
 
--- src/parameter.rt:116:12
 shared-slice-read-if1 : tie.Need-shared-slice-read-if1 Inv-loop μ-loop
 shared-slice-read-if1 c = omega arith
 
--- src/parameter.rt:117:13
 returns : tie.Need-returns Inv-loop μ-loop
 returns c = sym (c .before .before .before .loop .inv ∙ run-stop notSpace _ _ (c .before .before .loop-test .taken) (rw (eq-eqb _ _ (c .if1 .taken))))
 
--- src/parameter.rt:119:9
 add-i : tie.Need-add-i Inv-loop μ-loop
 add-i c = omega arith
 
--- src/parameter.rt:115:5
 loop-less : tie.Need-loop-less Inv-loop μ-loop
 loop-less c = omega arith
 
--- src/parameter.rt:115:5
 loop-again : tie.Need-loop-again Inv-loop μ-loop
 loop-again c = c .before .before .before .loop .inv ∙ run-step notSpace _ _ (c .before .before .loop-test .taken) (rw (ne-eqb _ _ (c .if1 .left)))
 
--- src/parameter.rt:111:1
 returns-2 : tie.Need-returns-2 Inv-loop μ-loop
 returns-2 c = sym (c .before .loop .inv ∙ run-end notSpace _ _ (c .loop-test .left))
 

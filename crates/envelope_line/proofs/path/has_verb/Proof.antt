@@ -4,41 +4,29 @@ use Rattle.envelope_line.specs.EnvelopeLine.{verb}
 use borrow.Author.Needs.{needs}
 use Rattle.envelope_line.proofs.path.has_verb.Statement.{statement}
 use Rattle.envelope_line.proofs.path.has_verb.Tie as tie
-use Rattle.envelope_line.proofs.path.has_verb.Reads as reads
-use Rattle.envelope_line.proofs.path.has_verb.Lts as lts
-use Rattle.letter_case.proofs.same_any_case.Reads as same-any-case-reads
-use Rattle.line.proofs.part.Reads as part-reads
 
--- src/path.rt:23:30
 slice-aggregate-same-any-case : tie.Need-slice-aggregate-same-any-case
 slice-aggregate-same-any-case c = search needs
 
--- src/path.rt:23:46
 part-requires : tie.Need-part-requires
 part-requires c κs = search needs
 
--- src/path.rt:23:9
 same-any-case-requires : tie.Need-same-any-case-requires
 same-any-case-requires c κs = search needs
 
--- src/path.rt:23:9
 returns : tie.Need-returns
 unfolding verb bytes
 returns c = has-verb-mail _ _ (c .before .before .before .if1 .taken) (c .before .part .ensures) (c .same-any-case .ensures)
 
--- src/path.rt:25:19
 slice-aggregate-same-any-case-2 : tie.Need-slice-aggregate-same-any-case-2
 slice-aggregate-same-any-case-2 c = search needs
 
--- src/path.rt:25:33
 part-requires-2 : tie.Need-part-requires-2
 part-requires-2 c κs = search needs
 
--- src/path.rt:25:5
 same-any-case-requires-2 : tie.Need-same-any-case-requires-2
 same-any-case-requires-2 c κs = search needs
 
--- src/path.rt:19:1
 returns-2 : tie.Need-returns-2
 unfolding verb bytes
 returns-2 c = has-verb-rcpt _ _ (c .before .before .before .if1 .left) (c .before .part2 .ensures) (c .same-any-case2 .ensures)

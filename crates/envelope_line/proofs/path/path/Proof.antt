@@ -4,53 +4,37 @@ use mathlib.Core.Path.{sym, _∙_}
 use borrow.Author.Needs.{needs}
 use Rattle.envelope_line.proofs.path.path.Statement.{statement}
 use Rattle.envelope_line.proofs.path.path.Tie as tie
-use Rattle.envelope_line.proofs.path.path.Reads as reads
-use Rattle.envelope_line.proofs.path.path.Lts as lts
-use Rattle.address.proofs.address.Reads as address-reads
-use Rattle.letter_case.proofs.same_any_case.Reads as same-any-case-reads
-use Rattle.line.proofs.byte_at.Reads as byte-at-reads
-use Rattle.line.proofs.part.Reads as part-reads
 
--- src/path.rt:33:12
 byte-at-requires : tie.Need-byte-at-requires
 byte-at-requires c κs = search needs
 
--- src/path.rt:34:13
 returns : tie.Need-returns
 unfolding pathAt
 returns c = path-empty _ _ (c .before .before .if1 .taken) (sym (c .before .byte-at .ensures) ∙ c .if2 .taken)
 
--- src/path.rt:36:9
 address-requires : tie.Need-address-requires
 address-requires c κs = search needs
 
--- src/path.rt:36:9
 returns-2 : tie.Need-returns-2
 unfolding pathAt
 returns-2 c = path-mail _ _ (c .before .before .before .if1 .taken) (λ e. c .before .if2 .left (c .before .before .byte-at .ensures ∙ e)) (c .address .ensures)
 
--- src/path.rt:38:22
 slice-aggregate-same-any-case : tie.Need-slice-aggregate-same-any-case
 slice-aggregate-same-any-case c = search needs
 
--- src/path.rt:38:38
 part-requires : tie.Need-part-requires
 part-requires c κs = search needs
 
--- src/path.rt:38:8
 same-any-case-requires : tie.Need-same-any-case-requires
 same-any-case-requires c κs = search needs
 
--- src/path.rt:39:9
 returns-3 : tie.Need-returns-3
 unfolding pathAt bytes
 returns-3 c = path-postmaster _ _ (c .before .before .before .before .if1 .left) (c .before .before .part .ensures) (sym (c .before .same-any-case .ensures) ∙ c .if3 .taken)
 
--- src/path.rt:41:5
 address-requires-2 : tie.Need-address-requires-2
 address-requires-2 c κs = search needs
 
--- src/path.rt:29:1
 returns-4 : tie.Need-returns-4
 unfolding pathAt bytes
 returns-4 c = path-rcpt _ _ (c .before .before .before .before .before .if1 .left) (c .before .before .before .part .ensures) (sym (c .before .before .same-any-case .ensures) ∙ c .before .if3 .left) (c .address2 .ensures)

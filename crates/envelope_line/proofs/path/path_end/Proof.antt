@@ -3,28 +3,20 @@ use mathlib.Core.Path.{sym, _∙_}
 use borrow.Author.Needs.{needs}
 use Rattle.envelope_line.proofs.path.path_end.Statement.{statement}
 use Rattle.envelope_line.proofs.path.path_end.Tie as tie
-use Rattle.envelope_line.proofs.path.path_end.Reads as reads
-use Rattle.envelope_line.proofs.path.path_end.Lts as lts
-use Rattle.envelope_line.proofs.path.path.Reads as path-reads
 
--- src/path.rt:48:11
 path-requires : tie.Need-path-requires
 path-requires c κs = search needs
 
--- src/path.rt:49:18
 enum-known-n : tie.Need-enum-known-n
 enum-known-n c = search needs
 
--- src/path.rt:50:20
 enum-known-n-2 : tie.Need-enum-known-n-2
 enum-known-n-2 c = search needs
 
--- src/path.rt:45:1
 returns : tie.Need-returns
 unfolding pathAt
 returns c = path-end-to (c .before .before .before .before .before .args .mail) (c .before .before .before .before .before .args .line .now) _ (sym (c .before .n .given .1) ∙ c .before .before .before .path .ensures)
 
--- src/path.rt:45:1
 returns-2 : tie.Need-returns-2
 unfolding pathAt
 returns-2 c = path-end-stop (c .before .before .before .before .before .args .mail) (c .before .before .before .before .before .args .line .now) _ (sym (c .before .n2 .given .1) ∙ c .before .before .before .path .ensures)

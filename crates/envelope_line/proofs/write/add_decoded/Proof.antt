@@ -6,51 +6,34 @@ use mathlib.Core.Path.{ap}
 use borrow.Author.Needs.{needs}
 use Rattle.envelope_line.proofs.write.add_decoded.Statement.{statement}
 use Rattle.envelope_line.proofs.write.add_decoded.Tie as tie
-use Rattle.envelope_line.proofs.write.add_decoded.Reads as reads
-use Rattle.envelope_line.proofs.write.add_decoded.Lts as lts
-use Rattle.address.proofs.xtext.put_decoded.Reads as put-decoded-reads
-use Rattle.buffer.proofs.clip.Reads as clip-reads
-use Rattle.buffer.proofs.place_after.Reads as place-after-reads
-use Rattle.envelope_line.proofs.parameter.value_start.Reads as value-start-reads
-use Rattle.line.proofs.part.Reads as part-reads
 
--- src/write.rt:15:9
 clip-requires : tie.Need-clip-requires
 clip-requires c κs = search needs
 
--- src/write.rt:16:21
 value-start-requires : tie.Need-value-start-requires
 value-start-requires c κs = search needs
 
--- src/write.rt:16:9
 part-requires : tie.Need-part-requires
 part-requires c κs = search needs
 
--- src/write.rt:17:57
 sub-put-decoded : tie.Need-sub-put-decoded
 sub-put-decoded c = search needs
 
--- src/write.rt:17:57
 part-put-decoded-start : tie.Need-part-put-decoded-start
 part-put-decoded-start c = search needs
 
--- src/write.rt:17:57
 part-put-decoded-end : tie.Need-part-put-decoded-end
 part-put-decoded-end c = search needs
 
--- src/write.rt:17:29
 put-decoded-requires : tie.Need-put-decoded-requires
 put-decoded-requires c κs = search needs
 
--- src/write.rt:17:5
 place-after-requires : tie.Need-place-after-requires
 place-after-requires c κs = search needs
 
--- src/write.rt:12:1
 same-length : tie.Need-same-length
 same-length c = search needs
 
--- src/write.rt:12:1
 returns : tie.Need-returns
 returns c = added-by _ _ _ _ _ (c .before .before .before .before .before .before .before .clip .ensures) (wrote-same (ap decoded (value-part _ _ (c .before .before .before .before .before .part .ensures) (c .before .before .before .before .before .before .value-start .ensures))) (c .before .before .before .put-decoded .ensures)) (c .place-after .ensures)
 

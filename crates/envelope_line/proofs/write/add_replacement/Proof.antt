@@ -4,74 +4,49 @@ use native.Mathlib.Omega.{arith}
 use borrow.Author.Needs.{needs}
 use Rattle.envelope_line.proofs.write.add_replacement.Statement.{statement}
 use Rattle.envelope_line.proofs.write.add_replacement.Tie as tie
-use Rattle.envelope_line.proofs.write.add_replacement.Reads as reads
-use Rattle.envelope_line.proofs.write.add_replacement.Lts as lts
-use Rattle.address.proofs.is_ascii.Reads as is-ascii-reads
-use Rattle.buffer.proofs.add_byte.Reads as add-byte-reads
-use Rattle.buffer.proofs.add_slice.Reads as add-slice-reads
-use Rattle.envelope_line.proofs.path.path_end.Reads as path-end-reads
-use Rattle.envelope_line.proofs.path.path_start.Reads as path-start-reads
-use Rattle.envelope_line.proofs.path.tail_start.Reads as tail-start-reads
-use Rattle.envelope_line.proofs.write.add_new_path.Reads as add-new-path-reads
-use Rattle.line.proofs.part.Reads as part-reads
 
--- src/write.rt:71:9
 path-start-requires : tie.Need-path-start-requires
 path-start-requires c κs = search needs
 
--- src/write.rt:72:9
 path-end-requires : tie.Need-path-end-requires
 path-end-requires c κs = search needs
 
--- src/write.rt:73:9
 part-requires : tie.Need-part-requires
 part-requires c κs = search needs
 
--- src/write.rt:74:8
 is-ascii-requires : tie.Need-is-ascii-requires
 is-ascii-requires c κs = search needs
 
--- src/write.rt:75:9
 returns : tie.Need-returns
 returns c = capped-same (replaced-ascii _ _ (path-part _ _ _ _ (c .before .before .before .before .path-start .ensures) (c .before .before .before .path-end .ensures) (c .before .before .part .ensures)) (c .before .is-ascii .ensures) (c .if1 .taken)) (capped-none _ _ (omega arith))
 
--- src/write.rt:77:9
 tail-start-requires : tie.Need-tail-start-requires
 tail-start-requires c κs = search needs
 
--- src/write.rt:78:9
 add-byte-requires : tie.Need-add-byte-requires
 add-byte-requires c κs = search needs
 
--- src/write.rt:79:9
 add-slice-requires : tie.Need-add-slice-requires
 add-slice-requires c κs = search needs
 
--- src/write.rt:80:39
 slice-aggregate-add-slice : tie.Need-slice-aggregate-add-slice
 slice-aggregate-add-slice c = search needs
 
--- src/write.rt:80:9
 add-slice-requires-2 : tie.Need-add-slice-requires-2
 add-slice-requires-2 c κs = search needs
 
--- src/write.rt:81:9
 add-new-path-requires : tie.Need-add-new-path-requires
 add-new-path-requires c κs = search needs
 
--- src/write.rt:82:31
 slice-aggregate-add-slice-2 : tie.Need-slice-aggregate-add-slice-2
 slice-aggregate-add-slice-2 c = search needs
 
--- src/write.rt:82:5
 add-slice-requires-3 : tie.Need-add-slice-requires-3
 add-slice-requires-3 c κs = search needs
 
--- src/write.rt:68:1
 same-length : tie.Need-same-length
 same-length c = search needs
 
--- src/write.rt:68:1
 returns-2 : tie.Need-returns-2
 returns-2 c = capped-same (replaced-high _ _ (path-part _ _ _ _ (c .before .before .before .before .before .before .before .before .before .before .before .before .before .before .before .before .before .before .before .before .before .before .before .before .before .before .before .path-start .ensures) (c .before .before .before .before .before .before .before .before .before .before .before .before .before .before .before .before .before .before .before .before .before .before .before .before .before .before .path-end .ensures) (c .before .before .before .before .before .before .before .before .before .before .before .before .before .before .before .before .before .before .before .before .before .before .before .before .before .part .ensures)) (c .before .before .before .before .before .before .before .before .before .before .before .before .before .before .before .before .before .before .before .before .before .before .before .before .is-ascii .ensures) (c .before .before .before .before .before .before .before .before .before .before .before .before .before .before .before .before .before .before .before .before .before .before .before .if1 .left) (new-path _ _ (c .before .before .before .before .before .before .before .before .before .before .before .before .before .before .before .before .before .before .before .before .before .before .tail-start .result) (c .before .before .before .before .before .before .before .before .before .before .before .before .before .before .before .before .before .before .before .before .before .before .tail-start .ensures))) (capped-then (capped-then (capped-then (capped-then (c .before .before .before .before .before .before .before .before .before .before .before .before .before .before .before .before .before .before .before .before .add-byte .ensures) (c .before .before .before .before .before .before .before .before .before .before .before .before .before .before .before .before .add-slice .ensures) (omega (arith, c .before .before .before .before .before .before .before .before .before .before .before .before .before .before .before .before .before .before .before .before .before .before .before .before .before .before .before .before .before .before .good .0 .0))) (c .before .before .before .before .before .before .before .before .before .before .before .add-slice2 .ensures) (omega (arith, c .before .before .before .before .before .before .before .before .before .before .before .before .before .before .before .before .before .before .before .before .before .before .before .before .before .before .before .before .before .before .good .0 .0))) (c .before .before .before .before .before .before .before .add-new-path .ensures) (omega (arith, c .before .before .before .before .before .before .before .before .before .before .before .before .before .before .before .before .before .before .before .before .before .before .before .before .before .before .before .before .before .before .good .0 .0))) (c .before .before .add-slice3 .ensures) (omega (arith, c .before .before .before .before .before .before .before .before .before .before .before .before .before .before .before .before .before .before .before .before .before .before .before .before .before .before .before .before .before .before .good .0 .0)))
 

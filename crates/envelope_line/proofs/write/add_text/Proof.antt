@@ -1,79 +1,52 @@
 use Rattle.envelope_line.specs.WriteLaws.{capped-same, path-part, front-part, written-ascii, written-high, new-path, rest-without}
 use Rattle.buffer.specs.BufferLaws.{capped-then}
 use native.Mathlib.Omega.{arith}
-use mathlib.Core.Path.{sym, _∙_}
 use borrow.Author.Needs.{needs}
 use Rattle.envelope_line.proofs.write.add_text.Statement.{statement}
 use Rattle.envelope_line.proofs.write.add_text.Tie as tie
-use Rattle.envelope_line.proofs.write.add_text.Reads as reads
-use Rattle.envelope_line.proofs.write.add_text.Lts as lts
-use Rattle.address.proofs.is_ascii.Reads as is-ascii-reads
-use Rattle.buffer.proofs.add_byte.Reads as add-byte-reads
-use Rattle.buffer.proofs.add_slice.Reads as add-slice-reads
-use Rattle.envelope_line.proofs.path.path_end.Reads as path-end-reads
-use Rattle.envelope_line.proofs.path.path_start.Reads as path-start-reads
-use Rattle.envelope_line.proofs.path.tail_start.Reads as tail-start-reads
-use Rattle.envelope_line.proofs.write.add_new_path.Reads as add-new-path-reads
-use Rattle.envelope_line.proofs.write.add_without_alt.Reads as add-without-alt-reads
-use Rattle.line.proofs.part.Reads as part-reads
 
--- src/write.rt:48:9
 path-start-requires : tie.Need-path-start-requires
 path-start-requires c κs = search needs
 
--- src/write.rt:49:44
 path-end-requires : tie.Need-path-end-requires
 path-end-requires c κs = search needs
 
--- src/write.rt:49:26
 part-requires : tie.Need-part-requires
 part-requires c κs = search needs
 
--- src/write.rt:49:8
 is-ascii-requires : tie.Need-is-ascii-requires
 is-ascii-requires c κs = search needs
 
--- src/write.rt:50:9
 add-slice-requires : tie.Need-add-slice-requires
 add-slice-requires c κs = search needs
 
--- src/write.rt:50:9
 same-length : tie.Need-same-length
 same-length c = search needs
 
--- src/write.rt:50:9
 returns : tie.Need-returns
 returns c = capped-same (written-ascii _ _ (path-part _ _ _ _ (c .before .before .before .before .before .before .before .before .path-start .ensures) (c .before .before .before .before .before .before .before .path-end .ensures) (c .before .before .before .before .before .before .part .ensures)) (c .before .before .before .before .before .is-ascii .ensures) (c .before .before .before .before .if1 .taken)) (c .before .before .add-slice .ensures)
 
--- src/write.rt:52:9
 tail-start-requires : tie.Need-tail-start-requires
 tail-start-requires c κs = search needs
 
--- src/write.rt:53:40
 part-requires-2 : tie.Need-part-requires-2
 part-requires-2 c κs = search needs
 
--- src/write.rt:53:9
 add-slice-requires-2 : tie.Need-add-slice-requires-2
 add-slice-requires-2 c κs = search needs
 
--- src/write.rt:54:9
 add-new-path-requires : tie.Need-add-new-path-requires
 add-new-path-requires c κs = search needs
 
--- src/write.rt:55:9
 add-byte-requires : tie.Need-add-byte-requires
 add-byte-requires c κs = search needs
 
--- src/write.rt:56:5
 add-without-alt-requires : tie.Need-add-without-alt-requires
 add-without-alt-requires c κs = search needs
 
--- src/write.rt:45:1
 same-length-2 : tie.Need-same-length-2
 same-length-2 c = search needs
 
--- src/write.rt:45:1
 returns-2 : tie.Need-returns-2
 returns-2 c = capped-same (written-high _ _ (path-part _ _ _ _ (c .before .before .before .before .before .before .before .before .before .before .before .before .before .before .before .before .before .before .before .before .before .before .path-start .ensures) (c .before .before .before .before .before .before .before .before .before .before .before .before .before .before .before .before .before .before .before .before .before .path-end .ensures) (c .before .before .before .before .before .before .before .before .before .before .before .before .before .before .before .before .before .before .before .before .part .ensures)) (c .before .before .before .before .before .before .before .before .before .before .before .before .before .before .before .before .before .before .before .is-ascii .ensures) (c .before .before .before .before .before .before .before .before .before .before .before .before .before .before .before .before .before .before .if1 .left) (front-part (c .before .before .before .before .before .before .before .before .before .before .before .before .before .before .before .before .before .before .before .before .before .before .before .before .before .args .mail) (c .before .before .before .before .before .before .before .before .before .before .before .before .before .before .before .before .before .before .before .before .before .before .before .before .before .args .line .now) (c .before .before .before .before .before .before .before .before .before .before .before .before .before .before .before .before .before .before .before .before .before .before .path-start .result) (c .before .before .before .before .before .before .before .before .before .before .before .before .before .before .before .before .before .before .before .before .before .before .path-start .ensures) (c .before .before .before .before .before .before .before .before .before .before .before .before .before .before .before .part2 .ensures)) (new-path _ _ (c .before .before .before .before .before .before .before .before .before .before .before .before .before .before .before .before .before .tail-start .result) (c .before .before .before .before .before .before .before .before .before .before .before .before .before .before .before .before .before .tail-start .ensures)) (rest-without _ _ (c .before .before .before .before .before .before .before .before .before .before .before .before .before .before .before .before .before .tail-start .result) (c .before .before .before .before .before .before .before .before .before .before .before .before .before .before .before .before .before .tail-start .ensures))) (capped-then (capped-then (capped-then (c .before .before .before .before .before .before .before .before .before .before .before .before .before .before .add-slice2 .ensures) (c .before .before .before .before .before .before .before .before .before .before .add-new-path .ensures) (omega (arith, c .before .before .before .before .before .before .before .before .before .before .before .before .before .before .before .before .before .before .before .before .before .before .before .before .before .good .0 .0))) (c .before .before .before .before .before .before .add-byte .ensures) (omega (arith, c .before .before .before .before .before .before .before .before .before .before .before .before .before .before .before .before .before .before .before .before .before .before .before .before .before .good .0 .0))) (c .before .before .add-without-alt .ensures) (omega (arith, c .before .before .before .before .before .before .before .before .before .before .before .before .before .before .before .before .before .before .before .before .before .before .before .before .before .good .0 .0)))
 

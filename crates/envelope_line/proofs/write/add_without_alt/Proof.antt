@@ -6,62 +6,43 @@ use mathlib.Core.Path.{sym, _∙_}
 use borrow.Author.Needs.{needs}
 use Rattle.envelope_line.proofs.write.add_without_alt.Statement.{statement}
 use Rattle.envelope_line.proofs.write.add_without_alt.Tie as tie
-use Rattle.envelope_line.proofs.write.add_without_alt.Reads as reads
-use Rattle.envelope_line.proofs.write.add_without_alt.Lts as lts
-use Rattle.buffer.proofs.add_slice.Reads as add-slice-reads
-use Rattle.envelope_line.proofs.parameter.alt_place.Reads as alt-place-reads
-use Rattle.envelope_line.proofs.parameter.param_end.Reads as param-end-reads
-use Rattle.line.proofs.part.Reads as part-reads
 
--- src/write.rt:36:9
 alt-place-requires : tie.Need-alt-place-requires
 alt-place-requires c κs = search needs
 
--- src/write.rt:38:43
 part-requires : tie.Need-part-requires
 part-requires c κs = search needs
 
--- src/write.rt:38:9
 add-slice-requires : tie.Need-add-slice-requires
 add-slice-requires c κs = search needs
 
--- src/write.rt:38:9
 same-length : tie.Need-same-length
 same-length c = search needs
 
--- src/write.rt:38:9
 returns : tie.Need-returns
 returns c = capped-same (c .before .before .before .part .ensures ∙ part-rest (c .before .before .before .before .before .before .before .before .before .args .line .now) (c .before .before .before .before .before .before .before .before .before .args .from) ∙ sym (without-none (c .before .before .before .before .before .before .alt-place .ensures) (c .before .before .before .before .before .if1 .taken))) (c .before .before .add-slice .ensures)
 
--- src/write.rt:40:43
 part-requires-2 : tie.Need-part-requires-2
 part-requires-2 c κs = search needs
 
--- src/write.rt:40:9
 add-slice-requires-2 : tie.Need-add-slice-requires-2
 add-slice-requires-2 c κs = search needs
 
--- src/write.rt:41:61
 add-param-end : tie.Need-add-param-end
 add-param-end c = search needs
 
--- src/write.rt:41:45
 param-end-requires : tie.Need-param-end-requires
 param-end-requires c κs = search needs
 
--- src/write.rt:41:34
 part-requires-3 : tie.Need-part-requires-3
 part-requires-3 c κs = search needs
 
--- src/write.rt:41:5
 add-slice-requires-3 : tie.Need-add-slice-requires-3
 add-slice-requires-3 c κs = search needs
 
--- src/write.rt:33:1
 same-length-2 : tie.Need-same-length-2
 same-length-2 c = search needs
 
--- src/write.rt:33:1
 returns-2 : tie.Need-returns-2
 returns-2 c = capped-same (rw (c .before .before .before .before .before .before .before .before .before .part2 .ensures, c .before .before .before .part3 .ensures, part-rest) (sym (without-some (c .before .before .before .before .before .before .before .before .before .before .before .before .alt-place .ensures) _ (c .before .before .before .before .param-end .ensures) (c .before .before .before .before .before .before .before .before .before .before .before .if1 .left)))) (capped-then (c .before .before .before .before .before .before .before .before .add-slice2 .ensures) (c .before .before .add-slice3 .ensures) (omega arith))
 
