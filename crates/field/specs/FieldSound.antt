@@ -1,13 +1,13 @@
 -- What is written for a field of a well-formed header is ASCII, and demand 3 holds of each text that is encoded. Assumes nothing.
 use mathlib.Core.Path.{_≡_, refl}
 use mathlib.Core.Bool.{Bool, true, false}
-use mathlib.Core.List.{List, [], _∷_, _++_, map, List·Memᴰ}
+use mathlib.Core.List.{List, [], _∷_, _++_, append-nil, map, List·Memᴰ}
 use Prim.Native.Nat.{ℕ}
 use native.Mathlib.Omega.{arith}
 use lib.Dec.{T, lt→ltb}
 use mir.Facts.{and-yes, yes-and}
 use Rattle.utf8.specs.Byte.{isAscii, within, within-high}
-use Rattle.utf8.specs.Lists.{cond-has, all, all-append, all-weaken, joined}
+use Rattle.utf8.specs.Lists.{cond-has, yes-true, all, all-append, all-weaken, joined}
 use Rattle.utf8.specs.Run.{run-all}
 use Rattle.utf8.specs.Utf8.{utf8}
 use Rattle.encoded_word.specs.Row.{row}
@@ -52,6 +52,11 @@ encoded-sound downgraded {field} s =
     yes-and (all isAscii (prefix downgraded ++ (nameOf field ++ (58 ∷ [])))) (all sound (words (textOf field) ∷ raw (13 ∷ 10 ∷ []) ∷ []))
     (all-append isAscii (prefix downgraded) (nameOf field ++ (58 ∷ [])) (prefix-ascii downgraded) (all-append isAscii (nameOf field) (58 ∷ []) (name-ascii field) tt))
     (yes-and (utf8 (textOf field)) true (text-utf8 s) tt)
+
+-- "A field whose value is ASCII is copied", byte for byte
+pub field-copied : (address : List ℕ → List Segment) (field : List ℕ) → T (all isAscii (valueOf field)) → rendered (fieldSegments address field) ≡ field
+unfolding fieldSegments rendered
+field-copied address field t = rw (yes-true (all isAscii (valueOf field)) t) (append-nil field)
 
 -- Every segment of a field of a well-formed header is sound, where those of an address field are.
 pub field-sound : (address : List ℕ → List Segment) {field : List ℕ} → Shaped field → (kindOf (nameOf field) ≡ Address → T (all sound (address field)))

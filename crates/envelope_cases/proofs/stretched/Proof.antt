@@ -1,0 +1,58 @@
+-- Each turn leaves fewer letters.
+use Prim.Native.Nat.{_-_}
+use borrow.Author.Needs.{needs}
+use Rattle.envelope_cases.proofs.stretched.Statement.{statement}
+use Rattle.envelope_cases.proofs.stretched.Tie as tie
+
+abbrev Inv-loop : tie.InvT-loop
+Inv-loop label front letters back space₀ n₀ k₀ t8 space n k = Unit {0}
+
+abbrev μ-loop : tie.MeasureT-loop
+μ-loop label front letters back space₀ n₀ k₀ t8 space n k = letters - k
+
+add-requires : tie.Need-add-requires Inv-loop μ-loop
+add-requires c κs = search needs
+
+loop-holds : tie.Need-loop-holds Inv-loop μ-loop
+loop-holds c = search needs
+
+slice-aggregate-add : tie.Need-slice-aggregate-add Inv-loop μ-loop
+slice-aggregate-add c = search needs
+
+add-requires-2 : tie.Need-add-requires-2 Inv-loop μ-loop
+add-requires-2 c κs = search needs
+
+add-k : tie.Need-add-k Inv-loop μ-loop
+add-k c = search needs
+
+loop-less : tie.Need-loop-less Inv-loop μ-loop
+loop-less c = search needs
+
+loop-again : tie.Need-loop-again Inv-loop μ-loop
+loop-again c = search needs
+
+add-requires-3 : tie.Need-add-requires-3 Inv-loop μ-loop
+add-requires-3 c κs = search needs
+
+show-front-requires : tie.Need-show-front-requires Inv-loop μ-loop
+show-front-requires c κs = search needs
+
+returns : tie.Need-returns Inv-loop μ-loop
+returns c = search needs
+
+pub stretched-spec : {M : Type 1} → statement M
+stretched-spec =
+    tie.close
+    (tie.spec
+    Inv-loop
+    μ-loop
+    add-requires
+    loop-holds
+    slice-aggregate-add
+    add-requires-2
+    add-k
+    loop-less
+    loop-again
+    add-requires-3
+    show-front-requires
+    returns)
