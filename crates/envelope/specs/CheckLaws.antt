@@ -16,6 +16,7 @@ use Rattle.buffer.specs.Buffer.{overlay, Reached}
 use Rattle.buffer.specs.BufferLaws.{reached-start, reached-then, reached-end, appended-byte, wrote-from}
 use Rattle.line.specs.Line.{lineLen}
 use Rattle.line.specs.LineLaws.{crlf-at}
+use Rattle.address.specs.AddressLaws.{byte-within}
 use Rattle.envelope_line.specs.declared.Fault.{Fault}
 use Rattle.envelope_line.specs.declared.Fault.the-variants.{Fine, Malformed, NoAlternative, BadAlternative}
 use Rattle.envelope_line.specs.EnvelopeLine.{lineFault}
@@ -30,11 +31,6 @@ pub record RcptsChecked (e : List ℕ) (at : ℕ) (before after : List ℕ) (r :
 
 -- ---- the line at a place; `end` is where its CRLF is due
 
-inside : (s : List ℕ) (i b : ℕ) → getD s i 0 ≡ suc b → i < length s
-inside [] i b e = absurd (omega arith)
-inside (x ∷ s) zero b e = omega arith
-inside (x ∷ s) (suc i) b e = omega (arith, inside s i b e)
-
 module _ (s : List ℕ) (i end : ℕ) (d : end ≡ i + lineLen (drop i s)) where
   front-end : drop (lineLen (drop i s)) (drop i s) ≡ drop end s
   front-end = rw (drop-drop, ← d)
@@ -46,7 +42,7 @@ module _ (s : List ℕ) (i end : ℕ) (d : end ≡ i + lineLen (drop i s)) where
 
     module _ (c : getD s end 0 ≡ 13) where
       pub front-in : end < length s
-      front-in = inside s end 12 c
+      front-in = byte-within s end 12 c
 
       pub front-no-lf : (getD s (end + 1) 0 ≡ 10 → ⊥) → Malformed ≡ frontFault mail (drop i s)
       unfolding frontFault
@@ -64,7 +60,7 @@ module _ (s : List ℕ) (i end : ℕ) (d : end ≡ i + lineLen (drop i s)) where
     fine-end e =
         by-test (eqb (getD s end 0) 13 && eqb (getD s (end + 1) 0) 10)
         (λ t. let both = and-yes (eqb (getD s end 0) 13) (eqb (getD s (end + 1) 0) 10) t in
-        omega (arith, inside s (end + 1) 9 (eqb→eq (getD s (end + 1) 0) 10 (both .1))))
+        omega (arith, byte-within s (end + 1) 9 (eqb→eq (getD s (end + 1) 0) 10 (both .1))))
         (λ t. absurd (let z = rw (front-end, crlf-at s end, no-false (eqb (getD s end 0) 13 && eqb (getD s (end + 1) 0) 10) t) at e in true-yes false z))
 
 pub rcpt-many : (n : ℕ) (e : List ℕ) → 100 ≤ n → Malformed ≡ rcptFault n e
