@@ -370,6 +370,10 @@ fn order_of_lines() {
     mail(b"another verb", b"SEND FROM:<a@x>");
     rcpt(b"another verb after MAIL", b"DATA");
     rcpt(b"RCPT with MAIL's word", b"RCPT FROM:<b@x>");
+}
+
+// Empty lines.
+fn empty_lines() {
     mail(b"empty line first", b"");
     rcpt(b"empty line in the place of RCPT", b"");
     rcpt(b"empty line after MAIL", b"\r\nRCPT TO:<b@x>");
@@ -386,6 +390,10 @@ fn ends_of_lines() {
         b"second RCPT without CRLF",
         b"MAIL FROM:<a@x>\r\nRCPT TO:<b@x>\r\nRCPT TO:<c@x>",
     );
+}
+
+// A rest after the last line, and CR or LF alone.
+fn rests() {
     rcpt(b"a rest of one letter", b"RCPT TO:<b@x>\r\nx");
     show(b"a rest of CR", b"MAIL FROM:<a@x>\r\nRCPT TO:<b@x>\r\n\r");
     tail(b"LF between lines", b"\nRCPT TO:<b@x>");
@@ -394,8 +402,8 @@ fn ends_of_lines() {
     rcpt(b"LF CR LF", b"RCPT TO:<b@x>\n");
 }
 
-// Control bytes within a line.
-fn controls() {
+// Control bytes within a path.
+fn controls_in_paths() {
     from(b"NUL in a path", b"a\x00b@x");
     from(b"NUL in a quoted string", b"\"a\x00b\"@x");
     from(b"TAB in a quoted string", b"\"a\tb\"@x");
@@ -403,6 +411,10 @@ fn controls() {
     from(b"LF in a quoted string", b"\"a\nb\"@x");
     from(b"CRLF in a quoted string", b"\"a\r\nb\"@x");
     from(b"DEL in a quoted string", b"\"a\x7Fb\"@x");
+}
+
+// Control bytes after a path.
+fn controls_in_parameters() {
     tail(b"TAB before a parameter", b"\tSIZE=5");
     tail(b"TAB in a value", b" SIZE=5\t");
     tail(b"NUL in a value", b" SIZE=\x00");
@@ -411,12 +423,16 @@ fn controls() {
     tail(b"NUL after a line", b"\x00");
 }
 
-// Verbs, and what stands between a verb and its path.
+// Verbs in any case.
 fn verbs() {
     mail(b"MAIL in lowercase", b"mail from:<a@x>");
     mail(b"MAIL in odd case", b"mAiL fRoM:<a@x>");
     rcpt(b"RCPT in lowercase", b"rcpt to:<b@x>");
     rcpt(b"RCPT in odd case", b"RcPt tO:<b@x>");
+}
+
+// Colons and spaces between a verb and its path.
+fn colons_and_spaces() {
     mail(b"MAIL without a colon", b"MAIL FROM<a@x>");
     rcpt(b"RCPT without a colon", b"RCPT TO<b@x>");
     mail(b"space after the colon", b"MAIL FROM: <a@x>");
@@ -424,7 +440,12 @@ fn verbs() {
     rcpt(b"space after RCPT's colon", b"RCPT TO: <b@x>");
     mail(b"two spaces in a verb", b"MAIL  FROM:<a@x>");
     mail(b"TAB in a verb", b"MAIL\tFROM:<a@x>");
+    mail(b"NUL for the space of a verb", b"MAIL\x00FROM:<a@x>");
     mail(b"space before a verb", b" MAIL FROM:<a@x>");
+}
+
+// The brackets around a path.
+fn angle_brackets() {
     mail(b"verb only", b"MAIL FROM:");
     mail(b"no angle brackets", b"MAIL FROM:a@x");
     mail(b"no closing bracket", b"MAIL FROM:<a@x");
@@ -433,7 +454,6 @@ fn verbs() {
         b"MAIL FROM:<a@x SIZE=5",
     );
     from(b"two closing brackets", b"a@x>");
-    mail(b"NUL for the space of a verb", b"MAIL\x00FROM:<a@x>");
 }
 
 // Parameters that are taken.
@@ -454,19 +474,27 @@ fn parameters() {
     );
 }
 
-// Parameters that are malformed.
-fn bad_parameters() {
+// Spaces around parameters that are malformed.
+fn bad_spaces() {
     tail(b"two spaces before a parameter", b"  SIZE=5");
     tail(b"two spaces between parameters", b" SIZE=5  BODY=7BIT");
     tail(b"trailing space", b" ");
     tail(b"trailing space after a parameter", b" SIZE=5 ");
     tail(b"no space before a parameter", b"SIZE=5");
+}
+
+// Keywords that are malformed.
+fn bad_keywords() {
     tail(b"empty keyword", b" =5");
     tail(b"empty keyword and value", b" =");
     tail(b"hyphen first", b" -SIZE=5");
     tail(b"hyphen alone", b" -");
     tail(b"underscore in a keyword", b" MY_SIZE=5");
     tail(b"non-ASCII in a keyword", b" SIZ\xC3\xA9=5");
+}
+
+// Values that are malformed.
+fn bad_values() {
     tail(b"empty value", b" SIZE=");
     tail(b"= in a value", b" A=b=c");
     tail(b"two =", b" A==");
@@ -478,11 +506,15 @@ fn bad_parameters() {
     tail(b"DEL in a value", b" A=\x7F");
 }
 
-// The empty path and Postmaster.
-fn special_paths() {
+// The empty path.
+fn empty_paths() {
     from(b"empty path of MAIL", b"");
     rcpt(b"empty path of RCPT", b"RCPT TO:<>");
     from(b"space as a path", b" ");
+}
+
+// Postmaster, and alternatives of paths that are no addresses.
+fn postmaster() {
     rcpt(b"Postmaster", b"RCPT TO:<Postmaster>");
     rcpt(
         b"Postmaster in odd case",
@@ -499,13 +531,17 @@ fn special_paths() {
     );
 }
 
-// Dot-atoms and domains.
+// Atoms, and domains in brackets.
 fn addresses() {
     from(b"all of atext", b"!#$%&'*+-/=?^_`{|}~.09.AZ.az@x-y.z");
     from(b"domain in brackets", b"a@[192.0.2.1]");
     from(b"nothing in brackets", b"a@[]");
     from(b"> in brackets", b"a@[>]");
     from(b"edges of the bytes in brackets", b"a@[!Z^~]");
+}
+
+// Domains in brackets that are none.
+fn bad_brackets() {
     from(b"bracket in brackets", b"a@[[]");
     from(b"backslash in brackets", b"a@[\\]");
     from(b"space in brackets", b"a@[ ]");
@@ -514,7 +550,7 @@ fn addresses() {
     from(b"brackets not closed", b"a@[x");
 }
 
-// Addresses that are none.
+// Addresses of which a part is missing or too much.
 fn bad_addresses() {
     from(b"source route", b"@y:a@x");
     rcpt(b"source route of two", b"RCPT TO:<@y,@z:b@x>");
@@ -522,11 +558,19 @@ fn bad_addresses() {
     from(b"empty domain", b"a@");
     from(b"empty local part", b"@x");
     from(b"two @", b"a@b@x");
+}
+
+// Dots out of place.
+fn bad_dots() {
     from(b"two dots", b"a..b@x");
     from(b"dot first", b".a@x");
     from(b"dot before @", b"a.@x");
     from(b"dot after @", b"a@.x");
     from(b"dot last", b"a@x.");
+}
+
+// Bytes that no address has.
+fn bad_bytes() {
     from(b"space before an address", b" a@x");
     from(b"space after an address", b"a@x ");
     from(b"comma in a local part", b"a,b@x");
@@ -544,10 +588,14 @@ fn quoted_strings() {
     from(b"escaped quote", b"\"\\\"\"@x");
     from(b"escaped backslash", b"\"\\\\\"@x");
     from(b"escaped space and tilde", b"\"\\ \\~\"@x");
+    replaced(b"e acute in a quoted string", b"\"\xC3\xA9 \\\" <\"@x");
+}
+
+// Local parts that are no quoted strings.
+fn bad_quoted_strings() {
     replaced(b"escaped e acute", b"\"\\\xC3\xA9\"@x");
     from(b"escaped e acute, no alternative", b"\"\\\xC3\xA9\"@x");
     from(b"escaped DEL", b"\"\\\x7F\"@x");
-    replaced(b"e acute in a quoted string", b"\"\xC3\xA9 \\\" <\"@x");
     from(b"quoted string not closed", b"\"a@x");
     from(b"quote escaped at the end", b"\"a\\\"@x");
     from(b"letter after a quoted string", b"\"a\"b@x");
@@ -568,7 +616,7 @@ fn characters() {
     replaced(b"domain past ASCII", b"a@\xE6\xB8\xAF.\xF0\x9F\x9A\xA2");
 }
 
-// Bytes that are not UTF-8, in paths.
+// Bytes that are not UTF-8, in a dot-atom.
 fn bad_characters() {
     replaced(b"lone C3", b"\xC3@x");
     replaced(b"lone A9", b"\xA9@x");
@@ -578,12 +626,16 @@ fn bad_characters() {
     replaced(b"surrogate ED A0 80", b"\xED\xA0\x80@x");
     replaced(b"above 10FFFF", b"\xF4\x90\x80\x80@x");
     replaced(b"FF", b"\xFF@x");
+}
+
+// The same in other places.
+fn bad_characters_elsewhere() {
     replaced(b"lone C3 in a quoted string", b"\"\xC3\"@x");
     replaced(b"lone C3 in a domain", b"a@\xC3");
     rcpt(b"lone C3 and no alternative", b"RCPT TO:<\xC3@x>");
 }
 
-// ORCPT.
+// ORCPT of one RCPT line.
 fn orcpts() {
     original(b"ORCPT in ASCII", b"rfc822;b@x");
     original(b"ORCPT with e acute", b"utf-8;\xC3\xA9@x");
@@ -595,6 +647,10 @@ fn orcpts() {
         b"ORCPT twice, second with e acute",
         b"a NOTIFY=NEVER ORCPT=\xC3\xA9",
     );
+}
+
+// ORCPT of other lines.
+fn orcpts_of_lines() {
     tail(b"ORCPT of MAIL", b" ORCPT=rfc822;a@x");
     tail(b"ORCPT of MAIL with e acute", b" ORCPT=\xC3\xA9");
     rcpt(
@@ -673,12 +729,18 @@ fn alternatives() {
     );
 }
 
-// Values of ALT-ADDRESS that are no xtext of an ASCII address.
-fn bad_alternatives() {
+// Values of ALT-ADDRESS that are no xtext.
+fn not_xtext() {
     alternative(b"+4 at the end", b"a@x+4");
     alternative(b"+4 alone", b"+4");
     alternative(b"+ at the end", b"a@x+");
     alternative(b"+4G", b"a+4G@x");
+    alternative(b"e acute as it stands", b"\xC3\xA9@x");
+    alternative(b"= as it stands", b"a=b@x");
+}
+
+// Values that are xtext of something else than an ASCII address.
+fn no_ascii_address() {
     alternative(b"e acute by hex digits", b"+C3+A9@x");
     alternative(b"DEL by +7F", b"a+7F@x");
     alternative(b"NUL by +00", b"\"+00\"@x");
@@ -691,12 +753,10 @@ fn bad_alternatives() {
         b"Postmaster as an alternative",
         b"RCPT TO:<\xC3\xA9@x> ALT-ADDRESS=Postmaster",
     );
-    alternative(b"e acute as it stands", b"\xC3\xA9@x");
-    alternative(b"= as it stands", b"a=b@x");
 }
 
-// Two faults: the first line at fault, and within a line the lowest number.
-fn two_faults() {
+// Two faults of one line: the lowest number.
+fn two_faults_of_a_line() {
     mail(b"2 and 3", b"MAIL FROM:<\xC3\xA9@x> =");
     tail(b"2 and 4", b" ALT-ADDRESS=e@x =");
     mail(
@@ -709,6 +769,11 @@ fn two_faults() {
         b" ALT-ADDRESS=e@x ALT-ADDRESS=e@x",
     );
     tail(b"bad alternative of an ASCII path", b" ALT-ADDRESS=+2b");
+    rcpt(b"3 and 6", b"RCPT TO:<\xC3\xA9@x> ORCPT=\xC3\xA9");
+}
+
+// Two lines at fault: the first.
+fn two_lines_at_fault() {
     show(b"4, then 2", b"MAIL FROM:<a@x> ALT-ADDRESS=e@x\r\nDATA\r\n");
     show(b"3, then 2", b"MAIL FROM:<\xC3\xA9@x>\r\nRCPT TO:<>\r\n");
     show(
@@ -724,7 +789,6 @@ fn two_faults() {
         b"6, then 3",
         b"RCPT TO:<b@x> ORCPT=\xC3\xA9\r\nRCPT TO:<\xC3\xA9@x>",
     );
-    rcpt(b"3 and 6", b"RCPT TO:<\xC3\xA9@x> ORCPT=\xC3\xA9");
 }
 
 // Recipients that are replaced.
@@ -760,28 +824,64 @@ fn recipients() {
     );
 }
 
-fn main() {
-    paper();
+// Envelopes by their lines.
+fn all_lines() {
     counts();
     lengths();
     lengths_of_parameters();
     order_of_lines();
+    empty_lines();
     ends_of_lines();
-    controls();
+    rests();
+    controls_in_paths();
+    controls_in_parameters();
+}
+
+// By verbs and parameters.
+fn all_parameters() {
     verbs();
+    colons_and_spaces();
+    angle_brackets();
     parameters();
-    bad_parameters();
-    special_paths();
+    bad_spaces();
+    bad_keywords();
+    bad_values();
+}
+
+// By paths.
+fn all_paths() {
+    empty_paths();
+    postmaster();
     addresses();
+    bad_brackets();
     bad_addresses();
+    bad_dots();
+    bad_bytes();
     quoted_strings();
+    bad_quoted_strings();
     characters();
     bad_characters();
+    bad_characters_elsewhere();
+}
+
+// By ORCPT and ALT-ADDRESS.
+fn all_alternatives() {
     orcpts();
+    orcpts_of_lines();
     bad_orcpts();
     places();
     alternatives();
-    bad_alternatives();
-    two_faults();
+    not_xtext();
+    no_ascii_address();
+    two_faults_of_a_line();
+    two_lines_at_fault();
     recipients();
+}
+
+fn main() {
+    paper();
+    all_lines();
+    all_parameters();
+    all_paths();
+    all_alternatives();
 }
