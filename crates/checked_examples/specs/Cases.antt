@@ -1,8 +1,6 @@
 -- The checked examples that the paper marks P, as one table under one theorem about the definitions. Assumes nothing.
 use mathlib.Core.Path.{_≡_, refl}
-use mathlib.Core.Bool.{Bool, true, false, cond, not, _&&_, _||_}
 use mathlib.Core.List.{List, [], _∷_, _++_, map}
-use mathlib.Core.Option.{Option, none, some}
 use Prim.Native.Nat.{ℕ}
 use lib.Count.{leadingZeros}
 use lib.ListN.{length, replicate}
@@ -14,9 +12,7 @@ use Rattle.encoded_word.specs.Cut.{cut}
 use Rattle.encoded_word.specs.Spelling.{bare, hexDigit, spellByte, spell}
 use Rattle.encoded_word.specs.Row.{runs, word, lines, rowIn, row}
 use Rattle.envelope.specs.Envelope.{checked, numberOf, placeOf, frontFault, thenNext, rcptFault, rcptsFrom, faultNumber}
-use Rattle.header.specs.Lines.{linesOf, lineByte, blank, nameByte, nameLen, named, continuation, wellFormed, lineOk, linesFrom}
-use Rattle.header.specs.declared.Lines.{Lines}
-use Rattle.header.specs.declared.Lines.the-variants.{WellFormed, Malformed}
+use Rattle.header.specs.Lines.{lineAnswer, linesOf, lineByte, blank, nameByte, nameLen, named, continuation, wellFormed, lineOk, linesFrom}
 use Rattle.line.specs.Line.{crlf, lineLen}
 use Rattle.address.specs.Address.{later, byteThen, scanThen, isAtext, isAtomByte, isQuotedByte, isLiteralByte, dotAtomFrom, dotAtomScan, quotedFrom, quotedScan, literalFrom, literalScan, domainScan, localScan, addressScan, isAddress, isAsciiAddress}
 use Rattle.address.specs.Xtext.{isXchar, isHexDigit, hexValue, isHexchar, unitLen, unitByte, decodingAfter, decoding, isXtext, decoded, isAltAddress}
@@ -30,26 +26,19 @@ pub data Case : Type 0 where
   hasRow : List ℕ → List ℕ → Case
   -- an envelope, its number and its place
   answers : List ℕ → ℕ → ℕ → Case
-  -- a header without a malformed line, and one whose line at this number is the first malformed one
-  taken : List ℕ → Case
-  refused : List ℕ → ℕ → Case
+  -- a header, the number and the place of its first malformed line; 0 at 0 where there is none
+  lined : List ℕ → ℕ → ℕ → Case
 
 -- how many characters each word of a text's row holds, and its length between opening and closing
 abbrev pub wordSizes : List ℕ → List (ℕ × ℕ)
 wordSizes text = map (λ (run : List (List ℕ)). (length run, length (spell (joined run)))) (runs 63 (chars text))
-
--- the first malformed line of a header
-abbrev pub malformedLine : Lines → Option ℕ
-malformedLine WellFormed = none
-malformedLine (Malformed line at) = some line
 
 -- what a case says
 abbrev pub Right : Case → Type 0
 Right (cutsTo text sizes) = wordSizes text ≡ sizes
 Right (hasRow text bytes) = row text ≡ bytes
 Right (answers envelope number place) = (numberOf (checked envelope) ≡ number) × (placeOf (checked envelope) ≡ place)
-Right (taken header) = malformedLine (linesOf header) ≡ none
-Right (refused header line) = malformedLine (linesOf header) ≡ some line
+Right (lined header number place) = lineAnswer (linesOf header) ≡ (number, place)
 
 -- each of these cases is right
 abbrev pub AllRight : List Case → Type 0
@@ -116,6 +105,9 @@ cases =
     ∷ Case.answers (mailed (é ++ bytes "@x") (bytes " ALT-ADDRESS=a+0D+0Ab@x")) 4 0
     -- "`+2b`: 4."
     ∷ Case.answers (mailed (é ++ bytes "@x") (bytes " ALT-ADDRESS=+2b")) 4 0
+    -- the same digits in an address that uppercase ones would make ASCII
+    ∷ Case.answers (mailed (é ++ bytes "@x") (bytes " ALT-ADDRESS=a+2bb@x")) 4 0
+    ∷ Case.answers (mailed (é ++ bytes "@x") (bytes " ALT-ADDRESS=a+2Bb@x")) 0 0
     -- "ALT-ADDRESS beside an ASCII path: 4."
     ∷ Case.answers (mailed (bytes "a@x") (bytes " ALT-ADDRESS=b@x")) 4 0
     -- "non-ASCII path alone: 3."
@@ -125,10 +117,10 @@ cases =
     -- "MAIL with no RCPT: 2 at 1."
     ∷ Case.answers (bytes "MAIL FROM:<a@x>" ++ end) 2 1
     -- "name of 76 bytes taken; 77 is 5."
-    ∷ Case.taken (headerNamed 76)
-    ∷ Case.refused (headerNamed 77) 0
+    ∷ Case.lined (headerNamed 76) 0 0
+    ∷ Case.lined (headerNamed 77) 5 0
     ∷ []
 
 pub cases-right : AllRight cases
-unfolding rowIn runs cut lines word spell spellByte bare hexDigit bytes lower sameAnyCase crlf lineLen later byteThen scanThen isAtext isAtomByte isQuotedByte isLiteralByte dotAtomFrom dotAtomScan quotedFrom quotedScan literalFrom literalScan domainScan localScan addressScan isAddress isAsciiAddress run utf8 chars charsAfter charLen leadingOnes leadingZeros isChar secondLow secondHigh isXchar isHexDigit hexValue isHexchar unitLen unitByte decodingAfter decoding isXtext decoded isAltAddress verb hasVerb pathScan pathLen path hasPath tail paramsAfter params spaced isKeywordByte keywordLen keyword hasValue value isOrcpt isAlt isValueByte isParam alts altsOk wellFormed altFault lineFault frontFault thenNext rcptFault rcptsFrom checked faultNumber numberOf placeOf lineByte blank nameByte nameLen named continuation lineOk linesFrom linesOf wellFormedLine
-cases-right = (refl, (refl, (refl, (refl, (refl, (refl, ((refl, refl), ((refl, refl), ((refl, refl), ((refl, refl), ((refl, refl), ((refl, refl), (refl, (refl, tt))))))))))))))
+unfolding rowIn runs cut lines word spell spellByte bare hexDigit bytes lower sameAnyCase crlf lineLen later byteThen scanThen isAtext isAtomByte isQuotedByte isLiteralByte dotAtomFrom dotAtomScan quotedFrom quotedScan literalFrom literalScan domainScan localScan addressScan isAddress isAsciiAddress run utf8 chars charsAfter charLen leadingOnes leadingZeros isChar secondLow secondHigh isXchar isHexDigit hexValue isHexchar unitLen unitByte decodingAfter decoding isXtext decoded isAltAddress verb hasVerb pathScan pathLen path hasPath tail paramsAfter params spaced isKeywordByte keywordLen keyword hasValue value isOrcpt isAlt isValueByte isParam alts altsOk wellFormed altFault lineFault frontFault thenNext rcptFault rcptsFrom checked faultNumber numberOf placeOf lineByte blank nameByte nameLen named continuation lineOk linesFrom linesOf lineAnswer wellFormedLine
+cases-right = (refl, (refl, (refl, (refl, (refl, (refl, ((refl, refl), ((refl, refl), ((refl, refl), ((refl, refl), ((refl, refl), ((refl, refl), ((refl, refl), ((refl, refl), (refl, (refl, tt))))))))))))))))
