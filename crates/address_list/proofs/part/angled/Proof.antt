@@ -1,0 +1,57 @@
+use mathlib.Core.Path.{_≡_, refl, sym, _∙_}
+use Prim.Native.Nat.{_+_}
+use native.Mathlib.Omega.{arith}
+use Rattle.address_list.specs.PartsLaws.{Took, took-stray, took-as, byte-there, angled-none, angled-there, angled-more}
+use borrow.Author.Needs.{needs}
+use Rattle.address_list.proofs.part.angled.Statement.{statement}
+use Rattle.address_list.proofs.part.angled.Tie as tie
+
+blanks-end-requires : tie.Need-blanks-end-requires
+blanks-end-requires c κs = search needs
+
+address-len-requires : tie.Need-address-len-requires
+address-len-requires c κs = search needs
+
+stray-requires : tie.Need-stray-requires
+stray-requires c κs = search needs
+
+returns : tie.Need-returns
+returns c = took-stray (c .stray .ensures) (angled-none (c .before .before .before .before .before .args .t .now) _ _ (c .before .before .before .blanks-end .ensures) (c .before .before .address-len .ensures .0) (c .before .if1 .taken)) (c .before .before .before .before .before .pre)
+
+add-end : tie.Need-add-end
+add-end c = search needs
+
+byte-at-requires : tie.Need-byte-at-requires
+byte-at-requires c κs = search needs
+
+add-t8 : tie.Need-add-t8
+add-t8 c = search needs
+
+returns-2 : tie.Need-returns-2
+returns-2 c = record {
+  is = angled-there (c .before .before .before .before .before .before .args .t .now) _ _ (c .before .before .before .before .blanks-end .ensures) (c .before .before .before .address-len .ensures .0) (c .before .before .if1 .left) (sym (c .before .byte-at .ensures) ∙ c .if2 .taken);
+  some = omega arith;
+  within = omega (arith, byte-there (c .before .before .before .before .before .before .args .t .now) (c .before .before .before .before .blanks-end .result + c .before .before .before .address-len .result) 61 (sym (c .before .byte-at .ensures) ∙ c .if2 .taken));
+  inner = omega arith;
+}
+
+alternative-requires : tie.Need-alternative-requires
+alternative-requires c κs = search needs
+
+returns-3 : tie.Need-returns-3
+returns-3 c = took-as (c .alternative .ensures) (angled-more (c .before .before .before .before .before .before .before .args .t .now) _ _ (c .before .before .before .before .before .blanks-end .ensures) (c .before .before .before .before .address-len .ensures .0) (c .before .before .before .if1 .left) (λ e. c .before .if2 .left (c .before .before .byte-at .ensures ∙ e)))
+
+pub angled-spec : {M : Type 1} → statement M
+angled-spec =
+    tie.close
+    (tie.spec
+    blanks-end-requires
+    address-len-requires
+    stray-requires
+    returns
+    add-end
+    byte-at-requires
+    add-t8
+    returns-2
+    alternative-requires
+    returns-3)

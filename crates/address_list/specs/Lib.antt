@@ -1,0 +1,7 @@
+pub mod Words
+pub mod WordsLaws
+pub mod Parts
+pub mod PartsLaws
+pub mod Grammar
+pub mod Table
+pub mod TableLaws

@@ -1,0 +1,102 @@
+-- The parts of an address field's text. Every byte of the text is in one part. Assumes nothing.
+use mathlib.Core.Bool.{Bool, true, false, cond, not, _&&_, _||_}
+use mathlib.Core.List.{List, [], _∷_}
+use Prim.Native.Nat.{ℕ, zero, suc, pred, _+_, _-_}
+use lib.Dec.{ltb, eqb}
+use lib.ListN.{take, drop, getD}
+use Rattle.utf8.specs.Byte.{isAscii}
+use Rattle.utf8.specs.Lists.{all}
+use Rattle.utf8.specs.Run.{run}
+use Rattle.header.specs.Lines.{blank}
+use Rattle.address_list.specs.Words.{addressLen, phraseLen}
+use Rattle.address_list.specs.declared.Kind.{Kind}
+use Rattle.address_list.specs.declared.Kind.the-variants.{Blank, Comma, Colon, Semicolon, Phrase, Address, Angled, Alternative, Stray}
+use Rattle.address_list.specs.declared.Front.{Front}
+
+-- the part at the front, with its length
+abbrev pub front : Kind → ℕ → Front
+front kind size = record { kind = kind; size = size }
+
+-- a byte that no part begins with
+abbrev pub stray : Front
+stray = front Stray 1
+
+-- "with an alternative `<address <ASCII address>>`, the first non-ASCII, at least one space or TAB between": the first address is
+-- from a to b; `<` is 60, `>` is 62
+unfoldable pub alternativeAt : List ℕ → ℕ → ℕ → Front
+alternativeAt s a b =
+    let inner = b + run blank (drop b s) in
+    let start = inner + 1 + run blank (drop (inner + 1) s) in
+    let size = addressLen (drop start s) in
+    let end = start + size in
+    cond
+    (ltb b inner && not (all isAscii (take (b - a) (drop a s))) && eqb (getD s inner 0) 60 && ltb 0 size && eqb (getD s end 0) 62 && eqb (getD s (end + 1) 0) 62 && all isAscii (take size (drop start s)))
+    (front (Alternative start size) (end + 2))
+    stray
+
+-- "`<address>`, or with an alternative". "runs of spaces and TABs allowed around .. `<`", and none before `>`
+unfoldable pub angledAt : List ℕ → Front
+angledAt s =
+    let start = 1 + run blank (drop 1 s) in
+    let size = addressLen (drop start s) in
+    let end = start + size in
+    cond (eqb size 0) stray (cond (eqb (getD s end 0) 62) (front (Angled start size) (end + 1)) (alternativeAt s start end))
+
+-- a bare address, or else a phrase
+unfoldable pub namedAt : List ℕ → Front
+namedAt s =
+    let address = addressLen s in
+    let phrase = phraseLen s in
+    cond (ltb 0 address) (front Address address) (cond (ltb 0 phrase) (front Phrase phrase) stray)
+
+-- the part at the front: `,` is 44, `:` is 58, `;` is 59
+unfoldable pub partAt : List ℕ → Front
+partAt s =
+    let first = getD s 0 0 in
+    cond (blank first) (front Blank 1)
+    (cond (eqb first 44) (front Comma 1)
+    (cond (eqb first 58) (front Colon 1)
+    (cond (eqb first 59) (front Semicolon 1)
+    (cond (eqb first 60) (angledAt s) (namedAt s)))))
+
+-- a part with its bytes
+pub record Part : Type 0 where
+  pub kind : Kind
+  pub text : List ℕ
+
+-- the parts of what is left of a text, after k bytes of the part before
+unfoldable pub partsFrom : ℕ → List ℕ → List Part
+partsFrom k [] = []
+partsFrom (suc k) (b ∷ s) = partsFrom k s
+partsFrom zero (b ∷ s) = let f = partAt (b ∷ s) in record { kind = f .kind; text = take (f .size) (b ∷ s) } ∷ partsFrom (pred (f .size)) s
+
+unfoldable pub partsOf : List ℕ → List Part
+partsOf text = partsFrom 0 text
+
+-- the address that is named in a part's bytes: a bare one, the one in `< >`, or the alternative
+unfoldable pub addressIn : Kind → List ℕ → List ℕ
+addressIn Blank t = []
+addressIn Comma t = []
+addressIn Colon t = []
+addressIn Semicolon t = []
+addressIn Phrase t = []
+addressIn Address t = t
+addressIn (Angled start size) t = take size (drop start t)
+addressIn (Alternative start size) t = take size (drop start t)
+addressIn Stray t = []
+
+-- "If any address was replaced or removed": an alternative replaces an address, and one that is not ASCII without it is removed
+unfoldable pub changes : Kind → List ℕ → Bool
+changes Blank t = false
+changes Comma t = false
+changes Colon t = false
+changes Semicolon t = false
+changes Phrase t = false
+changes Address t = not (all isAscii t)
+changes (Angled start size) t = not (all isAscii (take size (drop start t)))
+changes (Alternative start size) t = true
+changes Stray t = false
+
+unfoldable pub anyChanges : List Part → Bool
+anyChanges [] = false
+anyChanges (p ∷ ps) = changes (p .kind) (p .text) || anyChanges ps

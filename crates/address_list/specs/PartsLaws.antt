@@ -1,0 +1,218 @@
+-- Laws of the parts of a text, as code finds them by position. Assumes nothing.
+use mathlib.Core.Path.{_≡_, refl, ap, sym, _∙_}
+use mathlib.Core.Bool.{Bool, true, false, cond, _&&_, not, and-false}
+use mathlib.Core.List.{List, [], _∷_}
+use Prim.Native.Nat.{ℕ, zero, suc, pred, _+_, _-_, _≤_, _<_, zero-le}
+use native.Mathlib.Nat.{not-suc-le-zero}
+use native.Mathlib.Omega.{arith}
+use lib.Dec.{ltb, eqb}
+use borrow.Author.Tests.{lt-ltb, le-ltb, eq-eqb, ne-eqb}
+use lib.ListN.{length, take, drop, getD, drop-of-length-le, length-drop}
+use lib.Seq.{drop-drop, take-all}
+use Rattle.utf8.specs.Byte.{isAscii}
+use Rattle.utf8.specs.Lists.{all}
+use Rattle.utf8.specs.Run.{run}
+use Rattle.header.specs.Lines.{blank}
+use Rattle.address.specs.Address.{addressScan, scanThen, localScan, dotAtomScan, dotAtomFrom}
+use Rattle.address_list.specs.Words.{capped, addressLen, wordLen, phraseLen}
+use Rattle.address_list.specs.Parts.{front, stray, alternativeAt, angledAt, namedAt, partAt, Part, partsFrom, changes}
+use Rattle.address_list.specs.declared.Kind.{Kind}
+use Rattle.address_list.specs.declared.Kind.the-variants.{Blank, Comma, Colon, Semicolon, Phrase, Address, Angled, Alternative, Stray}
+use Rattle.address_list.specs.declared.Front.{Front}
+
+-- where the address that a part names ends in it
+abbrev pub innerEnd : Kind → ℕ
+innerEnd Blank = 0
+innerEnd Comma = 0
+innerEnd Colon = 0
+innerEnd Semicolon = 0
+innerEnd Phrase = 0
+innerEnd Address = 0
+innerEnd (Angled start size) = start + size
+innerEnd (Alternative start size) = start + size
+innerEnd Stray = 0
+
+-- The answer r is the part d at the front of t: at least one byte, within t, and so is the address in it.
+pub record Took (d : Front) (t : List ℕ) (r : Front) : Type 0 where
+  pub is : r ≡ d
+  pub some : 0 < r .size
+  pub within : r .size ≤ length t
+  pub inner : innerEnd (r .kind) ≤ r .size
+
+-- The same at a place of a text; past its end there is a stray byte.
+pub record TookFrom (s : List ℕ) (at : ℕ) (r : Front) : Type 0 where
+  pub is : r ≡ partAt (drop at s)
+  pub some : 0 < r .size
+  pub within : at < length s → at + r .size ≤ length s
+  pub inner : innerEnd (r .kind) ≤ r .size
+
+-- a part to the end is the rest of the list
+rest-of : (s : List ℕ) (at : ℕ) → take (length s - at) (drop at s) ≡ drop at s
+rest-of s at = take-all (length s - at) (drop at s) (rw length-drop (omega arith))
+
+pub took-from : {s : List ℕ} {at : ℕ} {r : Front} → at < length s → Took (partAt (take (length s - at) (drop at s))) (take (length s - at) (drop at s)) r → TookFrom s at r
+took-from {s} {at} {r} h w =
+    let t : Took (partAt (drop at s)) (drop at s) r = rw (rest-of s at) at w in
+    record { is = t .is; some = t .some; within = λ k. omega (arith, t .within, length-drop at s); inner = t .inner }
+
+pub took-past : {s : List ℕ} {at : ℕ} {r : Front} → length s ≤ at → r ≡ stray → TookFrom s at r
+unfolding partAt namedAt blank addressLen capped addressScan scanThen localScan dotAtomScan dotAtomFrom phraseLen wordLen run
+took-past {s} {at} {r} h q = record {
+  is = q ∙ rw (drop-of-length-le s {i = at} h) past-end;
+  some = rw q (omega arith);
+  within = λ k. absurd (not-suc-le-zero {n = 0} (omega arith));
+  inner = rw q zero-le;
+}
+  where
+    past-end : stray ≡ partAt []
+    past-end = refl
+
+-- a byte that is there
+pub byte-there : (s : List ℕ) (i b : ℕ) → getD s i 0 ≡ suc b → i < length s
+byte-there [] i b e = absurd (not-suc-le-zero {n = b} (omega arith))
+byte-there (x ∷ s) zero b e = omega arith
+byte-there (x ∷ s) (suc i) b e = omega (arith, byte-there s i b e)
+
+-- ---- an alternative, by the tests of code
+
+module _ (s : List ℕ) (a b inner start size : ℕ) (qi : inner ≡ b + run blank (drop b s))
+    (qs : start ≡ inner + 1 + run blank (drop (inner + 1) s)) (qz : size ≡ addressLen (drop start s)) where
+  by-tests : alternativeAt s a b ≡ cond
+      (ltb b inner && not (all isAscii (take (b - a) (drop a s))) && eqb (getD s inner 0) 60 && ltb 0 size && eqb (getD s (start + size) 0) 62 && eqb (getD s (start + size + 1) 0) 62 && all isAscii (take size (drop start s)))
+      (front (Alternative start size) (start + size + 2)) stray
+  unfolding alternativeAt
+  by-tests = rw (← qi, ← qs, ← qz)
+
+  pub alternative-no-address : size ≡ 0 → stray ≡ alternativeAt s a b
+  alternative-no-address z = rw (by-tests, z) (simp and-false)
+
+  pub alternative-open : (getD s (start + size) 0 ≡ 62 → ⊥) → stray ≡ alternativeAt s a b
+  alternative-open h = rw (by-tests, ne-eqb _ _ h) (simp and-false)
+
+  pub alternative-half-open : (getD s (start + size + 1) 0 ≡ 62 → ⊥) → stray ≡ alternativeAt s a b
+  alternative-half-open h = rw (by-tests, ne-eqb _ _ h) (simp and-false)
+
+  width : start + size - start ≡ size
+  width = omega arith
+
+  pub alternative-high : all isAscii (take (start + size - start) (drop start s)) ≡ false → stray ≡ alternativeAt s a b
+  alternative-high h = rw (by-tests, rw width at h) (simp and-false)
+
+  pub alternative-there : all isAscii (take (b - a) (drop a s)) ≡ false → b < inner → getD s inner 0 ≡ 60 → 0 < size
+      → getD s (start + size) 0 ≡ 62 → getD s (start + size + 1) 0 ≡ 62 → all isAscii (take (start + size - start) (drop start s)) ≡ true
+      → front (Alternative start size) (start + size + 2) ≡ alternativeAt s a b
+  alternative-there f g o z c d n = rw (by-tests, f, lt-ltb _ _ g, eq-eqb _ _ o, lt-ltb 0 size z, eq-eqb _ _ c, eq-eqb _ _ d, rw width at n)
+
+module _ (s : List ℕ) (a b inner : ℕ) (qi : inner ≡ b + run blank (drop b s)) where
+  pub alternative-ascii : all isAscii (take (b - a) (drop a s)) ≡ true → stray ≡ alternativeAt s a b
+  alternative-ascii h = rw (by-tests s a b inner _ _ qi refl refl, h) (simp and-false)
+
+  pub alternative-close : inner ≡ b → stray ≡ alternativeAt s a b
+  alternative-close h = let k : inner ≤ b = omega arith in rw (by-tests s a b inner _ _ qi refl refl, le-ltb _ _ k)
+
+  pub alternative-no-bracket : (getD s inner 0 ≡ 60 → ⊥) → stray ≡ alternativeAt s a b
+  alternative-no-bracket h = rw (by-tests s a b inner _ _ qi refl refl, ne-eqb _ _ h) (simp and-false)
+
+-- ---- `<address>`
+
+module _ (s : List ℕ) (start size : ℕ) (qs : start ≡ 1 + run blank (drop 1 s)) (qz : size ≡ addressLen (drop start s)) where
+  pub angled-none : size ≡ 0 → stray ≡ angledAt s
+  unfolding angledAt
+  angled-none z = rw (← qs, ← qz, z)
+
+  pub angled-there : (size ≡ 0 → ⊥) → getD s (start + size) 0 ≡ 62 → front (Angled start size) (start + size + 1) ≡ angledAt s
+  unfolding angledAt
+  angled-there p h = rw (← qs, ← qz, ne-eqb _ _ p, eq-eqb _ _ h)
+
+  pub angled-more : (size ≡ 0 → ⊥) → (getD s (start + size) 0 ≡ 62 → ⊥) → alternativeAt s start (start + size) ≡ angledAt s
+  unfolding angledAt
+  angled-more p h = rw (← qs, ← qz, ne-eqb _ _ p, ne-eqb _ _ h)
+
+-- ---- a bare address, or a phrase
+
+module _ (s : List ℕ) (a : ℕ) (q : a ≡ addressLen (drop 0 s)) where
+  pub named-address : (a ≡ 0 → ⊥) → front Address a ≡ namedAt s
+  unfolding namedAt
+  named-address p = rw (← q, lt-ltb 0 a (omega arith))
+
+  module _ (z : a ≡ 0) (n : ℕ) (r : n ≡ phraseLen s) where
+    pub named-phrase : (n ≡ 0 → ⊥) → front Phrase n ≡ namedAt s
+    unfolding namedAt
+    named-phrase p = rw (← q, z, ← r, lt-ltb 0 n (omega arith))
+
+    pub named-none : n ≡ 0 → stray ≡ namedAt s
+    unfolding namedAt
+    named-none y = rw (← q, z, ← r, y)
+
+-- ---- the part at the front
+
+pub took-stray : {d : Front} {t : List ℕ} {r : Front} → r ≡ stray → stray ≡ d → 0 < length t → Took d t r
+took-stray q e h = record { is = q ∙ e; some = rw q (omega arith); within = rw q h; inner = rw q zero-le }
+
+pub took-as : {d e : Front} {t : List ℕ} {r : Front} → Took d t r → d ≡ e → Took e t r
+took-as w q = record { is = w .is ∙ q; some = w .some; within = w .within; inner = w .inner }
+
+pub took-mark : {d : Front} {t : List ℕ} {r : Front} (k : Kind) → innerEnd k ≡ 0 → r ≡ front k 1 → front k 1 ≡ d → 0 < length t → Took d t r
+took-mark k z q e h = record { is = q ∙ e; some = rw q (omega arith); within = rw q h; inner = rw (q, z) zero-le }
+
+module _ (t : List ℕ) where
+  pub part-blank : blank (getD t 0 0) ≡ true → front Blank 1 ≡ partAt t
+  unfolding partAt
+  part-blank h = rw h
+
+  module _ (n0 : blank (getD t 0 0) ≡ false) where
+    pub part-comma : getD t 0 0 ≡ 44 → front Comma 1 ≡ partAt t
+    unfolding partAt
+    part-comma h = rw (n0, eq-eqb _ _ h)
+
+    module _ (n1 : getD t 0 0 ≡ 44 → ⊥) where
+      pub part-colon : getD t 0 0 ≡ 58 → front Colon 1 ≡ partAt t
+      unfolding partAt
+      part-colon h = rw (n0, ne-eqb _ _ n1, eq-eqb _ _ h)
+
+      module _ (n2 : getD t 0 0 ≡ 58 → ⊥) where
+        pub part-semicolon : getD t 0 0 ≡ 59 → front Semicolon 1 ≡ partAt t
+        unfolding partAt
+        part-semicolon h = rw (n0, ne-eqb _ _ n1, ne-eqb _ _ n2, eq-eqb _ _ h)
+
+        module _ (n3 : getD t 0 0 ≡ 59 → ⊥) where
+          pub part-angled : getD t 0 0 ≡ 60 → angledAt t ≡ partAt t
+          unfolding partAt
+          part-angled h = rw (n0, ne-eqb _ _ n1, ne-eqb _ _ n2, ne-eqb _ _ n3, eq-eqb _ _ h)
+
+          pub part-named : (getD t 0 0 ≡ 60 → ⊥) → namedAt t ≡ partAt t
+          unfolding partAt
+          part-named h = rw (n0, ne-eqb _ _ n1, ne-eqb _ _ n2, ne-eqb _ _ n3, ne-eqb _ _ h)
+
+-- ---- the parts of a text
+
+-- the part at the front with its bytes
+abbrev pub partIn : Front → List ℕ → Part
+partIn f s = record { kind = f .kind; text = take (f .size) s }
+
+pub parts-skip : (k : ℕ) (s : List ℕ) → partsFrom k s ≡ partsFrom 0 (drop k s)
+unfolding partsFrom
+parts-skip zero s = refl
+parts-skip (suc k) [] = refl
+parts-skip (suc k) (b ∷ s) = parts-skip k s
+
+parts-front : (f : Front) (s : List ℕ) → f ≡ partAt s → 0 < f .size → 0 < length s → partsFrom 0 s ≡ partIn f s ∷ partsFrom 0 (drop (f .size) s)
+unfolding partsFrom
+parts-front f [] e p h = absurd (not-suc-le-zero {n = 0} (omega arith))
+parts-front f (b ∷ s) e p h =
+    let k : suc (pred (f .size)) ≡ f .size = omega arith in
+    rw (← e, parts-skip (pred (f .size)) s) (ap (λ (n : ℕ). partIn f (b ∷ s) ∷ partsFrom 0 (drop n (b ∷ s))) k)
+
+-- a turn of a walk over the parts
+pub parts-step : (s : List ℕ) (i : ℕ) (f : Front) → i < length s → TookFrom s i f → partsFrom 0 (drop i s) ≡ partIn f (drop i s) ∷ partsFrom 0 (drop (i + f .size) s)
+parts-step s i f h w = parts-front f (drop i s) (w .is) (w .some) (rw length-drop (omega arith)) ∙ rw drop-drop
+
+pub parts-end : (s : List ℕ) (i : ℕ) → length s ≤ i → partsFrom 0 (drop i s) ≡ []
+unfolding partsFrom
+parts-end s i h = rw (drop-of-length-le s {i = i} h)
+
+-- ---- the address in a part
+
+pub changes-angled : (t : List ℕ) (start size : ℕ) → not (all isAscii (take (start + size - start) (drop start t))) ≡ changes (Angled start size) t
+unfolding changes
+changes-angled t start size = let n : start + size - start ≡ size = omega arith in rw n

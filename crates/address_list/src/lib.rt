@@ -1,0 +1,50 @@
+// Address fields: the parts of a text, and whether it is a comma list of mailboxes or groups.
+mod list;
+mod part;
+mod word;
+
+pub use list::examine;
+pub use part::part_from;
+pub use word::blanks_end;
+pub use word::word_len;
+
+// A part of an address field's text.
+pub enum Kind {
+    Blank,
+    Comma,
+    Colon,
+    Semicolon,
+    Phrase,
+    Address,
+    // `<address>`: where the address starts in the part, and its length.
+    Angled(usize, usize),
+    // `<address <alternative>>`: the same of the alternative.
+    Alternative(usize, usize),
+    // A byte that no part begins with.
+    Stray,
+}
+
+// The part at the front of a text, with its length.
+pub struct Front {
+    pub kind: Kind,
+    pub size: usize,
+}
+
+// Where a walk over the parts stands.
+pub enum Place {
+    ItemDue,
+    ItemNamed,
+    ItemDone,
+    GroupOpen,
+    MemberDue,
+    MemberNamed,
+    MemberDone,
+    Unfit,
+}
+
+// Whether a text fits; and then whether each address is kept, or any is replaced or removed.
+pub enum Examined {
+    DoesNotFit,
+    Kept,
+    Changed,
+}

@@ -1,0 +1,142 @@
+// The parts of an address field's text.
+ghost use mathlib.Core.Path.{_≡_};
+ghost use Prim.Native.Nat.{_+_, _≤_, _<_};
+ghost use lib.ListN.{length, drop};
+ghost use Rattle.address_list.specs.Parts.{alternativeAt, angledAt, namedAt, partAt, stray};
+ghost use Rattle.address_list.specs.PartsLaws.{Took, TookFrom};
+use crate::Front;
+use crate::Kind;
+use crate::word::address_len;
+use crate::word::blanks_end;
+use crate::word::phrase_len;
+use line::byte_at;
+
+fn stray() -> Front
+    ensures { λ r. ⌜ r ≡ stray ⌝ }
+{
+    Front {
+        kind: Kind::Stray,
+        size: 1,
+    }
+}
+
+// `<address <alternative>>` at the front: its first address is from a to b.
+fn alternative(t: &[u8], a: usize, b: usize) -> Front
+    requires { ⌜ (a ≤ b) × ((b ≤ length (now t)) × (0 < length (now t))) ⌝ }
+    ensures { λ r. ⌜ Took (alternativeAt (now (t .entry)) a b) (now (t .entry)) r ⌝ }
+{
+    let inner = blanks_end(t, b);
+    if inner == b {
+        return stray();
+    }
+    if address::is_ascii(&t[a..b]) {
+        return stray();
+    }
+    if byte_at(t, inner) != b'<' {
+        return stray();
+    }
+    let start = blanks_end(t, inner + 1);
+    let size = address_len(t, start);
+    if size == 0 {
+        return stray();
+    }
+    let end = start + size;
+    if byte_at(t, end) != b'>' {
+        return stray();
+    }
+    if byte_at(t, end + 1) != b'>' {
+        return stray();
+    }
+    if address::is_ascii(&t[start..end]) {
+        return Front {
+            kind: Kind::Alternative(start, size),
+            size: end + 2,
+        };
+    }
+    stray()
+}
+
+// `<address>` at the front, or with an alternative.
+fn angled(t: &[u8]) -> Front
+    requires { ⌜ 0 < length (now t) ⌝ }
+    ensures { λ r. ⌜ Took (angledAt (now (t .entry))) (now (t .entry)) r ⌝ }
+{
+    let start = blanks_end(t, 1);
+    let size = address_len(t, start);
+    if size == 0 {
+        return stray();
+    }
+    let end = start + size;
+    if byte_at(t, end) == b'>' {
+        return Front {
+            kind: Kind::Angled(start, size),
+            size: end + 1,
+        };
+    }
+    alternative(t, start, end)
+}
+
+// A bare address at the front, or else a phrase.
+fn named(t: &[u8]) -> Front
+    requires { ⌜ 0 < length (now t) ⌝ }
+    ensures { λ r. ⌜ Took (namedAt (now (t .entry))) (now (t .entry)) r ⌝ }
+{
+    let address = address_len(t, 0);
+    if address != 0 {
+        return Front {
+            kind: Kind::Address,
+            size: address,
+        };
+    }
+    let phrase = phrase_len(t);
+    if phrase != 0 {
+        return Front {
+            kind: Kind::Phrase,
+            size: phrase,
+        };
+    }
+    stray()
+}
+
+fn mark(kind: Kind) -> Front
+    ensures { λ r. ⌜ r ≡ record { kind = kind; size = 1 } ⌝ }
+{
+    Front {
+        kind: kind,
+        size: 1,
+    }
+}
+
+// The part at the front.
+fn part_at(t: &[u8]) -> Front
+    requires { ⌜ 0 < length (now t) ⌝ }
+    ensures { λ r. ⌜ Took (partAt (now (t .entry))) (now (t .entry)) r ⌝ }
+{
+    let first = t[0];
+    if header::checking::is_blank(first) {
+        return mark(Kind::Blank);
+    }
+    if first == b',' {
+        return mark(Kind::Comma);
+    }
+    if first == b':' {
+        return mark(Kind::Colon);
+    }
+    if first == b';' {
+        return mark(Kind::Semicolon);
+    }
+    if first == b'<' {
+        return angled(t);
+    }
+    named(t)
+}
+
+// The part at a place of a text; past its end a stray byte.
+pub fn part_from(s: &[u8], at: usize) -> Front
+    ensures { λ r. ⌜ TookFrom (now (s .entry)) at r ⌝ }
+{
+    if s.len() <= at {
+        return stray();
+    }
+    part_at(&s[at..])
+}
