@@ -38,3 +38,9 @@ pub record Reached (whole rest : List ℕ) (at : ℕ) (before after : List ℕ) 
   pub text : List ℕ
   pub wrote : Appended text at before after next
   pub joins : whole ≡ text ++ rest
+
+-- The same for every place.
+pub record ReachedCapped (whole rest : List ℕ) (at : ℕ) (before after : List ℕ) (next : ℕ) : Type 0 where
+  pub text : List ℕ
+  pub wrote : AppendedCapped text at before after next
+  pub joins : whole ≡ text ++ rest

@@ -10,7 +10,7 @@ use lib.ListN.{length, take, drop, set, getD, length-drop, drop-of-length-le, le
 use lib.Dec.{leb}
 use borrow.Author.Tests.{leb-true, leb-false}
 use lib.Seq.{take-all, take-nil, drop-nil}
-use Rattle.buffer.specs.Buffer.{overlay, overlayAt, Wrote, Appended, AppendedCapped, greatest, Reached}
+use Rattle.buffer.specs.Buffer.{ReachedCapped, overlay, overlayAt, Wrote, Appended, AppendedCapped, greatest, Reached}
 
 -- ---- text over the front
 
@@ -235,3 +235,21 @@ length-reached g = length-appended (g .wrote)
 -- the place reached and what is left lie within the whole
 pub reached-within : {whole rest : List ℕ} {at : ℕ} {before after : List ℕ} {n : ℕ} → Reached whole rest at before after n → n + length rest ≡ at + length whole
 reached-within {whole} {rest} g = omega (arith, g .wrote .place, ap length (g .joins), length-append (g .text) rest)
+
+-- the same for every place
+pub capped-start : (whole : List ℕ) (at : ℕ) (before : List ℕ) → at ≤ greatest → ReachedCapped whole whole at before before at
+capped-start whole at before h = record { text = []; wrote = capped-none at before h; joins = refl }
+
+module _ {whole rest : List ℕ} {at : ℕ} {before mid : List ℕ} {n : ℕ} (g : ReachedCapped whole rest at before mid n) where
+  pub length-capped : length mid ≡ length before
+  length-capped = length-added (g .wrote)
+
+  pub capped-turn : {part left after : List ℕ} {m : ℕ} → rest ≡ part ++ left → AppendedCapped part n mid after m → length before ≤ greatest → ReachedCapped whole left at before after m
+  capped-turn {part} {left} e a h = record {
+    text = g .text ++ part;
+    wrote = capped-then (g .wrote) a h;
+    joins = g .joins ∙ rw e (sym (append-assoc (g .text) part left));
+  }
+
+  pub capped-end : rest ≡ [] → AppendedCapped whole at before mid n
+  capped-end e = rw (g .joins, e, append-nil) (g .wrote)

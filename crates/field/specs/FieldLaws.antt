@@ -5,7 +5,7 @@ use mathlib.Core.List.{List, [], _∷_}
 use Prim.Native.Nat.{ℕ, _+_, _*_, _≤_}
 use native.Mathlib.Omega.{arith}
 use lib.Dec.{leb, lit≤}
-use lib.ListN.{length, take, length-take}
+use lib.ListN.{length, take, length-take, length-append}
 use lib.Seq.{take-length, length-take-le}
 use mir.Facts.{leb-yes}
 use borrow.Author.Tests.{le-leb}
@@ -60,9 +60,14 @@ unfolding prefix bytes
 length-prefix true = lit≤ tt
 length-prefix false = lit≤ tt
 
-length-name : (field : List ℕ) → length (nameOf field) ≤ length field
+pub length-name : (field : List ℕ) → length (nameOf field) ≤ length field
 unfolding nameOf
 length-name field = omega (arith, length-take (nameLen field) field)
+
+pub length-encoded : (downgraded : Bool) (field : List ℕ) → length (rendered (encodedField downgraded field)) ≤ 29 + 19 * length field
+unfolding encodedField rendered
+length-encoded downgraded field =
+    simp length-append (omega (arith, length-prefix downgraded, length-row-le (textOf field), length-text field, length-name field))
 
 -- ---- the writing of a field, part by part
 

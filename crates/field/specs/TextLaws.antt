@@ -305,3 +305,17 @@ module _ (field : List ℕ) (n : ℕ) (e : n ≡ nameLen field) where
   pub words-value : {before after : List ℕ} {r : ℕ} → Wrote (row (trimmed (unfoldedAfter 0 (take (length field - 2 - (n + 1)) (drop (n + 1) field))))) before after r
       → Wrote (row (textOf field)) before after r
   words-value w = rw (value-of-part field n e, text-of-value field) at w
+
+-- ---- the text, as it is written
+
+pub text-unfolded : {value before after : List ℕ} {start n : ℕ} → TextStart value start → Wrote (unfoldedAfter 0 (take (length value - start) (drop start value))) before after n
+    → Wrote (trimmed (unfoldedAfter 0 value)) before after n
+text-unfolded t w = rw (text-folded t) w
+
+module _ (field : List ℕ) (n : ℕ) (e : n ≡ nameLen field) where
+  pub text-empty : (before : List ℕ) → length field < n + 3 → Wrote (textOf field) before before 0
+  text-empty before k = rw (text-none field n e k) (wrote-nothing before)
+
+  pub text-value : {before after : List ℕ} {r : ℕ} → Wrote (trimmed (unfoldedAfter 0 (take (length field - 2 - (n + 1)) (drop (n + 1) field)))) before after r
+      → Wrote (textOf field) before after r
+  text-value w = rw (value-of-part field n e, text-of-value field) at w

@@ -16,7 +16,7 @@ ghost use Rattle.field.specs.Field.{prefix, encodedField, boundedField};
 const LIMIT: usize = 32768;
 
 // How many bytes of a field of n bytes count.
-fn bounded_len(n: usize) -> usize
+pub fn bounded_len(n: usize) -> usize
     ensures { λ r. ⌜ r ≡ cond (leb n 32768) n 0 ⌝ }
 {
     if n <= LIMIT { n } else { 0 }
@@ -30,7 +30,15 @@ pub fn put_words(out: &mut [u8], field: &[u8]) -> usize
     text::put_words(out, &field[..end])
 }
 
-// The same from a place on.
+// Writes a field's text to the front of out, as far as it fits; answers the length of all of it.
+pub fn put_text(out: &mut [u8], field: &[u8]) -> usize
+    ensures { λ r. ⌜ Wrote (textOf (boundedField (now (field .entry)))) (now (out .entry)) (now (out .exit)) r ⌝ }
+{
+    let end = bounded_len(field.len());
+    text::put_text(out, &field[..end])
+}
+
+// The encoded words from a place on.
 fn add_words(out: &mut [u8], at: usize, field: &[u8]) -> usize
     requires { ⌜ length (now field) ≤ 32768 ⌝ }
     ensures { λ r. ⌜ AppendedCapped (row (textOf (now (field .entry)))) at (now (out .entry)) (now (out .exit)) r ⌝ }

@@ -127,3 +127,25 @@ pub(crate) fn put_words(out: &mut [u8], field: &[u8]) -> usize
     let to = field.len() - 2;
     put_value_words(out, &field[from..to])
 }
+
+// Writes the text of a value.
+fn put_value_text(out: &mut [u8], value: &[u8]) -> usize
+    ensures { λ r. ⌜ Wrote (trimmed (unfoldedAfter 0 (now (value .entry)))) (now (out .entry)) (now (out .exit)) r ⌝ }
+{
+    let start = text_start(value);
+    put_unfolded(out, &value[start..])
+}
+
+// Writes the text of a field.
+pub(crate) fn put_text(out: &mut [u8], field: &[u8]) -> usize
+    requires { ⌜ length (now field) ≤ 32768 ⌝ }
+    ensures { λ r. ⌜ Wrote (textOf (now (field .entry))) (now (out .entry)) (now (out .exit)) r ⌝ }
+{
+    let n = header::checking::name_len(field);
+    if field.len() < n + 3 {
+        return 0;
+    }
+    let from = n + 1;
+    let to = field.len() - 2;
+    put_value_text(out, &field[from..to])
+}

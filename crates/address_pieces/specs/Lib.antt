@@ -1,0 +1,5 @@
+pub mod Pieces
+pub mod PiecesLaws
+pub mod AddressField
+pub mod LengthLaws
+pub mod WritingLaws
