@@ -9,6 +9,7 @@ use lib.Dec.{ltb, leb, eqb}
 use borrow.Author.Tests.{lt-ltb, le-leb, lt-leb, eq-eqb, ne-eqb}
 use lib.ListN.{length, drop, getD, drop-of-length-le, length-drop}
 use lib.Seq.{drop-drop}
+use Rattle.utf8.specs.Lists.{cond-has}
 use Rattle.utf8.specs.Run.{run, run-le}
 use Rattle.header.specs.Lines.{blank}
 use Rattle.address.specs.declared.Scan.{Scan}
@@ -104,7 +105,7 @@ passed zero s h = omega arith
 passed (suc k) [] h = absurd (not-suc-le-zero h)
 passed (suc k) (b ∷ s) h = omega (arith, passed k s (omega arith))
 
-words-front : (n : ℕ) (s : List ℕ) → n ≡ nextWordLen s → 0 < n → n ≤ length s → nextWordsLen 0 s ≡ n + nextWordsLen 0 (drop n s)
+pub words-front : (n : ℕ) (s : List ℕ) → n ≡ nextWordLen s → 0 < n → n ≤ length s → nextWordsLen 0 s ≡ n + nextWordsLen 0 (drop n s)
 unfolding nextWordsLen
 words-front n [] q p h = absurd (not-suc-le-zero {n = 0} (omega arith))
 words-front zero (b ∷ s) q p h = absurd (not-suc-le-zero p)
@@ -137,3 +138,30 @@ module _ (s : List ℕ) (w : ℕ) (q : w ≡ wordLen (drop 0 s)) where
   pub phrase-some : (w ≡ 0 → ⊥) → phraseLen s ≡ w + nextWordsLen 0 (drop w s)
   unfolding phraseLen
   phrase-some p = rw (← q, lt-ltb 0 w (omega arith))
+
+-- ---- lengths within the text
+
+found-le : {least : ℕ} {s : List ℕ} (r : Scan) → Taken (suc least) s r → found r ≤ length s
+found-le (To n) t = t .covers .within
+found-le (Stop n) t = omega arith
+
+word-le : (s : List ℕ) → wordLen s ≤ length s
+unfolding wordLen
+word-le s =
+    let quoted = found-le (quotedScan s) (taken-quoted s) in
+    let plain = run-le isWordByte s in
+    capped-le refl (cond-has (λ n. n ≤ length s) (eqb (getD s 0 0) 34) (found (quotedScan s)) (run isWordByte s) (λ t. quoted) (λ t. plain))
+
+pub next-word-le : (s : List ℕ) → nextWordLen s ≤ length s
+unfolding nextWordLen
+next-word-le s =
+    let gap : ℕ = run blank s in
+    let word : ℕ = wordLen (drop gap s) in
+    let within : gap + word ≤ length s = omega (arith, run-le blank s, word-le (drop gap s), length-drop gap s) in
+    cond-has (λ n. n ≤ length s) (ltb 0 gap && ltb 0 word) (gap + word) 0 (λ t. within) (λ t. omega arith)
+
+-- no word follows
+pub words-none : (s : List ℕ) → nextWordLen s ≤ 0 → nextWordsLen 0 s ≡ 0
+unfolding nextWordsLen
+words-none [] h = refl
+words-none (b ∷ s) h = let none : nextWordLen (b ∷ s) ≡ 0 = omega arith in rw none

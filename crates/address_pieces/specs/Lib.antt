@@ -3,3 +3,5 @@ pub mod PiecesLaws
 pub mod AddressField
 pub mod LengthLaws
 pub mod WritingLaws
+pub mod SoundLaws
+pub mod AddressFieldLaws

@@ -30,7 +30,7 @@ name-byte-ascii : (b : ℕ) → T (nameByte b) → T (isAscii b)
 unfolding nameByte
 name-byte-ascii b t = lt→ltb b 128 (omega (arith, within-high 33 126 b (and-yes (within 33 126 b) _ t .0)))
 
-name-ascii : (field : List ℕ) → T (all isAscii (nameOf field))
+pub name-ascii : (field : List ℕ) → T (all isAscii (nameOf field))
 unfolding nameOf nameLen
 name-ascii field = all-weaken nameByte isAscii name-byte-ascii (nameOf field) (run-all nameByte field)
 
