@@ -14,10 +14,7 @@ static CLASS: [u8; 256] = {
     while b < 256 {
         let c = b as u8;
         let atext = c.is_ascii_alphanumeric()
-            || matches!(
-                c,
-                b'!' | b'#' | b'$' | b'%' | b'&' | b'\'' | b'*' | b'+' | b'-' | b'/' | b'=' | b'?' | b'^'
-            )
+            || matches!(c, b'!' | b'#' | b'$' | b'%' | b'&' | b'\'' | b'*' | b'+' | b'-' | b'/' | b'=' | b'?' | b'^')
             || matches!(c, b'_' | b'`' | b'{' | b'|' | b'}' | b'~');
         // "Atoms are RFC 5322 atext or non-ASCII characters."
         if atext || c >= 128 {

@@ -26,12 +26,7 @@ fn refuse(number: u32, place: usize) -> Answer {
 /// "Order: 1 (envelope first); then 2, 3 and 4 as the first envelope line at fault, the lowest number within one
 /// line; then the first 5; then 6, ORCPT lines before header fields (a field's place is its first line); then 7;
 /// then 8."
-pub fn downgrade(
-    envelope: &[u8],
-    header: &[u8],
-    envelope_buffer: &mut [u8],
-    header_buffer: &mut [u8],
-) -> Answer {
+pub fn downgrade(envelope: &[u8], header: &[u8], envelope_buffer: &mut [u8], header_buffer: &mut [u8]) -> Answer {
     if envelope.len() > LONGEST_ENVELOPE {
         return refuse(1, 0);
     }
@@ -45,48 +40,51 @@ pub fn downgrade(
     if let Err(line) = header::check(header) {
         return refuse(5, line);
     }
-    if let Some(line) = envelope.held.or_else(|| header::first_held(header)) {
+    if let Some(line) = envelope.held {
         return refuse(6, line);
     }
+    // Both outputs are counted before a byte is written.
     let mut scratch = Vec::new();
+    let mut header_count = Counter::default();
+    if let Err(start) = write_header(&mut header_count, &envelope, header, &mut scratch) {
+        return refuse(6, header::line_number(header, start));
+    }
     let mut envelope_count = Counter::default();
     envelope.write(&mut envelope_count);
     if envelope_count.len > envelope_buffer.len() {
         return refuse(7, envelope_count.len);
     }
-    let mut header_count = Counter::default();
-    write_header(&mut header_count, &envelope, header, &mut scratch);
     if header_count.len > header_buffer.len() {
         return refuse(8, header_count.len);
     }
     envelope.write(&mut Writer { buffer: envelope_buffer, at: 0 });
-    write_header(&mut Writer { buffer: header_buffer, at: 0 }, &envelope, header, &mut scratch);
+    // The count met no held name.
+    let _ = write_header(&mut Writer { buffer: header_buffer, at: 0 }, &envelope, header, &mut scratch);
     Answer { number: 0, place: 0, envelope_len: envelope_count.len, header_len: header_count.len }
 }
 
-/// The new first fields, then each field downgraded. "A field whose value is ASCII is copied."
-fn write_header(sink: &mut impl Sink, envelope: &Envelope, header: &[u8], scratch: &mut Vec<u8>) {
+/// The new first fields, then each field downgraded. "A field whose value is ASCII is copied." Stops where a held
+/// name carries non-ASCII, with the place of that field.
+fn write_header(sink: &mut impl Sink, envelope: &Envelope, header: &[u8], scratch: &mut Vec<u8>) -> Result<(), usize> {
     envelope.first_fields(sink);
     let mut done = 0;
     while let Some(field) = header::next_non_ascii(header, done) {
         sink.put(&header[done..field.start]);
-        write_field(sink, &field, scratch);
+        match header::kind(field.name) {
+            Kind::Address => write_address_field(sink, &field, scratch),
+            // "Plain text: name, colon, encoded words of the text."
+            Kind::Plain => {
+                sink.put(field.name);
+                write_words(sink, &field);
+            }
+            Kind::Held => return Err(field.start),
+            // "Every other name is encapsulated"
+            Kind::Other => encapsulate(sink, &field),
+        }
         done = field.end;
     }
     sink.put(&header[done..]);
-}
-
-fn write_field(sink: &mut impl Sink, field: &Field, scratch: &mut Vec<u8>) {
-    match header::kind(field.name) {
-        Kind::Address => write_address_field(sink, field, scratch),
-        // "Plain text: name, colon, encoded words of the text."
-        Kind::Plain => {
-            sink.put(field.name);
-            write_words(sink, field);
-        }
-        // "Every other name is encapsulated"
-        Kind::Other | Kind::Held => encapsulate(sink, field),
-    }
+    Ok(())
 }
 
 /// "`Downgraded-` before the name, colon, encoded words of the text"

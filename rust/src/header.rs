@@ -16,7 +16,7 @@ pub enum Kind {
 }
 
 /// The named fields.
-const NAMES: [(&str, Kind); 32] = [
+static NAMES: [(&str, Kind); 32] = [
     ("From", Kind::Address),
     ("Sender", Kind::Address),
     ("Reply-To", Kind::Address),
@@ -53,9 +53,9 @@ const NAMES: [(&str, Kind); 32] = [
 
 /// "Names compare without regard to letter case"
 pub fn kind(name: &[u8]) -> Kind {
-    for (known, kind) in NAMES {
-        if name.eq_ignore_ascii_case(known.as_bytes()) {
-            return kind;
+    for (known, kind) in &NAMES {
+        if name.len() == known.len() && name.eq_ignore_ascii_case(known.as_bytes()) {
+            return *kind;
         }
     }
     Kind::Other
@@ -69,8 +69,11 @@ pub fn check(header: &[u8]) -> Result<(), usize> {
     let mut number = 0;
     let mut start = 0;
     while start < header.len() {
-        // The first CR, LF or NUL has to be the CR of a CRLF.
-        let end = find(header, start, |b| (b == b'\r') | (b == b'\n') | (b == 0));
+        // The first CR, LF or NUL has to be the CR of a CRLF. No other byte up to CR ends a line.
+        let mut end = find(header, start, |b| b <= b'\r');
+        while end < header.len() && !matches!(header[end], b'\r' | b'\n' | 0) {
+            end = find(header, end + 1, |b| b <= b'\r');
+        }
         let ended = header.get(end) == Some(&b'\r') && header.get(end + 1) == Some(&b'\n');
         let len = end - start;
         if !ended || len == 0 || len > LINE || end > good {
@@ -137,16 +140,9 @@ pub fn next_non_ascii(header: &[u8], from: usize) -> Option<Field<'_>> {
     Some(Field { start, end, name: &header[start..colon], value: &header[colon + 1..end - 2] })
 }
 
-/// The first line of the first field with a held name that carries non-ASCII.
-pub fn first_held(header: &[u8]) -> Option<usize> {
-    let mut from = 0;
-    while let Some(field) = next_non_ascii(header, from) {
-        if kind(field.name) == Kind::Held {
-            return Some(header[..field.start].iter().filter(|&&b| b == b'\n').count());
-        }
-        from = field.end;
-    }
-    None
+/// The number of the line that begins at `start`.
+pub fn line_number(header: &[u8], start: usize) -> usize {
+    header[..start].iter().filter(|&&b| b == b'\n').count()
 }
 
 impl<'a> Field<'a> {

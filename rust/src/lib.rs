@@ -5,6 +5,8 @@ pub mod address;
 pub mod address_list;
 pub mod call;
 pub mod envelope;
+#[cfg(feature = "proved")]
+pub mod generate;
 pub mod header;
 #[cfg(feature = "proved")]
 pub mod proved;

@@ -24,12 +24,7 @@ extern "C" {
     ) -> ProvedAnswer;
 }
 
-pub fn downgrade(
-    envelope: &[u8],
-    header: &[u8],
-    envelope_buffer: &mut [u8],
-    header_buffer: &mut [u8],
-) -> Answer {
+pub fn downgrade(envelope: &[u8], header: &[u8], envelope_buffer: &mut [u8], header_buffer: &mut [u8]) -> Answer {
     // SAFETY: each pointer comes from a slice with its length; the two buffers are apart from all others.
     let answer = unsafe {
         hennelaku_downgrade_slices(

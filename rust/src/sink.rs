@@ -1,5 +1,7 @@
 //! Where output goes: counted first, then written.
 
+use crate::words::{SIZE, SPELLING};
+
 pub trait Sink {
     fn put(&mut self, bytes: &[u8]);
     /// Whole characters in the spelling of encoded words; they take `size` bytes.
@@ -37,27 +39,16 @@ impl Sink for Writer<'_> {
         self.at += bytes.len();
     }
 
+    /// Stores four bytes for each. Those past a byte's spelling are written over by what follows: at least the
+    /// word's `?=` and the field's CRLF, so that the buffer is long enough for them too.
     #[inline]
     fn spell(&mut self, characters: &[u8], size: usize) {
-        let mut rest = &mut self.buffer[self.at..self.at + size];
+        let out = &mut self.buffer[self.at..self.at + size + 3];
+        let mut at = 0;
         for &b in characters {
-            if crate::words::COST[b as usize] == 1 {
-                rest[0] = if b == b' ' { b'_' } else { b };
-                rest = &mut rest[1..];
-            } else {
-                rest[..3].copy_from_slice(&[b'=', hex(b >> 4), hex(b & 15)]);
-                rest = &mut rest[3..];
-            }
+            out[at..at + 4].copy_from_slice(&SPELLING[b as usize]);
+            at += SIZE[b as usize] as usize;
         }
         self.at += size;
-    }
-}
-
-#[inline]
-fn hex(value: u8) -> u8 {
-    if value < 10 {
-        b'0' + value
-    } else {
-        b'A' + value - 10
     }
 }

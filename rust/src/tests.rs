@@ -123,8 +123,7 @@ fn subject_words(text: &str) -> Vec<String> {
 
 // Checked examples
 
-const WHOLE_ENVELOPE: &str =
-    "MAIL FROM:<é@example.org> ALT-ADDRESS=e+2Bx@example.org\r\nRCPT TO:<b@example.net>\r\n";
+const WHOLE_ENVELOPE: &str = "MAIL FROM:<é@example.org> ALT-ADDRESS=e+2Bx@example.org\r\nRCPT TO:<b@example.net>\r\n";
 const WHOLE_HEADER: &str = "Subject: é\r\nX-Note: ok\r\n";
 
 #[test]
@@ -151,12 +150,7 @@ fn buffers_of_just_the_length() {
     ] {
         let mut envelope_buffer = vec![0xEE; envelope_room];
         let mut header_buffer = vec![0xEE; header_room];
-        let a = downgrade(
-            WHOLE_ENVELOPE.as_bytes(),
-            WHOLE_HEADER.as_bytes(),
-            &mut envelope_buffer,
-            &mut header_buffer,
-        );
+        let a = downgrade(WHOLE_ENVELOPE.as_bytes(), WHOLE_HEADER.as_bytes(), &mut envelope_buffer, &mut header_buffer);
         assert_eq!((a.number, a.place, a.envelope_len, a.header_len), want);
         if a.number != 0 {
             assert!(envelope_buffer.iter().chain(&header_buffer).all(|&b| b == 0xEE));
@@ -383,7 +377,9 @@ fn bad_utf8_in_an_envelope() {
         b"\xF5\x80\x80\x80",
         b"\xFF",
     ] {
-        for (before, after) in [(&b"RCPT TO:<"[..], &b"@y> ALT-ADDRESS=a@x\r\n"[..]), (b"RCPT TO:<b@y> ORCPT=", b"\r\n")] {
+        for (before, after) in
+            [(&b"RCPT TO:<"[..], &b"@y> ALT-ADDRESS=a@x\r\n"[..]), (b"RCPT TO:<b@y> ORCPT=", b"\r\n")]
+        {
             let line = [MAIL.as_bytes(), before, bad, after].concat();
             assert_eq!(answer(&line, b""), (2, 1), "{bad:?}");
         }
@@ -430,7 +426,8 @@ fn alternatives() {
 #[test]
 fn envelope_written() {
     let (_, envelope, header) = call(
-        "mail From:<é@x> BODY=8BITMIME Alt-Address=\"a+20b\"@x SIZE=5\r\nRCPT TO:<á@y> alt-address=c@y X\r\n".as_bytes(),
+        "mail From:<é@x> BODY=8BITMIME Alt-Address=\"a+20b\"@x SIZE=5\r\nRCPT TO:<á@y> alt-address=c@y X\r\n"
+            .as_bytes(),
         b"A: b\r\n",
     );
     assert_eq!(envelope, "mail From:<\"a b\"@x> BODY=8BITMIME SIZE=5\r\nRCPT TO:<c@y> X\r\n");
@@ -440,10 +437,8 @@ fn envelope_written() {
          Downgraded-Rcpt-To:\r\n =?UTF-8?Q?=3C=C3=A1=40y_=3Cc=40y=3E=3E?=\r\nA: b\r\n"
     );
     // Two RCPT lines: no Downgraded-Rcpt-To, also for the same recipient.
-    let (_, envelope, header) = call(
-        "MAIL FROM:<>\r\nRCPT TO:<á@y> ALT-ADDRESS=c@y\r\nRCPT TO:<á@y> ALT-ADDRESS=c@y\r\n".as_bytes(),
-        b"",
-    );
+    let (_, envelope, header) =
+        call("MAIL FROM:<>\r\nRCPT TO:<á@y> ALT-ADDRESS=c@y\r\nRCPT TO:<á@y> ALT-ADDRESS=c@y\r\n".as_bytes(), b"");
     assert_eq!(envelope, "MAIL FROM:<>\r\nRCPT TO:<c@y>\r\nRCPT TO:<c@y>\r\n");
     assert_eq!(header, "");
 }
@@ -497,9 +492,21 @@ fn ascii_values_are_copied() {
 #[test]
 fn every_name() {
     let held = [
-        "Received", "Date", "Resent-Date", "Message-ID", "Resent-Message-ID", "In-Reply-To", "References",
-        "MIME-Version", "Content-Type", "Content-ID", "Content-Disposition", "Content-Transfer-Encoding",
-        "Original-Recipient", "Final-Recipient", "Keywords",
+        "Received",
+        "Date",
+        "Resent-Date",
+        "Message-ID",
+        "Resent-Message-ID",
+        "In-Reply-To",
+        "References",
+        "MIME-Version",
+        "Content-Type",
+        "Content-ID",
+        "Content-Disposition",
+        "Content-Transfer-Encoding",
+        "Original-Recipient",
+        "Final-Recipient",
+        "Keywords",
     ];
     let address = ["From", "Sender", "Reply-To", "To", "Cc", "Bcc"];
     let mut addresses: Vec<String> = address.iter().map(|name| name.to_string()).collect();
@@ -520,7 +527,8 @@ fn every_name() {
     for name in ["Subject", "Comments", "Content-Description"].iter().flat_map(|name| cases(name)) {
         assert_eq!(out(&format!("{name}: é\r\n")), format!("{name}:\r\n =?UTF-8?Q?=C3=A9?=\r\n"));
     }
-    for name in ["X", "Downgraded-X", "Content-Language", "Subjec", "Subject-", "Resent-Subject", "Resent-Return-Path"] {
+    for name in ["X", "Downgraded-X", "Content-Language", "Subjec", "Subject-", "Resent-Subject", "Resent-Return-Path"]
+    {
         assert_eq!(out(&format!("{name}: é\r\n")), format!("Downgraded-{name}:\r\n =?UTF-8?Q?=C3=A9?=\r\n"));
     }
 }
@@ -529,7 +537,10 @@ fn every_name() {
 fn text_of_a_field() {
     assert_eq!(subject_words("=?UTF-8?Q?=C3=A9?= é")[0], "=?UTF-8?Q?=3D=3FUTF-8=3FQ=3F=3DC3=3DA9=3F=3D_=C3=A9?=");
     assert_eq!(out("Subject:\r\n \t\r\n\té \r\n \tx\t\r\n"), "Subject:\r\n =?UTF-8?Q?=C3=A9__=09x=09?=\r\n");
-    assert_eq!(out("To:\r\n \t\r\n\té\r\n <a@x>\r\n\t,\r\n b@y\r\n \r\n"), "To:\r\n =?UTF-8?Q?=C3=A9?=\r\n <a@x>,\r\n b@y\r\n");
+    assert_eq!(
+        out("To:\r\n \t\r\n\té\r\n <a@x>\r\n\t,\r\n b@y\r\n \r\n"),
+        "To:\r\n =?UTF-8?Q?=C3=A9?=\r\n <a@x>,\r\n b@y\r\n"
+    );
     // A fold inside a quoted string leaves its space; a TAB makes it none.
     fits("\"a\r\n é\" <b@x>", &["=?UTF-8?Q?a_=C3=A9?=", "<b@x>"]);
     unfit("\"a\r\n\té\" <b@x>");
@@ -561,8 +572,17 @@ fn mailboxes_that_fit() {
     fits("< é@x \t< a@x>>", &["<a@x>"]);
     fits("b c. \"d\" <é@x <\"a b\"@[1]>>", &["b", "c.", "\"d\"", "<\"a b\"@[1]>"]);
     fits("a@x, é@x", &["a@x,", "Internationalized Address", "=?UTF-8?Q?=C3=A9=40x?=", "Removed:;"]);
-    fits("é@x ,<é@x>\t", &["Internationalized Address", "=?UTF-8?Q?=C3=A9=40x?=", "Removed:;,",
-        "Internationalized Address", "=?UTF-8?Q?=C3=A9=40x?=", "Removed:;"]);
+    fits(
+        "é@x ,<é@x>\t",
+        &[
+            "Internationalized Address",
+            "=?UTF-8?Q?=C3=A9=40x?=",
+            "Removed:;,",
+            "Internationalized Address",
+            "=?UTF-8?Q?=C3=A9=40x?=",
+            "Removed:;",
+        ],
+    );
     fits("b <é@x>", &["b", "Internationalized Address", "=?UTF-8?Q?=C3=A9=40x?=", "Removed:;"]);
     fits("a \"é \\\"\\\\\\b\"\t \"\" c <a@x>", &["=?UTF-8?Q?a_=C3=A9_=22=5Cb__c?=", "<a@x>"]);
     fits("... <é@x <a@x>>", &["...", "<a@x>"]);
@@ -582,7 +602,10 @@ fn groups_that_fit() {
 
 #[test]
 fn the_copy_follows_a_replaced_address() {
-    assert_eq!(lines("Cc: é <é@x \t<a@x>>\r\n")[3..], ["Downgraded-Cc:", "=?UTF-8?Q?=C3=A9_=3C=C3=A9=40x_=09=3Ca=40x=3E=3E?="]);
+    assert_eq!(
+        lines("Cc: é <é@x \t<a@x>>\r\n")[3..],
+        ["Downgraded-Cc:", "=?UTF-8?Q?=C3=A9_=3C=C3=A9=40x_=09=3Ca=40x=3E=3E?="]
+    );
     assert_eq!(lines("Cc: é <a@x>\r\n").len(), 3);
     assert_eq!(lines("cC: é <a@x>, é@y \r\n").last().unwrap(), "=?UTF-8?Q?=C3=A9_=3Ca=40x=3E=2C_=C3=A9=40y_?=");
 }
@@ -590,14 +613,76 @@ fn the_copy_follows_a_replaced_address() {
 #[test]
 fn texts_that_do_not_fit() {
     for text in [
-        "é", "é,", ",é@x", "é@x,", "é@x,,a@x", "é@x, ,a@x", "é@x a@x", "é@x;", "é@x:", "é@x <a@x>", "é a@x", "a@x é",
-        "é <a@x >", "é <a@x> x", "é <a@x", "é <>", "é < >", "é <a>", "é <a@x>>", "é <<a@x>>", "é <a@x<b@x>>",
-        "<é@x<a@x>>", "<é@x <a@x> >", "<é@x <a@x >>", "<é@x <á@x>>", "<a@x <b@x>>, é@x", "<é@x <a@x> <b@x>>",
-        "<é@x a@x>", "<é@x <a@x>", "<é@x <>>", "é:", "é:a@x", "é:,;", "é:a@x,;", "é:,a@x;", "é:a@x;;", "é:a@x;b@x",
-        "é:;b@x", "é:a@x:;", "é:b:;;", "é:b:c@x;;", ":;é@x", "é:(c);", "é (c) <a@x>", "(é) a@x", "é\"b\" <a@x>", "\"é\"b <a@x>",
-        "\"é\"\"b\" <a@x>", "\"é <a@x>", "\"\\é\" <a@x>", "\"\u{7f}é\" <a@x>", "é \u{7f} <a@x>", "é [b] <a@x>",
-        "é ) <a@x>", "é..@x", "é.@x", ".é@x", "é@x.", "é@", "@x,é@x", "é@[é]", "é@[\\]", "\"é\"@", "é b@x", "é <a@x>,b", "é <@b:a@x>",
-        "é <a@x>\t<a@x>", "é : <a@x> : ;", ";é@x", "é@x, g : ; ;",
+        "é",
+        "é,",
+        ",é@x",
+        "é@x,",
+        "é@x,,a@x",
+        "é@x, ,a@x",
+        "é@x a@x",
+        "é@x;",
+        "é@x:",
+        "é@x <a@x>",
+        "é a@x",
+        "a@x é",
+        "é <a@x >",
+        "é <a@x> x",
+        "é <a@x",
+        "é <>",
+        "é < >",
+        "é <a>",
+        "é <a@x>>",
+        "é <<a@x>>",
+        "é <a@x<b@x>>",
+        "<é@x<a@x>>",
+        "<é@x <a@x> >",
+        "<é@x <a@x >>",
+        "<é@x <á@x>>",
+        "<a@x <b@x>>, é@x",
+        "<é@x <a@x> <b@x>>",
+        "<é@x a@x>",
+        "<é@x <a@x>",
+        "<é@x <>>",
+        "é:",
+        "é:a@x",
+        "é:,;",
+        "é:a@x,;",
+        "é:,a@x;",
+        "é:a@x;;",
+        "é:a@x;b@x",
+        "é:;b@x",
+        "é:a@x:;",
+        "é:b:;;",
+        "é:b:c@x;;",
+        ":;é@x",
+        "é:(c);",
+        "é (c) <a@x>",
+        "(é) a@x",
+        "é\"b\" <a@x>",
+        "\"é\"b <a@x>",
+        "\"é\"\"b\" <a@x>",
+        "\"é <a@x>",
+        "\"\\é\" <a@x>",
+        "\"\u{7f}é\" <a@x>",
+        "é \u{7f} <a@x>",
+        "é [b] <a@x>",
+        "é ) <a@x>",
+        "é..@x",
+        "é.@x",
+        ".é@x",
+        "é@x.",
+        "é@",
+        "@x,é@x",
+        "é@[é]",
+        "é@[\\]",
+        "\"é\"@",
+        "é b@x",
+        "é <a@x>,b",
+        "é <@b:a@x>",
+        "é <a@x>\t<a@x>",
+        "é : <a@x> : ;",
+        ";é@x",
+        "é@x, g : ; ;",
     ] {
         unfit(text);
     }

@@ -1,7 +1,7 @@
 //! Characters: "UTF-8 is that of RFC 3629".
 
 /// "A character is 1 to 4 bytes; past ASCII its length is the number of leading one bits of its first byte."
-pub fn char_len(first: u8) -> usize {
+pub const fn char_len(first: u8) -> usize {
     if first < 128 {
         1
     } else {
