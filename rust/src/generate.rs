@@ -886,7 +886,7 @@ pub fn header(r: &mut Random) -> Vec<u8> {
                 out.extend_from_slice(b"\tand more\r\n");
             }
         }
-        let held = r.once_in(25);
+        let held = r.once_in(14);
         field(r, &mut out, held);
     }
     if r.once_in(60) {

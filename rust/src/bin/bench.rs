@@ -1,4 +1,6 @@
 //! Times the proved call beside the model, in one process.
+//!
+//!     bench [PART OF A LABEL]
 
 use hennelaku_model::{downgrade, proved, Answer};
 use std::hint::black_box;
@@ -92,6 +94,9 @@ fn time(call: Call, header: &[u8], buffers: &mut Buffers, times: u32) -> f64 {
 
 /// The best of several rounds, the two by turns.
 fn compare(label: &str, header: &[u8]) {
+    if !label.contains(&std::env::args().nth(1).unwrap_or_default()) {
+        return;
+    }
     let mut buffers = Buffers { envelope: vec![0; 1000], header: vec![0; 600_000] };
     let mut again = Buffers { envelope: vec![0; 1000], header: vec![0; 600_000] };
     let model = downgrade(ENVELOPE.as_bytes(), header, &mut buffers.envelope, &mut buffers.header);
