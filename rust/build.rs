@@ -14,7 +14,8 @@ fn main() {
     };
     let library = folder.join("libhennelaku.a");
     if !library.exists() {
-        panic!("{} is missing: run `make lib`, or set HENNELAKU_LIB_DIR", library.display());
+        eprintln!("{} is missing: run `make lib`, or set HENNELAKU_LIB_DIR", library.display());
+        std::process::exit(1);
     }
     println!("cargo:rerun-if-changed={}", library.display());
     println!("cargo:rustc-link-search=native={}", folder.display());

@@ -49,41 +49,8 @@ pub fn check(bytes: &[u8]) -> Result<Envelope<'_>, Refusal> {
     let mut envelope = Envelope { bytes, lines: 0, swaps: [Swap::default(); LINES], swapped: 0, held: None };
     let mut start = 0;
     while start < bytes.len() {
-        let number = envelope.lines;
-        let refusal = |number, line| Refusal { number, line };
-        // "each ended by CRLF": a CR without LF, and a last line without CRLF, are malformed.
-        let end = find(bytes, start, |b| b == b'\r');
-        if bytes.get(end + 1) != Some(&b'\n') {
-            return Err(refusal(2, number));
-        }
-        let line = &bytes[start..end];
-        let parts = line_parts(line, number).ok_or(refusal(2, number))?;
-        let path = &line[parts.path..parts.path_end];
-        match parts.alternative {
-            // 3: "path not ASCII, no ALT-ADDRESS"
-            None if !path.is_ascii() => return Err(refusal(3, number)),
-            None => {}
-            // 4: "ALT-ADDRESS beside an ASCII path, or not xtext of an ASCII address"
-            Some((_, value, end)) if path.is_ascii() || !is_alternative(&line[value..end]) => {
-                return Err(refusal(4, number));
-            }
-            Some((parameter, value, value_end)) => {
-                envelope.swaps[envelope.swapped] = Swap {
-                    line: number,
-                    path: start + parts.path,
-                    path_end: start + parts.path_end,
-                    parameter: start + parameter,
-                    value: start + value,
-                    value_end: start + value_end,
-                };
-                envelope.swapped += 1;
-            }
-        }
-        if parts.held && envelope.held.is_none() {
-            envelope.held = Some(number);
-        }
-        envelope.lines += 1;
-        start = end + 2;
+        let line = envelope.lines;
+        start = envelope.take_line(start).map_err(|number| Refusal { number, line })?;
     }
     // "A missing line is malformed at its number, so an empty envelope is 2 at line 0"
     if envelope.lines < 2 {
@@ -174,6 +141,42 @@ fn parameter(line: &[u8], space: usize, parts: &mut Line) -> Option<usize> {
 }
 
 impl Envelope<'_> {
+    /// Checks the line that begins at `start` and notes what the call needs of it: where the next line begins, or the
+    /// number of the refusal.
+    fn take_line(&mut self, start: usize) -> Result<usize, u32> {
+        // "each ended by CRLF": a CR without LF, and a last line without CRLF, are malformed.
+        let end = find(self.bytes, start, |b| b == b'\r');
+        if self.bytes.get(end + 1) != Some(&b'\n') {
+            return Err(2);
+        }
+        let line = &self.bytes[start..end];
+        let parts = line_parts(line, self.lines).ok_or(2u32)?;
+        let path = &line[parts.path..parts.path_end];
+        match parts.alternative {
+            // 3: "path not ASCII, no ALT-ADDRESS"
+            None if !path.is_ascii() => return Err(3),
+            None => {}
+            // 4: "ALT-ADDRESS beside an ASCII path, or not xtext of an ASCII address"
+            Some((_, value, end)) if path.is_ascii() || !is_alternative(&line[value..end]) => return Err(4),
+            Some((parameter, value, value_end)) => {
+                self.swaps[self.swapped] = Swap {
+                    line: self.lines,
+                    path: start + parts.path,
+                    path_end: start + parts.path_end,
+                    parameter: start + parameter,
+                    value: start + value,
+                    value_end: start + value_end,
+                };
+                self.swapped += 1;
+            }
+        }
+        if parts.held && self.held.is_none() {
+            self.held = Some(self.lines);
+        }
+        self.lines += 1;
+        Ok(end + 2)
+    }
+
     /// "A non-ASCII path is replaced by the decoded ALT-ADDRESS, and that parameter goes with the space before it.
     /// Nothing else changes."
     pub fn write(&self, sink: &mut impl Sink) {

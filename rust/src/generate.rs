@@ -43,83 +43,24 @@ impl Random {
 
 const ATEXT: &[u8] = b"abcdefghijklmnopqrstuvwxyzABCDXYZ0123456789!#$%&'*+-/=?^_`{|}~";
 const SPECIAL: &[u8] =
-    b"\r\n\0\t ,:;<>@\"\\.()[]=+-_?~\x01\x1f\x7f\x80\xbf\xc0\xc1\xc2\xc3\xa9\xe0\xed\xef\xf0\xf4\xf5\xff";
+    b"\r\n\0\t ,:;<>@\"\\.()[]=+-_?~\x01\x0b\x0c\x1f\x7f\x80\xbf\xc0\xc1\xc2\xc3\xa9\xe0\xed\xef\xf0\xf4\xf5\xff";
 const CHARACTERS: &[&str] = &[
-    "é",
-    "ß",
-    "\u{80}",
-    "\u{7ff}",
-    "α",
-    "ω",
-    "\u{800}",
-    "€",
-    "漢",
-    "字",
-    "\u{d7ff}",
-    "\u{e000}",
-    "\u{ffff}",
-    "\u{10000}",
-    "😀",
-    "\u{10ffff}",
+    "é", "ß", "\u{80}", "\u{7ff}", "α", "ω", "\u{800}", "€", "漢", "字", "\u{d7ff}", "\u{e000}", "\u{ffff}",
+    "\u{10000}", "😀", "\u{10ffff}",
 ];
 const NAMED: &[&str] = &[
-    "From",
-    "Sender",
-    "Reply-To",
-    "To",
-    "Cc",
-    "Bcc",
-    "Resent-From",
-    "Resent-Sender",
-    "Resent-Reply-To",
-    "Resent-To",
-    "Resent-Cc",
-    "Resent-Bcc",
-    "Return-Path",
-    "Disposition-Notification-To",
-    "Subject",
-    "Comments",
-    "Content-Description",
-    "Received",
-    "Date",
-    "Resent-Date",
-    "Message-ID",
-    "Resent-Message-ID",
-    "In-Reply-To",
-    "References",
-    "MIME-Version",
-    "Content-Type",
-    "Content-ID",
-    "Content-Disposition",
-    "Content-Transfer-Encoding",
-    "Original-Recipient",
-    "Final-Recipient",
-    "Keywords",
+    "From", "Sender", "Reply-To", "To", "Cc", "Bcc", "Resent-From", "Resent-Sender", "Resent-Reply-To", "Resent-To",
+    "Resent-Cc", "Resent-Bcc", "Return-Path", "Disposition-Notification-To", "Subject", "Comments",
+    "Content-Description", "Received", "Date", "Resent-Date", "Message-ID", "Resent-Message-ID", "In-Reply-To",
+    "References", "MIME-Version", "Content-Type", "Content-ID", "Content-Disposition", "Content-Transfer-Encoding",
+    "Original-Recipient", "Final-Recipient", "Keywords",
 ];
 const ADDRESS_NAMES: usize = 14;
 const TAKEN_NAMES: usize = 17;
 const NEAR_NAMES: &[&str] = &[
-    "Fro",
-    "Froms",
-    "X-To",
-    "Resent-",
-    "Resent-Subject",
-    "Resent-Return-Path",
-    "Reply_To",
-    "Subjects",
-    "Contents",
-    "Content-Typ",
-    "Content-Language",
-    "Downgraded-To",
-    "Downgraded-Mail-From",
-    "Dates",
-    "Keyword",
-    "CcBcc",
-    "T",
-    "Received-SPF",
-    "Resent-Keywords",
-    "List-Id",
-    "X-Note",
+    "Fro", "Froms", "X-To", "Resent-", "Resent-Subject", "Resent-Return-Path", "Reply_To", "Subjects", "Contents",
+    "Content-Typ", "Content-Language", "Downgraded-To", "Downgraded-Mail-From", "Dates", "Keyword", "CcBcc", "T",
+    "Received-SPF", "Resent-Keywords", "List-Id", "X-Note",
 ];
 
 fn in_any_case(r: &mut Random, out: &mut Vec<u8>, text: &str) {
@@ -256,24 +197,8 @@ fn alternative(r: &mut Random, out: &mut Vec<u8>, good: bool) {
     match r.below(9) {
         0 => out.extend_from_slice(
             r.pick(&[
-                "a+0D+0Ab@x",
-                "+2b@x",
-                "a+@x",
-                "a@x+",
-                "a@x+4",
-                "a+4g@x",
-                "Postmaster",
-                "a",
-                "@",
-                "+",
-                "<a@x>",
-                "a@x.",
-                "\"a+09\"@x",
-                "a+00@x",
-                "a+20b@x",
-                "a+7F@x",
-                "a+40",
-                "a@x+0D+0A",
+                "a+0D+0Ab@x", "+2b@x", "a+@x", "a@x+", "a@x+4", "a+4g@x", "Postmaster", "a", "@", "+", "<a@x>", "a@x.",
+                "\"a+09\"@x", "a+00@x", "a+20b@x", "a+7F@x", "a+40", "a@x+0D+0A",
             ])
             .as_bytes(),
         ),
@@ -395,23 +320,8 @@ fn damage_line(r: &mut Random, out: &mut Vec<u8>, start: usize) {
     match r.below(4) {
         0 => out.extend_from_slice(
             r.pick(&[
-                " ",
-                "  X",
-                " -X",
-                " X=",
-                " =",
-                " X=a=b",
-                "\tX",
-                " X\u{e9}",
-                " X=\u{e9}",
-                " ALT-ADDRESS",
-                " alt-address=",
-                " ALT-ADDRESS=\u{e9}@x",
-                " ALT-ADDRESS=a@x ALT-ADDRESS=a@x",
-                "x",
-                ">",
-                " X_",
-                " X=\x7f",
+                " ", "  X", " -X", " X=", " =", " X=a=b", "\tX", " Xé", " X=é", " ALT-ADDRESS", " alt-address=",
+                " ALT-ADDRESS=é@x", " ALT-ADDRESS=a@x ALT-ADDRESS=a@x", "x", ">", " X_", " X=\x7f",
             ])
             .as_bytes(),
         ),
@@ -419,27 +329,11 @@ fn damage_line(r: &mut Random, out: &mut Vec<u8>, start: usize) {
             out.truncate(start);
             out.extend_from_slice(
                 r.pick(&[
-                    "",
-                    "DATA",
-                    "MAIL FROM:",
-                    "RCPT TO: <a@x>",
-                    "RCPT TO:<>",
-                    "MAIL FROM:<Postmaster>",
-                    "RCPT TO:<@a:b@x>",
-                    "RCPT TO:<@a,@b:c@d>",
-                    "RCPT  TO:<a@x>",
-                    "RCPT TO:a@x",
-                    "RCPT TO:<a>",
-                    "RCPT TO:<Postmaster >",
-                    "MAIL FROM:< >",
-                    "RCPT TO:<a@x",
-                    "MAIL FROM:<a@x>\r",
-                    "RCPT TO:<a@x>\n",
-                    "RCPT TO:<\"\\\u{e9}\"@x> ALT-ADDRESS=a@x",
-                    "RCPT TO:<a@[\u{e9}]> ALT-ADDRESS=a@x",
-                    "RCPT TO:<Postmaster> ALT-ADDRESS=a@x",
-                    "MAIL FROM:<> ALT-ADDRESS=a@x",
-                    "MAIL FROM:<a@[[]>",
+                    "", "DATA", "MAIL FROM:", "RCPT TO: <a@x>", "RCPT TO:<>", "MAIL FROM:<Postmaster>",
+                    "RCPT TO:<@a:b@x>", "RCPT TO:<@a,@b:c@d>", "RCPT  TO:<a@x>", "RCPT TO:a@x", "RCPT TO:<a>",
+                    "RCPT TO:<Postmaster >", "MAIL FROM:< >", "RCPT TO:<a@x", "MAIL FROM:<a@x>\r", "RCPT TO:<a@x>\n",
+                    "RCPT TO:<\"\\é\"@x> ALT-ADDRESS=a@x", "RCPT TO:<a@[é]> ALT-ADDRESS=a@x",
+                    "RCPT TO:<Postmaster> ALT-ADDRESS=a@x", "MAIL FROM:<> ALT-ADDRESS=a@x", "MAIL FROM:<a@[[]>",
                 ])
                 .as_bytes(),
             );
@@ -534,7 +428,7 @@ fn blanks(r: &mut Random, out: &mut Vec<u8>, least: usize) {
     }
 }
 
-/// How an address list is to be at fault, and whether it is yet to come.
+/// How often a part of an address list is at fault: once in so many, or never for 0.
 struct Faults {
     once_in: usize,
 }
@@ -577,32 +471,9 @@ fn mailbox(r: &mut Random, out: &mut Vec<u8>, f: &Faults) {
     if f.here(r) {
         out.extend_from_slice(
             r.pick(&[
-                "",
-                "a",
-                "\u{e9}",
-                "<>",
-                "a@x <b@x>",
-                "b:;",
-                "<a@x >",
-                "<a@x <b@x>>",
-                "<\u{e9}@x<b@x>>",
-                "<\u{e9}@x <\u{e9}@x>>",
-                "<\u{e9}@x <b@x> >",
-                "<\u{e9}@x <b@x >>",
-                "<\u{e9}@x <b@x>",
-                "<@a:b@x>",
-                "<a@x <b@x>>",
-                "<a@x < b@x>>",
-                "a@x.",
-                "a b@x",
-                "<<a@x>>",
-                "a@x b@x",
-                "\"a@x",
-                "<\u{e9}@x b@x>",
-                ",",
-                ";",
-                ":",
-                "a@b@c",
+                "", "a", "é", "<>", "a@x <b@x>", "b:;", "<a@x >", "<a@x <b@x>>", "<é@x<b@x>>", "<é@x <é@x>>",
+                "<é@x <b@x> >", "<é@x <b@x >>", "<é@x <b@x>", "<@a:b@x>", "<a@x <b@x>>", "<a@x < b@x>>", "a@x.",
+                "a b@x", "<<a@x>>", "a@x b@x", "\"a@x", "<é@x b@x>", ",", ";", ":", "a@b@c",
             ])
             .as_bytes(),
         );
@@ -690,44 +561,13 @@ fn address_list(r: &mut Random, out: &mut Vec<u8>, f: &Faults) {
 }
 
 const TOKENS: &[&str] = &[
-    "a",
-    "b.c",
-    "é",
-    "é",
-    "\"q r\"",
-    "\"é\\\"\"",
-    "@",
-    ".",
-    "<",
-    ">",
-    ">>",
-    ",",
-    ":",
-    ";",
-    " ",
-    "\t",
-    "a@b",
-    "é@x",
-    "a@[1]",
-    "\"q\"@x",
-    "<a@b>",
-    "<é@x>",
-    "<é@x <a@b>>",
-    " <a@b>",
-    ", ",
-    " : ",
-    " ; ",
-    "g:a@b;",
-    "(",
-    ")",
-    "\"",
-    "\\",
-    "[",
-    "]",
+    "a", "b.c", "é", "é", "\"q r\"", "\"é\\\"\"", "@", ".", "<", ">", ">>", ",", ":", ";", " ", "\t", "a@b", "é@x",
+    "a@[1]", "\"q\"@x", "<a@b>", "<é@x>", "<é@x <a@b>>", " <a@b>", ", ", " : ", " ; ", "g:a@b;", "(", ")", "\"", "\\",
+    "[", "]",
 ];
 
-/// Tokens in any order.
-fn token_soup(r: &mut Random, out: &mut Vec<u8>) {
+/// Tokens of the grammar, whatever their order.
+fn tokens_in_any_order(r: &mut Random, out: &mut Vec<u8>) {
     for _ in 0..r.from(1, 9) {
         out.extend_from_slice(r.pick(TOKENS).as_bytes());
     }
@@ -750,7 +590,7 @@ fn changed_list(r: &mut Random, out: &mut Vec<u8>) {
             }
             at = places[r.below(places.len())];
         }
-        let b = r.byte(b",:;<>@\"\\. \t()[]a\x7f\x01");
+        let b = r.byte(b",:;<>@\"\\. \t()[]a\x7f\x01\x0b\x0c");
         match r.below(3) {
             0 => out[at] = b,
             1 => out.insert(at, b),
@@ -822,7 +662,7 @@ fn field(r: &mut Random, out: &mut Vec<u8>, held: bool) {
         match r.below(10) {
             0 | 1 => address_list(r, &mut value, &Faults { once_in: 8 }),
             2 | 3 => changed_list(r, &mut value),
-            4 => token_soup(r, &mut value),
+            4 => tokens_in_any_order(r, &mut value),
             5 => {
                 let len = r.from(1, 60);
                 text(r, &mut value, len);
@@ -898,31 +738,10 @@ pub fn header(r: &mut Random) -> Vec<u8> {
 /// One more line that is malformed, or nearly so.
 fn damage_header_line(r: &mut Random, out: &mut Vec<u8>) {
     let lines: &[&[u8]] = &[
-        b"\r\n",
-        b" x\r\n",
-        b"\tx\r\n",
-        b": x\r\n",
-        b"A\r\n",
-        b"A b: c\r\n",
-        b"A: \0\r\n",
-        b"A: \r\r\n",
-        b"A: \n\r\n",
-        b"A: x",
-        b"A: x\r",
-        b"A: x\n",
-        b"A\x7f: x\r\n",
-        b"\xC3\xA9: x\r\n",
-        b"A: \x80\r\n",
-        b"A: \xC3\r\n",
-        b"A: \xE0\x9F\x80\r\n",
-        b"A: \xED\xA0\x80\r\n",
-        b"A: \xF4\x90\x80\x80\r\n",
-        b"A: \xC1\x81\r\n",
-        b"A: \xF0\x8F\x80\x80\r\n",
-        b"A: \xF5\x80\x80\x80\r\n",
-        b" \r\n",
-        b"A:\r\n",
-        b"A:\r\n \xE2\x82\r\n",
+        b"\r\n", b" x\r\n", b"\tx\r\n", b": x\r\n", b"A\r\n", b"A b: c\r\n", b"A: \0\r\n", b"A: \r\r\n", b"A: \n\r\n",
+        b"A: x", b"A: x\r", b"A: x\n", b"A\x7f: x\r\n", b"\xC3\xA9: x\r\n", b"A: \x80\r\n", b"A: \xC3\r\n",
+        b"A: \xE0\x9F\x80\r\n", b"A: \xED\xA0\x80\r\n", b"A: \xF4\x90\x80\x80\r\n", b"A: \xC1\x81\r\n",
+        b"A: \xF0\x8F\x80\x80\r\n", b"A: \xF5\x80\x80\x80\r\n", b" \r\n", b"A:\r\n", b"A:\r\n \xE2\x82\r\n",
         b"~:\x01\r\n",
     ];
     let line = r.pick(lines);

@@ -204,39 +204,47 @@ fn show(label: &str, input: &Input, model: &Outcome, other: &Outcome, why: &str)
     exit(1);
 }
 
+/// One input with its rooms, made for what the model would write.
+fn next_input(r: &mut Random, scratch: &mut (Vec<u8>, Vec<u8>)) -> Input {
+    let (envelope, header) = generate::input(r);
+    let whole = downgrade(&envelope, &header, &mut scratch.0, &mut scratch.1);
+    let (envelope_room, header_room) = match whole.number {
+        0 => rooms(r, whole),
+        _ => (r.below(100), r.below(100)),
+    };
+    Input { envelope, header, envelope_room, header_room }
+}
+
+/// Both calls on one input; what the model left.
+fn compare(input: &Input, salt: u8, label: &str) -> Outcome {
+    let model = outcome(downgrade, input, salt);
+    let other = outcome(proved::downgrade, input, salt);
+    for (name, got) in [("model", &model), ("proved", &other)] {
+        if let Some(why) = fault(input, got, salt) {
+            show(label, input, &model, &other, &format!("{name}: {why}"));
+        }
+    }
+    if model != other {
+        show(label, input, &model, &other, "answers or bytes differ");
+    }
+    model
+}
+
 fn main() {
     let seed = option("--seed").unwrap_or(1);
     let seconds = option("--seconds").map(Duration::from_secs);
     let count = option("--count").unwrap_or(if seconds.is_some() { u64::MAX } else { 200_000 });
     let mut r = Random::new(seed);
     let start = Instant::now();
-    let mut envelope_scratch = vec![0; 17_000];
-    let mut header_scratch = vec![0; 700_000];
+    let mut scratch = (vec![0; 17_000], vec![0; 700_000]);
     let mut numbers = [0; 9];
     let mut met = Met::default();
     let mut done = 0;
     while done < count && seconds.is_none_or(|limit| start.elapsed() < limit) {
-        let (envelope, header) = generate::input(&mut r);
-        let whole = downgrade(&envelope, &header, &mut envelope_scratch, &mut header_scratch);
-        let (envelope_room, header_room) = match whole.number {
-            0 => rooms(&mut r, whole),
-            _ => (r.below(100), r.below(100)),
-        };
-        let input = Input { envelope, header, envelope_room, header_room };
-        let salt = r.next() as u8;
-        let model = outcome(downgrade, &input, salt);
-        let other = outcome(proved::downgrade, &input, salt);
-        let label = format!("seed {seed}, input {done}");
-        for (name, got) in [("model", &model), ("proved", &other)] {
-            if let Some(why) = fault(&input, got, salt) {
-                show(&label, &input, &model, &other, &format!("{name}: {why}"));
-            }
-        }
-        if model != other {
-            show(&label, &input, &model, &other, "answers or bytes differ");
-        }
-        numbers[model.answer.number as usize] += 1;
-        look(&mut met, &input, &model);
+        let input = next_input(&mut r, &mut scratch);
+        let got = compare(&input, r.next() as u8, &format!("seed {seed}, input {done}"));
+        numbers[got.answer.number as usize] += 1;
+        look(&mut met, &input, &got);
         done += 1;
     }
     for (number, count) in numbers.iter().enumerate() {
