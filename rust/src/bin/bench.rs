@@ -1,0 +1,138 @@
+//! Times the proved call beside the model, in one process.
+//!
+//!     bench [PART OF A LABEL]
+
+use hennelaku_model::{downgrade, proved, Answer};
+use std::hint::black_box;
+use std::time::{Duration, Instant};
+
+type Call = fn(&[u8], &[u8], &mut [u8], &mut [u8]) -> Answer;
+
+const ENVELOPE: &str = "MAIL FROM:<é@example.org> SIZE=1000 ALT-ADDRESS=e+2Bx@example.org\r\n\
+    RCPT TO:<b@example.net>\r\nRCPT TO:<αβ@example.net> ALT-ADDRESS=ab@example.net\r\n";
+
+/// A header of about `size` bytes: these fields over and over, the last one cut to an ASCII field.
+fn header(size: usize, fields: &[&str]) -> Vec<u8> {
+    let mut out = Vec::new();
+    let mut next = 0;
+    while out.len() + fields[next].len() + 8 < size {
+        out.extend_from_slice(fields[next].as_bytes());
+        next = (next + 1) % fields.len();
+    }
+    while out.len() + 8 < size {
+        let len = (size - out.len() - 5).min(900);
+        out.extend_from_slice(b"X: ");
+        out.resize(out.len() + len, b'x');
+        out.extend_from_slice(b"\r\n");
+    }
+    out
+}
+
+/// What a bulletin's header looks like: some fields ASCII, some not.
+const MIXED: &[&str] = &[
+    "Received: from mail.example.org (mail.example.org [192.0.2.1])\r\n\tby mx.example.net with ESMTP id 12345;\r\n\tMon, 1 Jan 2024 00:00:00 +0000\r\n",
+    "From: Jørgen Ås <jørgen@example.org <jorgen@example.org>>\r\n",
+    "To: b@example.net, \"Havn, Øst\" <c@example.net>, αβ@example.net\r\n",
+    "Subject: Strømvarsel for kysten, kuling fra nordvest\r\n",
+    "Date: Mon, 1 Jan 2024 00:00:00 +0000\r\n",
+    "Message-ID: <12345@example.org>\r\n",
+    "X-Area: Skåne, Öresund\r\n",
+];
+
+/// Greek, in plain text, encapsulated and address fields, some folded.
+const NON_ASCII: &[&str] = &[
+    "Subject: Πρόγνωση καιρού για το Αιγαίο\r\n",
+    "X-Note: Άνεμοι βόρειοι\r\n ισχυροί\r\n κατά τόπους\r\n",
+    "Cc: Λιμάνι Πειραιά <λιμάνι@example.gr <port@example.gr>>,\r\n πλοηγός@example.gr\r\n",
+    "Comments: 海上風警報 気象庁発表\r\n",
+];
+
+/// One long plain text field over many lines.
+const ONE_TEXT: &[&str] = &["Πρόγνωση "];
+
+const ASCII: &[&str] = &[
+    "Received: from mail.example.org (mail.example.org [192.0.2.1])\r\n\tby mx.example.net with ESMTP id 12345;\r\n\tMon, 1 Jan 2024 00:00:00 +0000\r\n",
+    "DKIM-Signature: v=1; a=rsa-sha256; c=relaxed/relaxed; d=example.org; s=key;\r\n h=from:to:subject:date; bh=47DEQpj8HBSa+/TImW+5JCeuQeRkm5NMpJWZG3hSuFU=;\r\n b=dzdVyOfAKCdLXdJOc9G2q8LoXSlEniSbav+yuU4zGeeruD00lszZVoG4ZHRNiYzR\r\n",
+    "X-Spam-Status: No, score=-1.9 required=5.0 tests=BAYES_00 autolearn=ham\r\n",
+    "Message-ID: <12345@example.org>\r\n",
+];
+
+fn nearly_ascii(size: usize) -> Vec<u8> {
+    let mut out = "Subject: Strømvarsel\r\n".as_bytes().to_vec();
+    out.extend_from_slice(&header(size - 50, ASCII));
+    out.extend_from_slice("To: Øst <c@example.net>\r\n".as_bytes());
+    out
+}
+
+fn one_text(size: usize) -> Vec<u8> {
+    let mut out = b"Subject:".to_vec();
+    while out.len() + 500 < size {
+        out.extend_from_slice(b"\r\n ");
+        for _ in 0..24 {
+            out.extend_from_slice(ONE_TEXT[0].as_bytes());
+        }
+    }
+    out.extend_from_slice(b"\r\n");
+    out
+}
+
+struct Buffers {
+    envelope: Vec<u8>,
+    header: Vec<u8>,
+}
+
+/// Nanoseconds for each call, over `times` calls.
+fn time(call: Call, header: &[u8], buffers: &mut Buffers, times: u32) -> f64 {
+    let start = Instant::now();
+    for _ in 0..times {
+        let answer =
+            call(black_box(ENVELOPE.as_bytes()), black_box(header), &mut buffers.envelope, &mut buffers.header);
+        black_box(answer);
+    }
+    start.elapsed().as_nanos() as f64 / times as f64
+}
+
+/// The best of several rounds, the two by turns.
+fn compare(label: &str, header: &[u8]) {
+    if !label.contains(&std::env::args().nth(1).unwrap_or_default()) {
+        return;
+    }
+    let mut buffers = Buffers { envelope: vec![0; 1000], header: vec![0; 600_000] };
+    let mut again = Buffers { envelope: vec![0; 1000], header: vec![0; 600_000] };
+    let model = downgrade(ENVELOPE.as_bytes(), header, &mut buffers.envelope, &mut buffers.header);
+    let other = proved::downgrade(ENVELOPE.as_bytes(), header, &mut again.envelope, &mut again.header);
+    assert_eq!((model, model.number), (other, 0));
+    assert!(buffers.envelope == again.envelope && buffers.header == again.header);
+    let once = time(downgrade, header, &mut buffers, 20).max(1.0);
+    // Short rounds, so that many of them pass without a pause on a busy machine.
+    let times = ((Duration::from_micros(500).as_nanos() as f64 / once) as u32).max(1);
+    let (mut best_model, mut best_proved) = (f64::MAX, f64::MAX);
+    for _ in 0..200 {
+        best_model = best_model.min(time(downgrade, header, &mut buffers, times));
+        best_proved = best_proved.min(time(proved::downgrade, header, &mut buffers, times));
+    }
+    println!(
+        "{label:<34} {:>6} in {:>7} out   proved {best_proved:>9.0} ns   model {best_model:>9.0} ns   ratio {:.2}",
+        header.len(),
+        model.header_len,
+        best_proved / best_model
+    );
+}
+
+fn main() {
+    println!("the whole call; a ratio under 1 means that the proved call is faster");
+    compare("small, mixed, 1 KB", &header(1024, MIXED));
+    compare("long, non-ASCII, 30 KB", &header(30_720, NON_ASCII));
+    compare("long, one folded text, 30 KB", &one_text(30_720));
+    compare("long, nearly all ASCII, 30 KB", &nearly_ascii(30_720));
+    println!();
+    for size in [1, 4, 16, 32] {
+        compare(&format!("mixed, {size} KB"), &header(size * 1024, MIXED));
+    }
+    for size in [1, 4, 16, 32] {
+        compare(&format!("non-ASCII, {size} KB"), &header(size * 1024, NON_ASCII));
+    }
+    for size in [1, 4, 16, 32] {
+        compare(&format!("nearly all ASCII, {size} KB"), &nearly_ascii(size * 1024));
+    }
+}

@@ -1,0 +1,257 @@
+//! The proved call beside the model: equal answers and equal bytes on made-up inputs.
+//!
+//!     fuzz [--seed N] [--count N] [--seconds N]
+
+use hennelaku_model::generate::{self, Random};
+use hennelaku_model::header::{kind, next_non_ascii, Kind};
+use hennelaku_model::{address_list, downgrade, header, proved, Answer};
+use std::process::exit;
+use std::time::{Duration, Instant};
+
+/// Bytes before and after each buffer.
+const GUARD: usize = 64;
+
+type Call = fn(&[u8], &[u8], &mut [u8], &mut [u8]) -> Answer;
+
+/// What a call leaves: its answer, and both buffers with their guards.
+#[derive(PartialEq)]
+struct Outcome {
+    answer: Answer,
+    envelope: Vec<u8>,
+    header: Vec<u8>,
+}
+
+fn pattern(at: usize, salt: u8) -> u8 {
+    (at as u8).wrapping_mul(37).wrapping_add(salt)
+}
+
+fn filled(room: usize, salt: u8) -> Vec<u8> {
+    (0..room + 2 * GUARD).map(|at| pattern(at, salt)).collect()
+}
+
+fn outcome(call: Call, input: &Input, salt: u8) -> Outcome {
+    let mut envelope = filled(input.envelope_room, salt);
+    let mut header = filled(input.header_room, salt);
+    let answer = call(
+        &input.envelope,
+        &input.header,
+        &mut envelope[GUARD..GUARD + input.envelope_room],
+        &mut header[GUARD..GUARD + input.header_room],
+    );
+    Outcome { answer, envelope, header }
+}
+
+struct Input {
+    envelope: Vec<u8>,
+    header: Vec<u8>,
+    envelope_room: usize,
+    header_room: usize,
+}
+
+/// "A refusal changes no byte of either buffer and gives both lengths as 0. After 0 the bytes past each length are as
+/// before."
+fn fault(input: &Input, got: &Outcome, salt: u8) -> Option<String> {
+    let a = got.answer;
+    if a.number > 8 {
+        return Some("a number above 8".into());
+    }
+    if a.number != 0 && (a.envelope_len, a.header_len) != (0, 0) {
+        return Some("lengths after a refusal".into());
+    }
+    if a.number == 0 && a.place != 0 {
+        return Some("a place after 0".into());
+    }
+    if a.envelope_len > input.envelope_room || a.header_len > input.header_room {
+        return Some("a length past the room".into());
+    }
+    for (name, buffer, len) in [("envelope", &got.envelope, a.envelope_len), ("header", &got.header, a.header_len)] {
+        for (at, &b) in buffer.iter().enumerate() {
+            let written = at >= GUARD && at < GUARD + len;
+            if !written && b != pattern(at, salt) {
+                return Some(format!(
+                    "{name} buffer changed at {} past its length {len}",
+                    at as isize - GUARD as isize
+                ));
+            }
+            if written && b > 127 {
+                return Some(format!("{name} buffer not ASCII at {}", at - GUARD));
+            }
+        }
+    }
+    None
+}
+
+/// Rooms just right, one short, zero, large, any.
+fn rooms(r: &mut Random, whole: Answer) -> (usize, usize) {
+    let (e, h) = (whole.envelope_len, whole.header_len);
+    match r.below(20) {
+        0..=9 => (e, h),
+        10 => (e - 1, h),
+        11 => (e, h.saturating_sub(1)),
+        12 => (e - 1, h.saturating_sub(1)),
+        13 => (0, 0),
+        14 => (e, 0),
+        15 => (r.below(e + 20), r.below(h + 200)),
+        16 => (e + r.below(4), r.below(h + 1)),
+        17 => (e + 1, h + 1),
+        _ => (e + r.below(300), h + r.below(3000)),
+    }
+}
+
+/// How many inputs met a rule.
+#[derive(Default)]
+struct Met {
+    counts: Vec<(&'static str, usize)>,
+}
+
+impl Met {
+    fn count(&mut self, rule: &'static str, met: bool) {
+        match self.counts.iter_mut().find(|(name, _)| *name == rule) {
+            Some((_, count)) => *count += met as usize,
+            None => self.counts.push((rule, met as usize)),
+        }
+    }
+}
+
+fn has(bytes: &[u8], part: &[u8]) -> bool {
+    bytes.windows(part.len()).any(|window| window == part)
+}
+
+/// Looks at an input and what the model made of it.
+fn look(met: &mut Met, input: &Input, got: &Outcome) {
+    let number = got.answer.number;
+    let lines = |bytes: &[u8], len: usize| bytes.split(|&b| b == b'\n').any(|line| line.len() == len + 1);
+    let envelope_lines = input.envelope.iter().filter(|&&b| b == b'\n').count();
+    met.count("1 for the envelope", number == 1 && got.answer.place == 0);
+    met.count("1 for the header", number == 1 && got.answer.place == 1);
+    met.count("2 at line 0", number == 2 && got.answer.place == 0);
+    met.count("2 at line 101", number == 2 && got.answer.place == 101);
+    met.count("100 RCPT lines", envelope_lines == 101 && !matches!(number, 1..=4));
+    met.count("envelope line of 998", lines(&input.envelope, 998) && !matches!(number, 1..=4));
+    met.count("envelope line of 999", lines(&input.envelope, 999) && number == 2);
+    met.count("header line of 998", lines(&input.header, 998) && matches!(number, 0 | 6..=8));
+    met.count("header line of 999", lines(&input.header, 999) && number == 5);
+    met.count("6 for an ORCPT", number == 6 && has(&input.envelope.to_ascii_uppercase(), b"ORCPT=UTF-8"));
+    if number != 0 {
+        return;
+    }
+    let out = &got.header[GUARD..GUARD + got.answer.header_len];
+    met.count("Downgraded-Mail-From", out.starts_with(b"Downgraded-Mail-From:\r\n =?UTF-8?Q?=3C"));
+    met.count("Downgraded-Rcpt-To", has(out, b"Downgraded-Rcpt-To:\r\n =?UTF-8?Q?=3C"));
+    met.count("several RCPT lines, replaced", envelope_lines > 2 && got.answer.envelope_len < input.envelope.len());
+    met.count("header copied whole", out == input.header);
+    let mut fields = [0; 6];
+    let (mut names_of_76, mut folded, mut groups, mut words_of_900) = (0, 0, 0, 0);
+    let mut from = 0;
+    while let Some(field) = next_non_ascii(&input.header, from) {
+        let mut text = Vec::new();
+        header::unfolded(field.folded_text(), |part| text.extend_from_slice(part));
+        let at = match kind(field.name) {
+            Kind::Plain => 0,
+            Kind::Other | Kind::Held => 1,
+            Kind::Address => match address_list::replaces(&text) {
+                None => 2,
+                Some(false) => 3,
+                Some(true) if has(&text, b">>") => 4,
+                Some(true) => 5,
+            },
+        };
+        fields[at] += 1;
+        if at > 2 {
+            groups += text.ends_with(b";") as usize;
+            words_of_900 += text.split(|&b| b" \t<>,:;\"".contains(&b)).any(|word| word.len() == 900) as usize;
+        }
+        names_of_76 += (field.name.len() == 76) as usize;
+        folded += field.value.contains(&b'\n') as usize;
+        from = field.end;
+    }
+    met.count("plain text field", fields[0] > 0);
+    met.count("field encapsulated", fields[1] > 0);
+    met.count("address field that does not fit", fields[2] > 0);
+    met.count("address field with a phrase encoded alone", fields[3] > 0);
+    met.count("address field with an alternative", fields[4] > 0);
+    met.count("address field with one removed", fields[5] > 0);
+    met.count("group at the end of a field that fits", groups > 0);
+    met.count("word or address of 900 that fits", words_of_900 > 0);
+    met.count("name of 76", names_of_76 > 0);
+    met.count("folded field", folded > 0);
+}
+
+fn option(name: &str) -> Option<u64> {
+    let mut arguments = std::env::args().skip_while(|argument| argument != name);
+    arguments.next()?;
+    match arguments.next().and_then(|value| value.parse().ok()) {
+        Some(value) => Some(value),
+        None => {
+            eprintln!("{name} wants a number");
+            exit(2);
+        }
+    }
+}
+
+fn show(label: &str, input: &Input, model: &Outcome, other: &Outcome, why: &str) -> ! {
+    println!("difference at {label}: {why}");
+    println!("envelope ({} bytes): \"{}\"", input.envelope.len(), input.envelope.escape_ascii());
+    println!("header ({} bytes): \"{}\"", input.header.len(), input.header.escape_ascii());
+    println!("rooms: {} {}", input.envelope_room, input.header_room);
+    for (name, got) in [("model", model), ("proved", other)] {
+        println!("{name}: {:?}", got.answer);
+        for (buffer, len) in [(&got.envelope, got.answer.envelope_len), (&got.header, got.answer.header_len)] {
+            let end = buffer.len().min(GUARD.saturating_add(len));
+            println!("  \"{}\"", buffer[GUARD..end].escape_ascii());
+        }
+    }
+    exit(1);
+}
+
+/// One input with its rooms, made for what the model would write.
+fn next_input(r: &mut Random, scratch: &mut (Vec<u8>, Vec<u8>)) -> Input {
+    let (envelope, header) = generate::input(r);
+    let whole = downgrade(&envelope, &header, &mut scratch.0, &mut scratch.1);
+    let (envelope_room, header_room) = match whole.number {
+        0 => rooms(r, whole),
+        _ => (r.below(100), r.below(100)),
+    };
+    Input { envelope, header, envelope_room, header_room }
+}
+
+/// Both calls on one input; what the model left.
+fn compare(input: &Input, salt: u8, label: &str) -> Outcome {
+    let model = outcome(downgrade, input, salt);
+    let other = outcome(proved::downgrade, input, salt);
+    for (name, got) in [("model", &model), ("proved", &other)] {
+        if let Some(why) = fault(input, got, salt) {
+            show(label, input, &model, &other, &format!("{name}: {why}"));
+        }
+    }
+    if model != other {
+        show(label, input, &model, &other, "answers or bytes differ");
+    }
+    model
+}
+
+fn main() {
+    let seed = option("--seed").unwrap_or(1);
+    let seconds = option("--seconds").map(Duration::from_secs);
+    let count = option("--count").unwrap_or(if seconds.is_some() { u64::MAX } else { 200_000 });
+    let mut r = Random::new(seed);
+    let start = Instant::now();
+    let mut scratch = (vec![0; 17_000], vec![0; 700_000]);
+    let mut numbers = [0; 9];
+    let mut met = Met::default();
+    let mut done = 0;
+    while done < count && seconds.is_none_or(|limit| start.elapsed() < limit) {
+        let input = next_input(&mut r, &mut scratch);
+        let got = compare(&input, r.next() as u8, &format!("seed {seed}, input {done}"));
+        numbers[got.answer.number as usize] += 1;
+        look(&mut met, &input, &got);
+        done += 1;
+    }
+    for (number, count) in numbers.iter().enumerate() {
+        println!("number {number}: {count}");
+    }
+    for (rule, count) in &met.counts {
+        println!("{rule}: {count}");
+    }
+    println!("{done} inputs, 0 differences");
+}

@@ -1,0 +1,128 @@
+//! The downgrade call: sizes (1), the order of refusals, room (7, 8), the outgoing header.
+
+use crate::address_list;
+use crate::envelope::{self, Envelope};
+use crate::header::{self, Field, Kind};
+use crate::sink::{Counter, Sink, Writer};
+use crate::words::Row;
+
+#[derive(Clone, Copy, PartialEq, Eq, Debug)]
+pub struct Answer {
+    pub number: u32,
+    pub place: usize,
+    pub envelope_len: usize,
+    pub header_len: usize,
+}
+
+/// 1: "envelope over 16,384 bytes, or header over 32,768"
+const LONGEST_ENVELOPE: usize = 16_384;
+const LONGEST_HEADER: usize = 32_768;
+
+/// "A refusal changes no byte of either buffer and gives both lengths as 0."
+fn refuse(number: u32, place: usize) -> Answer {
+    Answer { number, place, envelope_len: 0, header_len: 0 }
+}
+
+/// "Order: 1 (envelope first); then 2, 3 and 4 as the first envelope line at fault, the lowest number within one
+/// line; then the first 5; then 6, ORCPT lines before header fields (a field's place is its first line); then 7;
+/// then 8."
+pub fn downgrade(envelope: &[u8], header: &[u8], envelope_buffer: &mut [u8], header_buffer: &mut [u8]) -> Answer {
+    if envelope.len() > LONGEST_ENVELOPE {
+        return refuse(1, 0);
+    }
+    if header.len() > LONGEST_HEADER {
+        return refuse(1, 1);
+    }
+    let envelope = match envelope::check(envelope) {
+        Ok(envelope) => envelope,
+        Err(refusal) => return refuse(refusal.number, refusal.line),
+    };
+    if let Err(line) = header::check(header) {
+        return refuse(5, line);
+    }
+    if let Some(line) = envelope.held {
+        return refuse(6, line);
+    }
+    // Both outputs are counted before a byte is written.
+    let mut scratch = Vec::new();
+    let mut header_count = Counter::default();
+    if let Err(start) = write_header(&mut header_count, &envelope, header, &mut scratch) {
+        return refuse(6, header::line_number(header, start));
+    }
+    let mut envelope_count = Counter::default();
+    envelope.write(&mut envelope_count);
+    if envelope_count.len > envelope_buffer.len() {
+        return refuse(7, envelope_count.len);
+    }
+    if header_count.len > header_buffer.len() {
+        return refuse(8, header_count.len);
+    }
+    envelope.write(&mut Writer { buffer: envelope_buffer, at: 0 });
+    // The count met no held name.
+    let _ = write_header(&mut Writer { buffer: header_buffer, at: 0 }, &envelope, header, &mut scratch);
+    Answer { number: 0, place: 0, envelope_len: envelope_count.len, header_len: header_count.len }
+}
+
+/// The new first fields, then each field downgraded. "A field whose value is ASCII is copied." Stops where a held
+/// name carries non-ASCII, with the place of that field.
+fn write_header(sink: &mut impl Sink, envelope: &Envelope, header: &[u8], scratch: &mut Vec<u8>) -> Result<(), usize> {
+    envelope.first_fields(sink);
+    let mut done = 0;
+    while let Some(field) = header::next_non_ascii(header, done) {
+        sink.put(&header[done..field.start]);
+        match header::kind(field.name) {
+            Kind::Address => write_address_field(sink, &field, scratch),
+            // "Plain text: name, colon, encoded words of the text."
+            Kind::Plain => {
+                sink.put(field.name);
+                write_words(sink, &field);
+            }
+            Kind::Held => return Err(field.start),
+            // "Every other name is encapsulated"
+            Kind::Other => encapsulate(sink, &field),
+        }
+        done = field.end;
+    }
+    sink.put(&header[done..]);
+    Ok(())
+}
+
+/// "`Downgraded-` before the name, colon, encoded words of the text"
+fn encapsulate(sink: &mut impl Sink, field: &Field) {
+    sink.put(b"Downgraded-");
+    sink.put(field.name);
+    write_words(sink, field);
+}
+
+/// Colon, encoded words of the text. "A field ends with CRLF."
+fn write_words(sink: &mut impl Sink, field: &Field) {
+    sink.put(b":");
+    let mut row = Row::new();
+    header::unfolded(field.folded_text(), |part| row.add(sink, part));
+    row.end(sink);
+    sink.put(b"\r\n");
+}
+
+fn write_address_field(sink: &mut impl Sink, field: &Field, scratch: &mut Vec<u8>) {
+    let mut text = field.folded_text();
+    if text.contains(&b'\r') {
+        scratch.clear();
+        header::unfolded(text, |part| scratch.extend_from_slice(part));
+        text = scratch;
+    }
+    match address_list::replaces(text) {
+        // "Text that does not fit is encapsulated."
+        None => encapsulate(sink, field),
+        Some(replaces) => {
+            sink.put(field.name);
+            sink.put(b":");
+            address_list::pieces(sink, text);
+            sink.put(b"\r\n");
+            // "If any address was replaced or removed, a `Downgraded-` field with encoded words of the original
+            // text follows the rewritten field."
+            if replaces {
+                encapsulate(sink, field);
+            }
+        }
+    }
+}

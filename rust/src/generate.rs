@@ -1,0 +1,834 @@
+//! Made-up envelopes and headers: from the grammar, near misses of each rule, damaged ones, and random bytes.
+
+/// splitmix64.
+pub struct Random {
+    state: u64,
+}
+
+impl Random {
+    pub fn new(seed: u64) -> Random {
+        Random { state: seed }
+    }
+
+    pub fn next(&mut self) -> u64 {
+        self.state = self.state.wrapping_add(0x9E37_79B9_7F4A_7C15);
+        let mut z = self.state;
+        z = (z ^ (z >> 30)).wrapping_mul(0xBF58_476D_1CE4_E5B9);
+        z = (z ^ (z >> 27)).wrapping_mul(0x94D0_49BB_1331_11EB);
+        z ^ (z >> 31)
+    }
+
+    /// 0 to `limit` - 1.
+    pub fn below(&mut self, limit: usize) -> usize {
+        (((self.next() >> 32) * limit as u64) >> 32) as usize
+    }
+
+    pub fn from(&mut self, least: usize, most: usize) -> usize {
+        least + self.below(most - least + 1)
+    }
+
+    /// True once in `n`.
+    pub fn once_in(&mut self, n: usize) -> bool {
+        self.below(n) == 0
+    }
+
+    pub fn pick<'a, T: ?Sized>(&mut self, from: &[&'a T]) -> &'a T {
+        from[self.below(from.len())]
+    }
+
+    pub fn byte(&mut self, from: &[u8]) -> u8 {
+        from[self.below(from.len())]
+    }
+}
+
+const ATEXT: &[u8] = b"abcdefghijklmnopqrstuvwxyzABCDXYZ0123456789!#$%&'*+-/=?^_`{|}~";
+const SPECIAL: &[u8] =
+    b"\r\n\0\t ,:;<>@\"\\.()[]=+-_?~\x01\x0b\x0c\x1f\x7f\x80\xbf\xc0\xc1\xc2\xc3\xa9\xe0\xed\xef\xf0\xf4\xf5\xff";
+const CHARACTERS: &[&str] = &[
+    "é", "ß", "\u{80}", "\u{7ff}", "α", "ω", "\u{800}", "€", "漢", "字", "\u{d7ff}", "\u{e000}", "\u{ffff}",
+    "\u{10000}", "😀", "\u{10ffff}",
+];
+const NAMED: &[&str] = &[
+    "From", "Sender", "Reply-To", "To", "Cc", "Bcc", "Resent-From", "Resent-Sender", "Resent-Reply-To", "Resent-To",
+    "Resent-Cc", "Resent-Bcc", "Return-Path", "Disposition-Notification-To", "Subject", "Comments",
+    "Content-Description", "Received", "Date", "Resent-Date", "Message-ID", "Resent-Message-ID", "In-Reply-To",
+    "References", "MIME-Version", "Content-Type", "Content-ID", "Content-Disposition", "Content-Transfer-Encoding",
+    "Original-Recipient", "Final-Recipient", "Keywords",
+];
+const ADDRESS_NAMES: usize = 14;
+const TAKEN_NAMES: usize = 17;
+const NEAR_NAMES: &[&str] = &[
+    "Fro", "Froms", "X-To", "Resent-", "Resent-Subject", "Resent-Return-Path", "Reply_To", "Subjects", "Contents",
+    "Content-Typ", "Content-Language", "Downgraded-To", "Downgraded-Mail-From", "Dates", "Keyword", "CcBcc", "T",
+    "Received-SPF", "Resent-Keywords", "List-Id", "X-Note",
+];
+
+fn in_any_case(r: &mut Random, out: &mut Vec<u8>, text: &str) {
+    let way = r.below(4);
+    for b in text.bytes() {
+        out.push(match way {
+            0 => b,
+            1 => b.to_ascii_lowercase(),
+            2 => b.to_ascii_uppercase(),
+            _ if r.once_in(2) => b ^ if b.is_ascii_alphabetic() { 32 } else { 0 },
+            _ => b,
+        });
+    }
+}
+
+fn character(r: &mut Random, out: &mut Vec<u8>) {
+    out.extend_from_slice(r.pick(CHARACTERS).as_bytes());
+}
+
+/// A length that is mostly small, and now and then near a limit.
+fn length(r: &mut Random, limit: usize) -> usize {
+    match r.below(60) {
+        0 => r.from(limit - 2, limit + 1),
+        1 => r.from(1, 200),
+        2..=6 => r.from(1, 40),
+        _ => r.from(1, 6),
+    }
+}
+
+/// One atom; with `non_ascii` also other characters.
+fn atom(r: &mut Random, out: &mut Vec<u8>, len: usize, non_ascii: bool) {
+    let end = out.len() + len;
+    while out.len() < end {
+        if non_ascii && r.once_in(3) {
+            character(r, out);
+        } else {
+            out.push(r.byte(ATEXT));
+        }
+    }
+}
+
+fn dot_atom(r: &mut Random, out: &mut Vec<u8>, len: usize, non_ascii: bool) {
+    atom(r, out, len, non_ascii);
+    while r.once_in(3) {
+        out.push(b'.');
+        let len = r.from(1, 4);
+        atom(r, out, len, non_ascii);
+    }
+}
+
+fn quoted_string(r: &mut Random, out: &mut Vec<u8>, len: usize, non_ascii: bool) {
+    let end = out.len() + len;
+    out.push(b'"');
+    while out.len() + 1 < end {
+        match r.below(8) {
+            0 if out.len() + 2 < end => {
+                out.push(b'\\');
+                out.push(r.from(32, 126) as u8);
+            }
+            1 | 2 if non_ascii => character(r, out),
+            3 => out.push(r.byte(b" ,:;<>@.()[]")),
+            _ => {
+                let b = r.from(32, 126) as u8;
+                out.push(if b == b'"' || b == b'\\' { b' ' } else { b });
+            }
+        }
+    }
+    out.push(b'"');
+}
+
+/// An address of about `limit` bytes at most; now and then one of just about that length.
+fn address(r: &mut Random, out: &mut Vec<u8>, limit: usize, non_ascii: bool) {
+    let start = out.len();
+    let (local, domain) = match (non_ascii, r.below(3)) {
+        (false, _) => (false, false),
+        (true, 0) => (true, true),
+        (true, 1) => (true, false),
+        (true, _) => (false, true),
+    };
+    let whole = length(r, limit);
+    let mut tail = Vec::new();
+    tail.push(b'@');
+    let short = r.from(1, 8);
+    if !domain && r.once_in(5) {
+        tail.push(b'[');
+        for _ in 0..r.below(6) {
+            tail.push(r.byte(b"!09AZ.:<>@,;()\"Z^az~"));
+        }
+        tail.push(b']');
+    } else {
+        dot_atom(r, &mut tail, short, domain);
+    }
+    let len = whole.saturating_sub(tail.len()).max(1);
+    if r.once_in(5) {
+        quoted_string(r, out, len.max(2), local);
+    } else if len > 8 {
+        atom(r, out, len, local);
+    } else {
+        dot_atom(r, out, len, local);
+    }
+    out.extend_from_slice(&tail);
+    // A domain that drew no other character still needs one.
+    if non_ascii && out[start..].is_ascii() {
+        if tail.ends_with(b"]") {
+            let at = out.len() - tail.len();
+            let inside = out[at - 1] == b'"';
+            out.splice(at - inside as usize..at - inside as usize, "é".bytes());
+        } else {
+            character(r, out);
+        }
+    }
+}
+
+fn xtext(r: &mut Random, out: &mut Vec<u8>, text: &[u8]) {
+    let much = r.once_in(4);
+    for &b in text {
+        if !(33..=126).contains(&b) || b == b'+' || b == b'=' || (much && r.once_in(2)) {
+            out.extend_from_slice(format!("+{b:02X}").as_bytes());
+        } else {
+            out.push(b);
+        }
+    }
+}
+
+/// The value of an ALT-ADDRESS: good, or one of the ways to be no xtext of an ASCII address.
+fn alternative(r: &mut Random, out: &mut Vec<u8>, good: bool) {
+    let mut text = Vec::new();
+    let long = r.from(20, 300);
+    address(r, &mut text, long, false);
+    if good {
+        xtext(r, out, &text);
+        return;
+    }
+    match r.below(9) {
+        0 => out.extend_from_slice(
+            r.pick(&[
+                "a+0D+0Ab@x", "+2b@x", "a+@x", "a@x+", "a@x+4", "a+4g@x", "Postmaster", "a", "@", "+", "<a@x>", "a@x.",
+                "\"a+09\"@x", "a+00@x", "a+20b@x", "a+7F@x", "a+40", "a@x+0D+0A",
+            ])
+            .as_bytes(),
+        ),
+        1 => {
+            text.clear();
+            address(r, &mut text, 20, true);
+            xtext(r, out, &text);
+        }
+        2 => {
+            xtext(r, out, &text);
+            out.extend_from_slice(r.pick(&["+2b", "+", "+A", "+zz", "@x", ",", ">", "+20", "+0A"]).as_bytes());
+        }
+        3 => {
+            let at = r.below(text.len());
+            text.remove(at);
+            xtext(r, out, &text);
+            if out.is_empty() {
+                out.push(b'a');
+            }
+        }
+        _ => {
+            let at = r.below(text.len() + 1);
+            let b = r.byte(b"\r\n\t\0 ,:;<>@\"\\.[]()\x7f\x80\xc3\xff");
+            text.insert(at, b);
+            xtext(r, out, &text);
+        }
+    }
+}
+
+fn parameter(r: &mut Random, out: &mut Vec<u8>) {
+    out.push(b' ');
+    match r.below(7) {
+        0 => in_any_case(r, out, "SIZE=1000"),
+        1 => in_any_case(r, out, "BODY=8BITMIME"),
+        2 => in_any_case(r, out, "ORCPT=rfc822;a+2Bb@x"),
+        3 => {
+            let parameter = r.pick(&["UTF8SMTP", "ORCPT", "ALT-ADDRES=a@x", "ALT-ADDRESSX"]);
+            in_any_case(r, out, parameter);
+        }
+        _ => {
+            out.push(r.byte(b"abzABZ019"));
+            for _ in 0..r.below(5) {
+                out.push(r.byte(b"azAZ09-"));
+            }
+            if r.once_in(2) {
+                out.push(b'=');
+                for _ in 0..r.from(1, 8) {
+                    out.push(r.byte(b"!\"#+-,./09:;<>?@AZ[\\]^_az{|}~"));
+                }
+            }
+        }
+    }
+}
+
+/// How often an envelope's line is at fault, once in so many.
+const FAULT: usize = 24;
+
+fn envelope_line(r: &mut Random, out: &mut Vec<u8>, mail: bool, faults: bool) {
+    let start = out.len();
+    in_any_case(r, out, if mail { "MAIL FROM:" } else { "RCPT TO:" });
+    out.push(b'<');
+    let mut alternatives = 0;
+    let fault = if faults { r.below(FAULT) } else { FAULT };
+    if r.once_in(8) && fault > 3 {
+        if !mail {
+            in_any_case(r, out, "Postmaster");
+        }
+    } else {
+        let non_ascii = r.once_in(2) && fault != 1 && fault != 2 || fault == 0 || fault == 3;
+        let limit = if r.once_in(4) { r.from(900, 990) } else { 60 };
+        address(r, out, limit, non_ascii);
+        alternatives = if non_ascii && fault != 0 { 1 } else { 0 };
+    }
+    if fault == 1 || (r.once_in(200) && faults) {
+        alternatives += 1;
+    }
+    out.push(b'>');
+    let mut others = if r.once_in(3) { r.below(4) } else { 0 };
+    while alternatives + others > 0 {
+        if r.below(alternatives + others) < alternatives {
+            out.push(b' ');
+            in_any_case(r, out, "ALT-ADDRESS");
+            out.push(b'=');
+            alternative(r, out, fault != 3);
+            alternatives -= 1;
+        } else {
+            parameter(r, out);
+            others -= 1;
+        }
+    }
+    if fault == 4 {
+        out.push(b' ');
+        in_any_case(r, out, "ORCPT=");
+        out.extend_from_slice(b"utf-8;");
+        atom(r, out, 5, true);
+    }
+    if r.once_in(20) && fault != 2 {
+        pad(r, out, start);
+    }
+    if fault == 5 && r.once_in(2) {
+        damage_line(r, out, start);
+    }
+    out.extend_from_slice(b"\r\n");
+}
+
+/// Makes the line about 998 bytes long.
+fn pad(r: &mut Random, out: &mut Vec<u8>, start: usize) {
+    let end = start + r.from(996, 999);
+    if out.len() + 4 < end {
+        out.extend_from_slice(b" X=");
+        while out.len() < end {
+            out.push(b'y');
+        }
+    }
+}
+
+/// One change in the line by what a malformed line may look like.
+fn damage_line(r: &mut Random, out: &mut Vec<u8>, start: usize) {
+    match r.below(4) {
+        0 => out.extend_from_slice(
+            r.pick(&[
+                " ", "  X", " -X", " X=", " =", " X=a=b", "\tX", " Xé", " X=é", " ALT-ADDRESS", " alt-address=",
+                " ALT-ADDRESS=é@x", " ALT-ADDRESS=a@x ALT-ADDRESS=a@x", "x", ">", " X_", " X=\x7f",
+            ])
+            .as_bytes(),
+        ),
+        1 => {
+            out.truncate(start);
+            out.extend_from_slice(
+                r.pick(&[
+                    "", "DATA", "MAIL FROM:", "RCPT TO: <a@x>", "RCPT TO:<>", "MAIL FROM:<Postmaster>",
+                    "RCPT TO:<@a:b@x>", "RCPT TO:<@a,@b:c@d>", "RCPT  TO:<a@x>", "RCPT TO:a@x", "RCPT TO:<a>",
+                    "RCPT TO:<Postmaster >", "MAIL FROM:< >", "RCPT TO:<a@x", "MAIL FROM:<a@x>\r", "RCPT TO:<a@x>\n",
+                    "RCPT TO:<\"\\é\"@x> ALT-ADDRESS=a@x", "RCPT TO:<a@[é]> ALT-ADDRESS=a@x",
+                    "RCPT TO:<Postmaster> ALT-ADDRESS=a@x", "MAIL FROM:<> ALT-ADDRESS=a@x", "MAIL FROM:<a@[[]>",
+                ])
+                .as_bytes(),
+            );
+        }
+        _ => {
+            let at = r.from(start, out.len() - 1);
+            match r.below(3) {
+                0 => out[at] = r.byte(SPECIAL),
+                1 => out.insert(at, r.byte(SPECIAL)),
+                _ => {
+                    out.remove(at);
+                }
+            }
+        }
+    }
+}
+
+pub fn envelope(r: &mut Random) -> Vec<u8> {
+    let mut out = Vec::new();
+    let lines = match r.below(300) {
+        0 => 0,
+        1..=4 => r.from(100, 103),
+        5..=10 => r.from(10, 30),
+        11..=13 => return long_envelope(r),
+        14..=150 => 2,
+        _ => r.from(2, 5),
+    };
+    let faults = lines < 10 && r.once_in(2);
+    for line in 0..lines {
+        if lines > 99 && line > 0 && !r.once_in(20) {
+            out.extend_from_slice(b"RCPT TO:<b@y>\r\n");
+        } else {
+            envelope_line(r, &mut out, line == 0, faults);
+        }
+    }
+    if r.once_in(150) {
+        out.extend_from_slice(r.pick(&["\r\n", "x", "RCPT TO:<a@x>", "MAIL FROM:<a@x>\r\n", "\n", "\r"]).as_bytes());
+    }
+    out
+}
+
+/// About 16,384 bytes.
+fn long_envelope(r: &mut Random) -> Vec<u8> {
+    let mut out = b"MAIL FROM:<a@x>\r\n".to_vec();
+    let size = r.from(16_383, 16_386);
+    while out.len() + 2000 < size {
+        out.extend_from_slice(b"RCPT TO:<b@y> X=");
+        out.resize(out.len() + 900, b'z');
+        out.extend_from_slice(b"\r\n");
+    }
+    out.extend_from_slice(b"RCPT TO:<b@y> X=");
+    out.resize(out.len() + 900, b'z');
+    out.extend_from_slice(b"\r\n");
+    out.extend_from_slice(b"RCPT TO:<b@y> X=");
+    out.resize(size - 2, b'z');
+    out.extend_from_slice(b"\r\n");
+    out
+}
+
+/// A text of characters of all lengths, in runs.
+fn text(r: &mut Random, out: &mut Vec<u8>, len: usize) {
+    let end = out.len() + len;
+    let mut way = r.below(6);
+    while out.len() < end {
+        if r.once_in(20) {
+            way = r.below(6);
+        }
+        match way {
+            0 => out.push(r.byte(b"abcxyzABC019!*+-/")),
+            1 => out.push(r.byte(b" .,@_?=<>()\"\t\x01\x7f")),
+            2 => out.extend_from_slice(CHARACTERS[r.below(4)].as_bytes()),
+            3 => character(r, out),
+            4 => out.push(r.from(32, 126) as u8),
+            _ if r.once_in(3) => character(r, out),
+            _ if r.once_in(5) => out.push(b' '),
+            _ => out.push(r.byte(ATEXT)),
+        }
+    }
+}
+
+/// Blanks that may stand here: mostly one space or none.
+fn blanks(r: &mut Random, out: &mut Vec<u8>, least: usize) {
+    match r.below(8) {
+        0 => {
+            for _ in 0..r.from(least, 3) {
+                out.push(r.byte(b"  \t"));
+            }
+        }
+        1 | 2 => out.resize(out.len() + least, b' '),
+        3 => out.push(b'\t'),
+        _ => out.push(b' '),
+    }
+}
+
+/// How often a part of an address list is at fault: once in so many, or never for 0.
+struct Faults {
+    once_in: usize,
+}
+
+impl Faults {
+    fn here(&self, r: &mut Random) -> bool {
+        self.once_in > 0 && r.once_in(self.once_in)
+    }
+}
+
+fn word(r: &mut Random, out: &mut Vec<u8>, non_ascii: bool) {
+    let len = length(r, 900);
+    if r.once_in(4) {
+        quoted_string(r, out, len.max(2), non_ascii);
+    } else if r.once_in(6) {
+        atom(r, out, len, non_ascii);
+        out.push(b'.');
+    } else if r.once_in(20) {
+        out.extend_from_slice(r.pick(&[".", "..", "a..b", "\"\"", "\"\\\"\"", "\"\\\\\"", ".a"]).as_bytes());
+    } else {
+        atom(r, out, len, non_ascii);
+    }
+}
+
+fn phrase(r: &mut Random, out: &mut Vec<u8>, f: &Faults) {
+    let non_ascii = r.below(3) > 0;
+    word(r, out, non_ascii);
+    while r.once_in(2) {
+        if f.here(r) {
+            out.extend_from_slice(r.pick(&["", "(c)", "\\", "@", ",", " ( ", "\x7f", "\"", "[x]"]).as_bytes());
+        } else {
+            blanks(r, out, 1);
+        }
+        let non_ascii = non_ascii && r.once_in(2);
+        word(r, out, non_ascii);
+    }
+}
+
+fn mailbox(r: &mut Random, out: &mut Vec<u8>, f: &Faults) {
+    if f.here(r) {
+        out.extend_from_slice(
+            r.pick(&[
+                "", "a", "é", "<>", "a@x <b@x>", "b:;", "<a@x >", "<a@x <b@x>>", "<é@x<b@x>>", "<é@x <é@x>>",
+                "<é@x <b@x> >", "<é@x <b@x >>", "<é@x <b@x>", "<@a:b@x>", "<a@x <b@x>>", "<a@x < b@x>>", "a@x.",
+                "a b@x", "<<a@x>>", "a@x b@x", "\"a@x", "<é@x b@x>", ",", ";", ":", "a@b@c",
+            ])
+            .as_bytes(),
+        );
+        return;
+    }
+    match r.below(4) {
+        0 => {
+            let non_ascii = r.once_in(3);
+            address(r, out, 900, non_ascii);
+            return;
+        }
+        1 => {}
+        _ => {
+            phrase(r, out, f);
+            blanks(r, out, 0);
+        }
+    }
+    out.push(b'<');
+    if r.once_in(4) {
+        blanks(r, out, 0);
+    }
+    if r.once_in(3) {
+        address(r, out, 900, true);
+        let least = if f.here(r) { 0 } else { 1 };
+        blanks(r, out, least);
+        out.push(b'<');
+        if r.once_in(4) {
+            blanks(r, out, 0);
+        }
+        address(r, out, 900, false);
+        if f.here(r) {
+            blanks(r, out, 0);
+        }
+        out.push(b'>');
+    } else {
+        let non_ascii = r.once_in(3);
+        address(r, out, 900, non_ascii);
+        if f.here(r) {
+            blanks(r, out, 0);
+        }
+    }
+    out.push(b'>');
+}
+
+fn address_list(r: &mut Random, out: &mut Vec<u8>, f: &Faults) {
+    loop {
+        if r.once_in(5) {
+            phrase(r, out, f);
+            blanks(r, out, 0);
+            out.push(b':');
+            blanks(r, out, 0);
+            if f.here(r) {
+                // A group inside a group.
+                phrase(r, out, f);
+                out.extend_from_slice(r.pick(&[":;", " : a@x ;", ":a@x,b@y;"]).as_bytes());
+            } else if !r.once_in(4) {
+                mailbox(r, out, f);
+                while r.once_in(3) {
+                    blanks(r, out, 0);
+                    out.push(if f.here(r) { b';' } else { b',' });
+                    blanks(r, out, 0);
+                    mailbox(r, out, f);
+                }
+                blanks(r, out, 0);
+            }
+            if !f.here(r) {
+                out.push(b';');
+            }
+        } else {
+            mailbox(r, out, f);
+        }
+        blanks(r, out, 0);
+        if f.here(r) {
+            out.extend_from_slice(r.pick(&[",,", ", ,", ";", "x", "(c)", ">", " <a@x>", ":"]).as_bytes());
+        }
+        if !r.once_in(2) {
+            break;
+        }
+        out.push(b',');
+        blanks(r, out, 0);
+    }
+    while out.last() == Some(&b' ') && r.once_in(2) {
+        out.pop();
+    }
+}
+
+const TOKENS: &[&str] = &[
+    "a", "b.c", "é", "é", "\"q r\"", "\"é\\\"\"", "@", ".", "<", ">", ">>", ",", ":", ";", " ", "\t", "a@b", "é@x",
+    "a@[1]", "\"q\"@x", "<a@b>", "<é@x>", "<é@x <a@b>>", " <a@b>", ", ", " : ", " ; ", "g:a@b;", "(", ")", "\"", "\\",
+    "[", "]",
+];
+
+/// Tokens of the grammar, whatever their order.
+fn tokens_in_any_order(r: &mut Random, out: &mut Vec<u8>) {
+    for _ in 0..r.from(1, 9) {
+        out.extend_from_slice(r.pick(TOKENS).as_bytes());
+    }
+}
+
+/// A list, and then one or two of its bytes changed, added or taken out, so that lines stay well-formed.
+fn changed_list(r: &mut Random, out: &mut Vec<u8>) {
+    let start = out.len();
+    address_list(r, out, &Faults { once_in: 0 });
+    for _ in 0..r.from(1, 2) {
+        let places: Vec<usize> = (start..out.len()).filter(|&at| out[at] < 128).collect();
+        if places.is_empty() {
+            return;
+        }
+        // Near something of the grammar more often than inside a word.
+        let mut at = places[r.below(places.len())];
+        for _ in 0..6 {
+            if !out[at].is_ascii_alphanumeric() {
+                break;
+            }
+            at = places[r.below(places.len())];
+        }
+        let b = r.byte(b",:;<>@\"\\. \t()[]a\x7f\x01\x0b\x0c");
+        match r.below(3) {
+            0 => out[at] = b,
+            1 => out.insert(at, b),
+            _ => {
+                out.remove(at);
+            }
+        }
+    }
+}
+
+/// Puts CRLF before spaces and TABs: now and then, and where the line would grow past 998 bytes.
+fn fold(r: &mut Random, value: &[u8], name: usize, often: usize) -> Vec<u8> {
+    let mut out = Vec::with_capacity(value.len() + 16);
+    let mut line = name;
+    for (at, &b) in value.iter().enumerate() {
+        if b == b' ' || b == b'\t' {
+            let next = value[at + 1..].iter().position(|&b| b == b' ' || b == b'\t').unwrap_or(value.len() - at - 1);
+            if line > 0 && ((often > 0 && r.once_in(often)) || line + 1 + next > 998) {
+                out.extend_from_slice(b"\r\n");
+                line = 0;
+            }
+        }
+        out.push(b);
+        line += 1;
+    }
+    out
+}
+
+fn name(r: &mut Random, out: &mut Vec<u8>, held: bool) -> bool {
+    match r.below(12) {
+        0 => {
+            out.extend_from_slice(r.pick(NEAR_NAMES).as_bytes());
+            false
+        }
+        1 => {
+            let len = match r.below(60) {
+                0 => 77,
+                1..=4 => r.from(75, 76),
+                _ => r.from(1, 20),
+            };
+            for _ in 0..len {
+                let b = r.from(33, 126) as u8;
+                out.push(if b == b':' { b'x' } else { b });
+            }
+            false
+        }
+        2..=4 => {
+            let at = if held { r.from(TAKEN_NAMES, NAMED.len() - 1) } else { r.from(ADDRESS_NAMES, TAKEN_NAMES - 1) };
+            in_any_case(r, out, NAMED[at]);
+            false
+        }
+        _ => {
+            let at = r.below(ADDRESS_NAMES);
+            in_any_case(r, out, NAMED[at]);
+            true
+        }
+    }
+}
+
+fn field(r: &mut Random, out: &mut Vec<u8>, held: bool) {
+    let start = out.len();
+    let is_address = name(r, out, held);
+    out.push(b':');
+    let mut value = Vec::new();
+    if !r.once_in(6) {
+        blanks(r, &mut value, 0);
+    }
+    if is_address || r.once_in(8) {
+        match r.below(10) {
+            0 | 1 => address_list(r, &mut value, &Faults { once_in: 8 }),
+            2 | 3 => changed_list(r, &mut value),
+            4 => tokens_in_any_order(r, &mut value),
+            5 => {
+                let len = r.from(1, 60);
+                text(r, &mut value, len);
+            }
+            _ => address_list(r, &mut value, &Faults { once_in: 0 }),
+        }
+    } else {
+        match r.below(40) {
+            0..=7 => {
+                for _ in 0..r.below(40) {
+                    value.push(r.from(32, 126) as u8);
+                }
+            }
+            8 => {
+                // One line of just about 998 bytes.
+                let len = r.from(995, 999).saturating_sub(out.len() - start);
+                while value.len() + 4 < len {
+                    if r.once_in(2) {
+                        character(r, &mut value);
+                    } else {
+                        value.push(b'x');
+                    }
+                }
+                value.resize(len, b'z');
+                out.extend_from_slice(&value);
+                out.extend_from_slice(b"\r\n");
+                return;
+            }
+            9 | 10 => {
+                let len = r.from(100, 900);
+                text(r, &mut value, len);
+            }
+            _ => {
+                let len = r.from(0, 70);
+                text(r, &mut value, len);
+            }
+        }
+    }
+    let often = match r.below(6) {
+        0 => 2,
+        1 | 2 => 8,
+        _ => 0,
+    };
+    let folded = fold(r, &value, out.len() - start, often);
+    out.extend_from_slice(&folded);
+    out.extend_from_slice(b"\r\n");
+}
+
+pub fn header(r: &mut Random) -> Vec<u8> {
+    let mut out = Vec::new();
+    if r.once_in(100) {
+        return long_header(r);
+    }
+    for _ in 0..r.below(6) {
+        if r.once_in(4) {
+            // An ASCII field of any name, a held one too.
+            let name = r.pick(NAMED);
+            in_any_case(r, &mut out, name);
+            out.extend_from_slice(b": some <value> of, ASCII:;\r\n");
+            if r.once_in(3) {
+                out.extend_from_slice(b"\tand more\r\n");
+            }
+        }
+        let held = r.once_in(14);
+        field(r, &mut out, held);
+    }
+    if r.once_in(60) {
+        damage_header_line(r, &mut out);
+    }
+    out
+}
+
+/// One more line that is malformed, or nearly so.
+fn damage_header_line(r: &mut Random, out: &mut Vec<u8>) {
+    let lines: &[&[u8]] = &[
+        b"\r\n", b" x\r\n", b"\tx\r\n", b": x\r\n", b"A\r\n", b"A b: c\r\n", b"A: \0\r\n", b"A: \r\r\n", b"A: \n\r\n",
+        b"A: x", b"A: x\r", b"A: x\n", b"A\x7f: x\r\n", b"\xC3\xA9: x\r\n", b"A: \x80\r\n", b"A: \xC3\r\n",
+        b"A: \xE0\x9F\x80\r\n", b"A: \xED\xA0\x80\r\n", b"A: \xF4\x90\x80\x80\r\n", b"A: \xC1\x81\r\n",
+        b"A: \xF0\x8F\x80\x80\r\n", b"A: \xF5\x80\x80\x80\r\n", b" \r\n", b"A:\r\n", b"A:\r\n \xE2\x82\r\n",
+        b"~:\x01\r\n",
+    ];
+    let line = r.pick(lines);
+    // At the start of some line.
+    let mut starts = vec![0];
+    starts.extend((1..=out.len()).filter(|&at| out[at - 1] == b'\n'));
+    let at = starts[r.below(starts.len())];
+    out.splice(at..at, line.iter().copied());
+}
+
+/// About 32,768 bytes.
+fn long_header(r: &mut Random) -> Vec<u8> {
+    let mut out = Vec::new();
+    let size = r.from(32_766, 32_769);
+    while out.len() + 1100 < size {
+        out.extend_from_slice(r.pick(&["Subject: ", "To: é@x,", "X-Long:\t"]).as_bytes());
+        for _ in 0..r.from(1, 200) {
+            if r.once_in(2) {
+                character(r, &mut out);
+            } else {
+                out.push(b'a');
+            }
+        }
+        out.extend_from_slice(b"\r\n");
+    }
+    out.extend_from_slice(b"X: ");
+    let last = (out.len() + 700).min(size - 2);
+    out.resize(last, b'y');
+    if last < size - 2 {
+        out.extend_from_slice(b"\r\n ");
+        out.resize(size - 2, b'y');
+    }
+    out.extend_from_slice(b"\r\n");
+    out
+}
+
+/// One to four changes anywhere.
+pub fn damage(r: &mut Random, bytes: &mut Vec<u8>) {
+    for _ in 0..r.from(1, 4) {
+        if bytes.is_empty() {
+            bytes.push(r.byte(SPECIAL));
+            continue;
+        }
+        let at = r.below(bytes.len());
+        match r.below(8) {
+            0 | 1 => bytes[at] = r.byte(SPECIAL),
+            2 | 3 => bytes.insert(at, r.byte(SPECIAL)),
+            4 | 5 => {
+                bytes.remove(at);
+            }
+            6 => bytes[at] = r.next() as u8,
+            _ if r.once_in(3) => bytes.truncate(at),
+            _ => {
+                let end = (at + r.from(1, 20)).min(bytes.len());
+                let part = bytes[at..end].to_vec();
+                let to = r.below(bytes.len() + 1);
+                bytes.splice(to..to, part);
+            }
+        }
+    }
+}
+
+pub fn random_bytes(r: &mut Random) -> Vec<u8> {
+    let len = r.below(120);
+    let way = r.below(3);
+    (0..len)
+        .map(|_| match way {
+            0 => r.next() as u8,
+            1 => r.byte(SPECIAL),
+            _ => r.byte(b"MAIL FROM:<a@x>\r\nRCPT TO:\xc3\xa9 ="),
+        })
+        .collect()
+}
+
+/// One input.
+pub fn input(r: &mut Random) -> (Vec<u8>, Vec<u8>) {
+    let mut e = match r.below(40) {
+        0 => random_bytes(r),
+        // A plain envelope, so that the header decides.
+        1..=15 => b"MAIL FROM:<a@x>\r\nRCPT TO:<b@y>\r\n".to_vec(),
+        _ => envelope(r),
+    };
+    let mut h = if r.once_in(40) { random_bytes(r) } else { header(r) };
+    match r.below(12) {
+        0 => damage(r, &mut e),
+        1 | 2 => damage(r, &mut h),
+        _ => {}
+    }
+    (e, h)
+}
