@@ -59,7 +59,7 @@ relay-test: lib
 	$(MAKE) -C relay test
 
 fuzz: lib
-	cd rust && HENNELAKU_LIB_DIR=$(CURDIR)/dist cargo run --release --features proved --bin fuzz -- $(SECONDS)
+	cd rust && HENNELAKU_LIB_DIR=$(CURDIR)/dist cargo run --release --features proved --bin fuzz -- --seconds $(SECONDS)
 
 bench: lib
 	cd rust && HENNELAKU_LIB_DIR=$(CURDIR)/dist cargo run --release --features proved --bin bench

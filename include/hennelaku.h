@@ -73,7 +73,9 @@ enum hennelaku_number {
     HENNELAKU_HEADER_LINE = 5,
     /* An ORCPT value holds non-ASCII: place is the line of the envelope. Or no
      * ORCPT does, and a header field that must not be rewritten does: place is
-     * the first line of that field in the header. */
+     * the first line of that field in the header. Which of the two it is shows
+     * in the envelope: its lines hold non-ASCII after the path only in an
+     * ORCPT value. */
     HENNELAKU_HELD = 6,
     /* The outgoing envelope is longer than its buffer. place is the length
      * that it needs, in bytes. */

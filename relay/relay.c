@@ -231,53 +231,38 @@ static int tell_refusal(const message *m, hennelaku_answer answer)
     }
 }
 
-/* Reads a whole file into *bytes, to be freed. Returns an exit status. */
-static int read_file(const char *name, uint8_t **bytes, size_t *len)
+/* Reads what is left of a file into *bytes, to be freed whatever comes back.
+ * Returns an exit status. */
+static int read_all(FILE *in, const char *name, uint8_t **bytes, size_t *len)
 {
-    FILE *in = fopen(name, "rb");
     size_t room = 65536;
-    size_t have = 0;
-    uint8_t *all = NULL;
-    int status = EXIT_TRY_LATER;
 
-    if (in == NULL) {
-        fprintf(stderr, "%s: cannot be opened: %s\n", name, strerror(errno));
-        return EXIT_TRY_LATER;
-    }
+    *bytes = NULL;
+    *len = 0;
     for (;;) {
-        uint8_t *more = realloc(all, room);
+        uint8_t *more = realloc(*bytes, room);
 
         if (more == NULL) {
             fprintf(stderr, "%s: no memory for %zu bytes\n", name, room);
-            break;
+            return EXIT_TRY_LATER;
         }
-        all = more;
-        have += fread(all + have, 1, room - have, in);
+        *bytes = more;
+        *len += fread(more + *len, 1, room - *len, in);
         if (ferror(in)) {
             fprintf(stderr, "%s: cannot be read: %s\n", name,
                     strerror(errno));
-            break;
+            return EXIT_TRY_LATER;
         }
-        if (have > MAX_FILE) {
+        if (*len > MAX_FILE) {
             fprintf(stderr, "%s: too large: messages have at most %zu "
                     "bytes\n", name, MAX_FILE);
-            status = EXIT_REFUSED;
-            break;
+            return EXIT_REFUSED;
         }
-        if (have < room) {
-            status = EXIT_SENT;
-            break;
+        if (*len < room) {
+            return EXIT_SENT;
         }
         room *= 2;
     }
-    fclose(in);
-    if (status != EXIT_SENT) {
-        free(all);
-        all = NULL;
-    }
-    *bytes = all;
-    *len = have;
-    return status;
 }
 
 /* Cuts a part off the front of *rest, with its last CRLF, and drops the empty
@@ -440,12 +425,29 @@ static int read_options(int argc, char **argv, options *o)
     return 1;
 }
 
-int main(int argc, char **argv)
+/* Relays the message in an open file. Returns an exit status. */
+static int relay_file(FILE *in, const options *o)
 {
-    options o;
     message m;
     uint8_t *bytes;
     part all;
+    int status = read_all(in, o->file, &bytes, &all.len);
+
+    all.bytes = bytes;
+    if (status == EXIT_SENT) {
+        status = take_apart(o->file, all, &m);
+    }
+    if (status == EXIT_SENT) {
+        status = relay(&m, o->envelope_room, o->header_room);
+    }
+    free(bytes);
+    return status;
+}
+
+int main(int argc, char **argv)
+{
+    options o;
+    FILE *in;
     int status;
 
     if (!read_options(argc, argv, &o)) {
@@ -454,15 +456,13 @@ int main(int argc, char **argv)
               "less than always suffices\n", stderr);
         return EXIT_BAD_USAGE;
     }
-    status = read_file(o.file, &bytes, &all.len);
-    if (status != EXIT_SENT) {
-        return status;
+    in = fopen(o.file, "rb");
+    if (in == NULL) {
+        fprintf(stderr, "%s: cannot be opened: %s\n", o.file,
+                strerror(errno));
+        return EXIT_TRY_LATER;
     }
-    all.bytes = bytes;
-    status = take_apart(o.file, all, &m);
-    if (status == EXIT_SENT) {
-        status = relay(&m, o.envelope_room, o.header_room);
-    }
-    free(bytes);
+    status = relay_file(in, &o);
+    fclose(in);
     return status;
 }

@@ -282,6 +282,38 @@ static void test_line_lengths(void)
     free(e999.at);
 }
 
+/* An address field with a phrase word or an address of so many bytes: whether
+ * it was rewritten, and not encapsulated. */
+static int rewritten(const char *front, size_t word, const char *rest)
+{
+    text h = line_of("To:", front, word);
+    outcome o;
+    int fits;
+
+    h.len -= 2;
+    text_add(&h, rest);
+    text_add(&h, "\r\n");
+    o = call(AREA_EXACT, bytes_of(PLAIN), text_bytes(&h), 100, 20000);
+    expect_answer(&o, HENNELAKU_OK, 0);
+    fits = o.answer.header_len > 3 && memcmp(o.header.at, "To:", 3) == 0;
+    outcome_free(&o);
+    free(h.at);
+    return fits;
+}
+
+static void test_word_lengths(void)
+{
+    if (!rewritten("", 900, " " E_ACUTE " <a@x>")
+        || rewritten("", 901, " " E_ACUTE " <a@x>")) {
+        blame("the limit is not 900 for a word");
+    }
+    report("phrase word of 900 fits, of 901 does not");
+    if (!rewritten(E_ACUTE "@", 900, "") || rewritten(E_ACUTE "@", 901, "")) {
+        blame("the limit is not 900 for an address");
+    }
+    report("address of 900 fits, of 901 does not");
+}
+
 /* A well-formed header of exactly so many bytes, at least 12. */
 static text header_of(size_t len)
 {
@@ -415,6 +447,39 @@ static void test_bounds(void)
     outcome_free(&o);
     report("the header that grows most stays within the bounds");
     free(h.at);
+}
+
+/* A line of 998 bytes whose path is to be replaced. */
+static void add_replaced(text *t, const char *verb)
+{
+    size_t start = t->len;
+
+    text_add(t, verb);
+    text_add(t, E_ACUTE "@");
+    while (t->len - start < 600) {
+        text_add(t, "\xF0\x9F\x98\x80");
+    }
+    text_add(t, "> ALT-ADDRESS=_@");
+    text_fill(t, '_', 998 - (t->len - start));
+    text_add(t, "\r\n");
+}
+
+static void test_first_fields(void)
+{
+    text e = text_new(2000);
+    outcome o;
+
+    add_replaced(&e, "MAIL FROM:<");
+    add_replaced(&e, "RCPT TO:<");
+    o = call(AREA_BEFORE_PAGE, text_bytes(&e), bytes_of(""), e.len,
+             HENNELAKU_HEADER_ROOM_FOR(0));
+    expect_answer(&o, 0, 0);
+    if (o.answer.header_len < 7000) {
+        blame("they have only %zu bytes", o.answer.header_len);
+    }
+    outcome_free(&o);
+    report("long new first fields stay within the bounds");
+    free(e.at);
 }
 
 /* Answers do not depend on the calls before. */
@@ -591,10 +656,12 @@ int main(void)
     test_cases();
     test_recipients();
     test_line_lengths();
+    test_word_lengths();
     test_limits();
     test_nul();
     test_null();
     test_bounds();
+    test_first_fields();
     test_nothing_kept();
     test_threads();
     test_number_text();
