@@ -1,28 +1,71 @@
-# make test: the gate.  make run: rows of encoded words for the checked cases.
-# make model, fuzz, bench: the Rust model, alone and beside the proved call (rust/README.md).
+# make test         the gate
+# make run          the program `downgrade` on examples/bulletin.txt, or IN=FILE
+# make lib          dist/libhennelaku.a and dist/hennelaku.h, for C and Rust
+# make install      header, library, pkg-config file, man page; PREFIX, DESTDIR
+# make relay        the C relay, target/relay/relay
+# make relay-test   tests of the library through its C header, and of the relay
+# make model        the Rust model's own tests (rust/README.md)
+# make fuzz         proved call against the Rust model; SECONDS=, SEED=
+# make bench        times of both
+# make clean        removes target/ and dist/
+#
+# All that is proved needs the Rattle kit (rt); relay and relay-test a C
+# compiler; model, fuzz and bench cargo.
 
-.PHONY: test run model fuzz bench clean
+IN = examples/bulletin.txt
+PREFIX = /usr/local
+DESTDIR =
+VERSION = 0.1.0
+
+INSTALL = install
+CARGO = cd rust && HENNELAKU_LIB_DIR=$(CURDIR)/dist cargo
+CODE := crates.txt $(shell find crates -name '*.rt')
+
+.PHONY: test run lib install relay relay-test model fuzz bench clean
 
 test:
 	.ci/run
 
-# Proves word_cases and what it stands on, then runs it.
+# The kit builds a program only by proving it.
 run:
 	@mkdir -p target
-	@rt check word_cases >target/run.log 2>&1 || { cat target/run.log; exit 1; }
-	@target/bin/word_cases
+	@rt check downgrade >target/run.log 2>&1 || { cat target/run.log; exit 1; }
+	@target/bin/downgrade <$(IN)
 
-HENNELAKU_LIB_DIR ?= $(CURDIR)/dist
-export HENNELAKU_LIB_DIR
+lib: dist/libhennelaku.a dist/hennelaku.h
+
+# rt staticlib proves `hennelaku` and the crates under it, then compiles them to
+# one archive, which needs no other library.
+dist/libhennelaku.a: $(CODE)
+	@mkdir -p target dist
+	@rt staticlib hennelaku >target/lib.log 2>&1 || { cat target/lib.log; exit 1; }
+	@cp target/staticlib/libhennelaku.a $@
+
+dist/hennelaku.h: include/hennelaku.h
+	@mkdir -p dist
+	@cp include/hennelaku.h $@
+
+install: lib
+	$(INSTALL) -d $(DESTDIR)$(PREFIX)/include $(DESTDIR)$(PREFIX)/lib/pkgconfig $(DESTDIR)$(PREFIX)/share/man/man3
+	$(INSTALL) -m 644 dist/hennelaku.h $(DESTDIR)$(PREFIX)/include/hennelaku.h
+	$(INSTALL) -m 644 dist/libhennelaku.a $(DESTDIR)$(PREFIX)/lib/libhennelaku.a
+	sed -e 's,@PREFIX@,$(PREFIX),' -e 's,@VERSION@,$(VERSION),' hennelaku.pc.in >$(DESTDIR)$(PREFIX)/lib/pkgconfig/hennelaku.pc
+	$(INSTALL) -m 644 man/hennelaku_downgrade.3 $(DESTDIR)$(PREFIX)/share/man/man3/hennelaku_downgrade.3
+
+relay: lib
+	$(MAKE) -C relay
+
+relay-test: lib
+	$(MAKE) -C relay test
 
 model:
-	cd rust && cargo test --release --offline --quiet
+	$(CARGO) test --release --offline --quiet
 
-fuzz:
-	cd rust && cargo run --release --offline --quiet --features proved --bin fuzz -- $(if $(SEED),--seed $(SEED)) $(if $(SECONDS),--seconds $(SECONDS))
+fuzz: lib
+	$(CARGO) run --release --offline --quiet --features proved --bin fuzz -- $(if $(SEED),--seed $(SEED)) $(if $(SECONDS),--seconds $(SECONDS))
 
-bench:
-	cd rust && cargo run --release --offline --quiet --features proved --bin bench
+bench: lib
+	$(CARGO) run --release --offline --quiet --features proved --bin bench
 
 clean:
 	rm -rf target dist rust/target

@@ -1,0 +1,184 @@
+/*
+ * hennelaku.h - downgrade a mail envelope and header to ASCII by RFC 5504
+ *
+ * C99 or later, and C++. Link with libhennelaku.a (x86-64 Linux); it needs
+ * nothing else.
+ */
+#ifndef HENNELAKU_H
+#define HENNELAKU_H
+
+#include <stddef.h>
+#include <stdint.h>
+
+#ifdef __cplusplus
+extern "C" {
+#endif
+
+/* Limits of one call. */
+#define HENNELAKU_MAX_ENVELOPE 16384   /* bytes of an envelope */
+#define HENNELAKU_MAX_HEADER 32768     /* bytes of a header */
+#define HENNELAKU_MAX_RECIPIENTS 100   /* RCPT lines of an envelope */
+#define HENNELAKU_MAX_LINE 998         /* bytes of a line before its CRLF */
+
+/*
+ * Buffers that always suffice (docs/BOUNDS.md has the reasoning).
+ *
+ * The outgoing envelope is never longer than the envelope. The outgoing header
+ * has at most 18 bytes for each byte of the header, and 7,568 for the two
+ * fields that may be put before it. So with
+ *
+ *     envelope_room >= envelope_len   (or HENNELAKU_ENVELOPE_ROOM_MAX), and
+ *     header_room >= HENNELAKU_HEADER_ROOM_FOR(header_len)
+ *                                     (or HENNELAKU_HEADER_ROOM_MAX)
+ *
+ * the answers 7 and 8 are never given.
+ */
+#define HENNELAKU_ENVELOPE_ROOM_MAX HENNELAKU_MAX_ENVELOPE
+#define HENNELAKU_HEADER_ROOM_FOR(header_len) (18 * (header_len) + 7568)
+#define HENNELAKU_HEADER_ROOM_MAX 600000
+
+/*
+ * Stack that one call uses, in bytes, whatever its input.
+ * TO-MEASURE: the number below is a placeholder and was not measured;
+ * `make -C relay stack` measures it.
+ */
+#define HENNELAKU_STACK 262144
+
+/*
+ * The numbers of the answers. Where two conditions hold, the one that is
+ * looked for first is told: 1 (envelope, then header); 2, 3 and 4 as the first
+ * envelope line at fault, the lowest number within one line; the first 5; 6,
+ * the envelope before the header; 7; 8.
+ *
+ * Lines count from 0, each from the start of the envelope or of the header; a
+ * continuation line of a header counts as a line.
+ */
+enum hennelaku_number {
+    /* Downgraded. place is 0; both lengths say what was written. */
+    HENNELAKU_OK = 0,
+    /* An input is over its limit. place says which: 0 the envelope, 1 the
+     * header. */
+    HENNELAKU_TOO_LONG = 1,
+    /* An envelope line is malformed, or missing (an envelope has one MAIL line
+     * and 1 to 100 RCPT lines). place is the line of the envelope; for a
+     * missing line it is the number that the line would have. */
+    HENNELAKU_ENVELOPE_LINE = 2,
+    /* A path is not ASCII, and its line has no ALT-ADDRESS. place is the line
+     * of the envelope. */
+    HENNELAKU_NO_ALT_ADDRESS = 3,
+    /* An ALT-ADDRESS stands beside a path that is ASCII, or is not xtext of an
+     * ASCII address. place is the line of the envelope. */
+    HENNELAKU_BAD_ALT_ADDRESS = 4,
+    /* A header line is malformed. place is the line of the header. */
+    HENNELAKU_HEADER_LINE = 5,
+    /* An ORCPT value holds non-ASCII: place is the line of the envelope. Or no
+     * ORCPT does, and a header field that must not be rewritten does: place is
+     * the first line of that field in the header. Which of the two it is shows
+     * in the envelope: its lines hold non-ASCII after the path only in an
+     * ORCPT value. */
+    HENNELAKU_HELD = 6,
+    /* The outgoing envelope is longer than its buffer. place is the length
+     * that it needs, in bytes. */
+    HENNELAKU_ENVELOPE_ROOM = 7,
+    /* The outgoing header is longer than its buffer. place is the length that
+     * it needs, in bytes. */
+    HENNELAKU_HEADER_ROOM = 8
+};
+
+/* What a call answers. */
+typedef struct hennelaku_answer {
+    uint32_t number;      /* one of enum hennelaku_number */
+    size_t place;         /* a line, a number of bytes or an input: see there */
+    size_t envelope_len;  /* bytes written to the envelope's buffer, or 0 */
+    size_t header_len;    /* bytes written to the header's buffer, or 0 */
+} hennelaku_answer;
+
+/* The library is built for size_t of 8 bytes; another ABI fails here. */
+typedef char hennelaku_size_t_has_8_bytes[sizeof(size_t) == 8 ? 1 : -1];
+
+/*
+ * The library's own symbol. Each pointer has to be that of a byte array of the
+ * length beside it, and not null, also where that length is 0. Call
+ * hennelaku_downgrade instead.
+ */
+hennelaku_answer hennelaku_downgrade_slices(
+    const uint8_t *envelope, size_t envelope_len,
+    const uint8_t *header, size_t header_len,
+    uint8_t *envelope_buffer, size_t envelope_room,
+    uint8_t *header_buffer, size_t header_room);
+
+/*
+ * Downgrades one message.
+ *
+ * envelope: one line `MAIL FROM:<path> ..`, then 1 to 100 lines
+ * `RCPT TO:<path> ..`, each ended by CRLF. header: the header section, each
+ * line ended by CRLF, without the empty line after it; it may be empty.
+ * envelope_room and header_room are the sizes of the buffers.
+ *
+ * After number 0 the first envelope_len bytes of envelope_buffer and the first
+ * header_len bytes of header_buffer (lengths as answered) are the outgoing
+ * envelope and header: all ASCII, in the same form as the inputs. No byte past
+ * these lengths is touched.
+ *
+ * After any other number no byte of either buffer has changed, and both
+ * lengths are 0.
+ *
+ * Any bytes may be passed: there is no input that a caller has to keep away.
+ * What a caller owes: each pointer is that of as many bytes as the length
+ * beside it says; no two of the four overlap; no other thread writes to the
+ * inputs or uses the buffers during the call. A pointer whose length is 0 is
+ * not used and may be null: each of the four.
+ *
+ * Nothing is kept between calls. The call allocates nothing, reads no locale,
+ * does not touch errno, and may be made from several threads at once on
+ * distinct buffers. It uses at most HENNELAKU_STACK bytes of stack.
+ */
+static inline hennelaku_answer hennelaku_downgrade(
+    const uint8_t *envelope, size_t envelope_len,
+    const uint8_t *header, size_t header_len,
+    uint8_t *envelope_buffer, size_t envelope_room,
+    uint8_t *header_buffer, size_t header_room)
+{
+    uint8_t none[4] = {0, 0, 0, 0};
+
+    return hennelaku_downgrade_slices(
+        envelope_len == 0 ? &none[0] : envelope, envelope_len,
+        header_len == 0 ? &none[1] : header, header_len,
+        envelope_room == 0 ? &none[2] : envelope_buffer, envelope_room,
+        header_room == 0 ? &none[3] : header_buffer, header_room);
+}
+
+/* The meaning of a number in English, for a log. Never null. */
+static inline const char *hennelaku_number_text(uint32_t number)
+{
+    switch (number) {
+    case HENNELAKU_OK:
+        return "downgraded";
+    case HENNELAKU_TOO_LONG:
+        return "the envelope or the header is too long";
+    case HENNELAKU_ENVELOPE_LINE:
+        return "an envelope line is malformed or missing";
+    case HENNELAKU_NO_ALT_ADDRESS:
+        return "a path is not ASCII and has no ALT-ADDRESS";
+    case HENNELAKU_BAD_ALT_ADDRESS:
+        return "an ALT-ADDRESS stands beside an ASCII path, or does not "
+               "spell an ASCII address";
+    case HENNELAKU_HEADER_LINE:
+        return "a header line is malformed";
+    case HENNELAKU_HELD:
+        return "an ORCPT or a field that must not be rewritten holds "
+               "non-ASCII";
+    case HENNELAKU_ENVELOPE_ROOM:
+        return "the outgoing envelope is longer than its buffer";
+    case HENNELAKU_HEADER_ROOM:
+        return "the outgoing header is longer than its buffer";
+    default:
+        return "not an answer of this library";
+    }
+}
+
+#ifdef __cplusplus
+}
+#endif
+
+#endif /* HENNELAKU_H */

@@ -1,0 +1,90 @@
+#include "call.h"
+
+#include <errno.h>
+#include <string.h>
+
+bytes bytes_of(const char *text)
+{
+    bytes b = {(const uint8_t *)text, strlen(text)};
+
+    return b;
+}
+
+static int all_ascii(const uint8_t *at, size_t len)
+{
+    size_t i;
+
+    for (i = 0; i < len; i++) {
+        if (at[i] > 127) {
+            return 0;
+        }
+    }
+    return 1;
+}
+
+static const char *broken_answer(const outcome *o, bytes envelope,
+                                 bytes header)
+{
+    hennelaku_answer a = o->answer;
+
+    if (a.number > HENNELAKU_HEADER_ROOM) {
+        return "a number over 8";
+    }
+    if (a.number != HENNELAKU_OK && (a.envelope_len != 0 || a.header_len != 0)) {
+        return "a refusal with a length";
+    }
+    if (a.number == HENNELAKU_OK && a.place != 0) {
+        return "a place with 0";
+    }
+    if (a.envelope_len > o->envelope.len || a.header_len > o->header.len) {
+        return "a length over the buffer's";
+    }
+    if (!area_untouched(&o->envelope, a.envelope_len)) {
+        return "a byte of the envelope's buffer changed past the length";
+    }
+    if (!area_untouched(&o->header, a.header_len)) {
+        return "a byte of the header's buffer changed past the length";
+    }
+    if (!all_ascii(o->envelope.at, a.envelope_len)
+        || !all_ascii(o->header.at, a.header_len)) {
+        return "output that is not ASCII";
+    }
+    if (a.envelope_len > envelope.len
+        || a.header_len > HENNELAKU_HEADER_ROOM_FOR(header.len)) {
+        return "output over the bounds";
+    }
+    return NULL;
+}
+
+outcome call(area_kind kind, bytes envelope, bytes header,
+             size_t envelope_room, size_t header_room)
+{
+    area e = area_of(kind, envelope.at, envelope.len);
+    area h = area_of(kind, header.at, header.len);
+    outcome o;
+
+    o.envelope = area_new(kind, envelope_room);
+    o.header = area_new(kind, header_room);
+    errno = 12345;
+    o.answer = hennelaku_downgrade(e.at, e.len, h.at, h.len,
+                                   o.envelope.at, envelope_room,
+                                   o.header.at, header_room);
+    o.broken = broken_answer(&o, envelope, header);
+    if (errno != 12345) {
+        o.broken = "errno changed";
+    }
+    if ((e.len > 0 && memcmp(e.at, envelope.at, e.len) != 0)
+        || (h.len > 0 && memcmp(h.at, header.at, h.len) != 0)
+        || !area_untouched(&e, e.len) || !area_untouched(&h, h.len)) {
+        o.broken = "an input changed";
+    }
+    area_free(&e);
+    area_free(&h);
+    return o;
+}
+
+void outcome_free(outcome *o)
+{
+    area_free(&o->envelope);
+    area_free(&o->header);
+}

@@ -1,0 +1,105 @@
+/*
+ * Measures the stack that calls use. Each input is run on a thread whose stack
+ * was filled with a known value; what a thread that calls nothing uses is
+ * taken off. Frames have a fixed size, so that the deepest chain of calls
+ * counts and not the length of an input; the inputs reach every kind of field.
+ */
+#define _DEFAULT_SOURCE
+#include <pthread.h>
+#include <stdio.h>
+#include <stdlib.h>
+#include <string.h>
+#include <sys/mman.h>
+
+#include "call.h"
+#include "cases.h"
+
+#define STACK ((size_t)8 * 1024 * 1024)
+#define FILL 0x5A
+
+#define E_ACUTE "\xC3\xA9"
+#define PLAIN "MAIL FROM:<a@x>\r\nRCPT TO:<b@x>\r\n"
+
+typedef struct job {
+    bytes envelope;
+    bytes header;
+    int calls;
+    uint32_t number;
+} job;
+
+static uint8_t envelope_buffer[HENNELAKU_ENVELOPE_ROOM_MAX];
+static uint8_t header_buffer[HENNELAKU_HEADER_ROOM_MAX];
+
+static void *run(void *argument)
+{
+    job *j = argument;
+
+    if (j->calls) {
+        j->number = hennelaku_downgrade(
+            j->envelope.at, j->envelope.len, j->header.at, j->header.len,
+            envelope_buffer, sizeof envelope_buffer,
+            header_buffer, sizeof header_buffer).number;
+    }
+    return NULL;
+}
+
+/* The bytes of stack that a thread used. */
+static size_t used_by(job *j)
+{
+    uint8_t *stack = mmap(NULL, STACK, PROT_READ | PROT_WRITE,
+                          MAP_PRIVATE | MAP_ANONYMOUS, -1, 0);
+    pthread_attr_t attributes;
+    pthread_t thread;
+    size_t unused = 0;
+
+    if (stack == MAP_FAILED) {
+        fputs("no memory for a stack\n", stderr);
+        exit(2);
+    }
+    memset(stack, FILL, STACK);
+    if (pthread_attr_init(&attributes) != 0
+        || pthread_attr_setstack(&attributes, stack, STACK) != 0
+        || pthread_create(&thread, &attributes, run, j) != 0
+        || pthread_join(thread, NULL) != 0) {
+        fputs("no thread\n", stderr);
+        exit(2);
+    }
+    pthread_attr_destroy(&attributes);
+    while (unused < STACK && stack[unused] == FILL) {
+        unused++;
+    }
+    munmap(stack, STACK);
+    return STACK - unused;
+}
+
+int main(void)
+{
+    static const char *const headers[] = {
+        "To: " E_ACUTE "@x,\r\n \"" E_ACUTE "\" <" E_ACUTE "@x\r\n <a@x>>\r\n",
+        "To: g:\r\n " E_ACUTE "@x, a <b@x>;, <c@x>\r\n",
+        "Subject: " E_ACUTE "\r\n " E_ACUTE "\r\n",
+        "X-Note: " E_ACUTE "\r\n " E_ACUTE "\r\n",
+        "To: " E_ACUTE "\r\n " E_ACUTE "\r\n",
+    };
+    job nothing = {{NULL, 0}, {NULL, 0}, 0, 0};
+    size_t least = used_by(&nothing);
+    size_t most = least;
+    size_t count = sizeof headers / sizeof headers[0];
+    size_t i;
+
+    for (i = 0; i < case_count + count; i++) {
+        job j = {{NULL, 0}, {NULL, 0}, 1, 0};
+        size_t used;
+
+        j.envelope = bytes_of(i < case_count ? cases[i].envelope : PLAIN);
+        j.header = bytes_of(i < case_count ? cases[i].header
+                                           : headers[i - case_count]);
+        used = used_by(&j);
+        if (used > most) {
+            most = used;
+        }
+    }
+    printf("stack of a call: %zu bytes measured; HENNELAKU_STACK is %d\n",
+           most - least, HENNELAKU_STACK);
+    return most - least <= HENNELAKU_STACK ? 0 : 1;
+}
