@@ -1,0 +1,2 @@
+pub mod AddressField
+pub mod AddressFieldLaws
