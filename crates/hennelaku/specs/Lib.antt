@@ -1,0 +1,4 @@
+pub mod OutgoingHeader
+pub mod Outcome
+pub mod OutcomeLaws
+pub mod HeaderLaws
