@@ -135,5 +135,5 @@ module _ {h before mid : List ℕ} {i at n : ℕ} (g : Fielding h i at before mi
       let part = rendered (fieldSegments addressField (take (to - i) (drop i h))) in
       let more = rendered (headerSegments addressField (drop to h)) in
       let fits : n + length part ≤ greatest =
-        omega (arith, reached-within (g .reached), ap length (header-next h i to k e), length-append part more, length-header h) in
+      omega (arith, reached-within (g .reached), ap length (header-next h i to k e), length-append part more, length-header h) in
       record { reached = reached-then part more (g .reached) (header-next h i to k e) (appended-of a fits) }
