@@ -2,3 +2,4 @@ pub mod OutgoingHeader
 pub mod Outcome
 pub mod OutcomeLaws
 pub mod HeaderLaws
+pub mod NewFieldLaws

@@ -1,5 +1,6 @@
 // The downgrade call: an envelope and a header section to ASCII, or a refusal.
 mod fields;
+mod new_fields;
 mod refusing;
 
 ghost use mathlib.Core.Path.{_≡_};
