@@ -3,3 +3,4 @@ pub mod Outcome
 pub mod OutcomeLaws
 pub mod HeaderLaws
 pub mod NewFieldLaws
+pub mod OutputLaws

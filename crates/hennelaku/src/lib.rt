@@ -1,6 +1,7 @@
 // The downgrade call: an envelope and a header section to ASCII, or a refusal.
 mod fields;
 mod new_fields;
+mod output;
 mod refusing;
 
 ghost use mathlib.Core.Path.{_≡_};
