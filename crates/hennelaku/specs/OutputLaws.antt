@@ -160,8 +160,8 @@ module _ {e h array : List ℕ} {count : ℕ} (r : Ready e h array count) where
     ready-header d =
         let all = appended-then (appended-then first second) d in
         let is : rendered ((newField (bytes "Downgraded-Mail-From:") (mailReplacement e) ++ newField (bytes "Downgraded-Rcpt-To:") (rcptReplacement e)) ++ headerSegments addressField h)
-          ≡ (mail-from ++ rcpt-to) ++ rendered (headerSegments addressField h) =
-          rw (rendered-append (newField (bytes "Downgraded-Mail-From:") (mailReplacement e) ++ newField (bytes "Downgraded-Rcpt-To:") (rcptReplacement e)) (headerSegments addressField h), rendered-append (newField (bytes "Downgraded-Mail-From:") (mailReplacement e)) (newField (bytes "Downgraded-Rcpt-To:") (rcptReplacement e)), ← rcpt-is) in
+        ≡ (mail-from ++ rcpt-to) ++ rendered (headerSegments addressField h) =
+        rw (rendered-append (newField (bytes "Downgraded-Mail-From:") (mailReplacement e) ++ newField (bytes "Downgraded-Rcpt-To:") (rcptReplacement e)) (headerSegments addressField h), rendered-append (newField (bytes "Downgraded-Mail-From:") (mailReplacement e)) (newField (bytes "Downgraded-Rcpt-To:") (rcptReplacement e)), ← rcpt-is) in
         wrote-from (rw is all)
 
   -- ---- room
@@ -197,6 +197,6 @@ module _ {e h array : List ℕ} {count : ℕ} (r : Ready e h array count) where
     unfolding firstOf outcome outcomeOf
     downgraded {n} {m} {b′} {c′} {a} q k p l x y v w =
         let fine : verdict e h (length b) (length c) ≡ Accept =
-          past-content
-          ∙ rw (over-no (length b) (length (written e)) (EnvelopeNeeds (length (written e))) (rw q at k), over-no (length c) (length (outgoingHeader e h)) (HeaderNeeds (length (outgoingHeader e h))) (rw p at l)) in
+        past-content
+        ∙ rw (over-no (length b) (length (written e)) (EnvelopeNeeds (length (written e))) (rw q at k), over-no (length c) (length (outgoingHeader e h)) (HeaderNeeds (length (outgoingHeader e h))) (rw p at l)) in
         rw (fine, x, y, v .size, w .size, v .bytes, w .bytes)

@@ -6,12 +6,12 @@ ghost use Rattle.envelope.specs.Envelope.{written};
 ghost use Rattle.hennelaku.specs.OutgoingHeader.{outgoingHeader};
 ghost use Rattle.hennelaku.specs.Outcome.{left, outcome};
 ghost use Rattle.hennelaku.specs.OutputLaws.{Ready, Accepted};
+use crate::Answer;
+use crate::Refusal;
 use crate::fields::add_fields;
 use crate::new_fields::add_mail_from;
 use crate::new_fields::add_rcpt_to;
 use crate::refusing::refused;
-use crate::Answer;
-use crate::Refusal;
 
 // Writes the outgoing header to the front of out, as far as it fits; answers its whole length.
 fn put_header(
