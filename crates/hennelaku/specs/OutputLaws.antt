@@ -41,11 +41,11 @@ pub refused-left : (e h b c : List ℕ) {refusal : Refusal} {r : Answer} → ver
 unfolding outcome outcomeOf
 refused-left e h b c v a = rw (v, a .number, a .place, a .none₁, a .none₂)
 
-over-yes : (limit size : ℕ) (refusal : Refusal) → limit < size → over limit size refusal ≡ Refuse refusal
+pub over-yes : (limit size : ℕ) (refusal : Refusal) → limit < size → over limit size refusal ≡ Refuse refusal
 unfolding over
 over-yes limit size refusal k = rw (lt-ltb limit size k)
 
-over-no : (limit size : ℕ) (refusal : Refusal) → size ≤ limit → over limit size refusal ≡ Accept
+pub over-no : (limit size : ℕ) (refusal : Refusal) → size ≤ limit → over limit size refusal ≡ Accept
 unfolding over
 over-no limit size refusal k = rw (le-ltb limit size k)
 
