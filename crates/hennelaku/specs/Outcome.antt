@@ -107,26 +107,26 @@ pub record Outcome : Type 0 where
 
 -- "A refusal changes no byte of either buffer and gives both lengths as 0. After 0 the bytes past each length are as before."
 unfoldable pub outcomeOf : Verdict → List ℕ → List ℕ → List ℕ → List ℕ → Outcome
-outcomeOf (Refuse refusal) e h envelopeBuffer headerBuffer = record {
+outcomeOf (Refuse refusal) e h b c = record {
   number = numberOf refusal;
   place = placeOf refusal;
   envelopeLen = 0;
   headerLen = 0;
-  envelopeBuffer = envelopeBuffer;
-  headerBuffer = headerBuffer;
+  envelopeBuffer = b;
+  headerBuffer = c;
 }
-outcomeOf Accept e h envelopeBuffer headerBuffer = record {
+outcomeOf Accept e h b c = record {
   number = 0;
   place = 0;
   envelopeLen = length (written e);
   headerLen = length (outgoingHeader e h);
-  envelopeBuffer = overlay (written e) envelopeBuffer;
-  headerBuffer = overlay (outgoingHeader e h) headerBuffer;
+  envelopeBuffer = overlay (written e) b;
+  headerBuffer = overlay (outgoingHeader e h) c;
 }
 
 -- The outcome of a call with this envelope, this header and these two buffers.
 unfoldable pub outcome : List ℕ → List ℕ → List ℕ → List ℕ → Outcome
-outcome e h envelopeBuffer headerBuffer = outcomeOf (verdict e h (length envelopeBuffer) (length headerBuffer)) e h envelopeBuffer headerBuffer
+outcome e h b c = outcomeOf (verdict e h (length b) (length c)) e h b c
 
 -- an answer and two buffers as an outcome
 abbrev pub left : Answer → List ℕ → List ℕ → Outcome
