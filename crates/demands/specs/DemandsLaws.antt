@@ -1,19 +1,18 @@
 -- The three demands hold of the outcome. Assumes nothing.
-use mathlib.Core.Path.{_≡_, refl, sym, ap, _∙_}
-use mathlib.Core.Bool.{Bool, true, false, cond}
-use mathlib.Core.List.{List, [], _∷_, _++_, map, List·Memᴰ}
-use Prim.Native.Nat.{ℕ, zero, suc, _+_, _≤_, _<_}
+use mathlib.Core.Path.{_≡_, refl, ap, _∙_}
+use mathlib.Core.Bool.{true}
+use mathlib.Core.List.{List, [], _∷_, _++_, map}
+use Prim.Native.Nat.{ℕ, zero, suc, _+_, _≤_}
 use native.Mathlib.Omega.{arith}
-use lib.Dec.{T, leb, ltb}
-use lib.ListN.{length, take, drop}
+use lib.Dec.{T, ltb}
+use lib.ListN.{length, drop}
 use mir.Facts.{ltb-yes, ltb-no, yes-and}
-use borrow.Author.Tests.{lt-ltb, le-ltb}
 use Rattle.utf8.specs.Byte.{isAscii}
 use Rattle.utf8.specs.Utf8.{utf8}
-use Rattle.utf8.specs.Lists.{by-test, yes-true, no-false, all, all-append, joined}
+use Rattle.utf8.specs.Lists.{by-test, all, all-append, joined}
 use Rattle.buffer.specs.Buffer.{overlay}
 use Rattle.buffer.specs.BufferLaws.{length-overlay, overlay-front, overlay-past}
-use Rattle.encoded_word.specs.Segments.{Segment, rendered, sound}
+use Rattle.encoded_word.specs.Segments.{rendered, sound}
 use Rattle.encoded_word.specs.Segments.Segment.{raw, words}
 use Rattle.encoded_word.specs.SegmentsLaws.{rendered-append, rendered-ascii, words-demand-3}
 use Rattle.letter_case.specs.LetterCase.{bytes}
@@ -32,18 +31,17 @@ use Rattle.header.specs.declared.Lines.the-variants.{WellFormed, Malformed as M
 use Rattle.header.specs.declared.HeldField.{HeldField}
 use Rattle.header.specs.declared.HeldField.the-variants.{Absent, At as HeldAt}
 use Rattle.header.specs.Lines.{linesOf}
-use Rattle.header.specs.Fields.{fieldsOf, valueOf, heldOf}
+use Rattle.header.specs.Fields.{fieldsOf, heldOf}
 use Rattle.header.specs.FieldLaws.{fields-joined}
 use Rattle.field.specs.Field.{fieldSegments, headerSegments}
 use Rattle.field.specs.FieldSound.{field-copied, header-sound}
 use Rattle.address_pieces.specs.AddressField.{addressField}
 use Rattle.address_pieces.specs.AddressFieldLaws.{address-field-sound}
-use Rattle.hennelaku.specs.declared.Refusal.{Refusal}
-use Rattle.hennelaku.specs.declared.Refusal.the-variants.{EnvelopeOver, HeaderOver, EnvelopeLine, HeaderLine, OrcptLine, HeldLine, EnvelopeNeeds, HeaderNeeds}
+use Rattle.hennelaku.specs.declared.Refusal.the-variants.{EnvelopeOver, HeaderOver, EnvelopeNeeds, HeaderNeeds}
 use Rattle.hennelaku.specs.declared.Verdict.{Verdict}
 use Rattle.hennelaku.specs.declared.Verdict.the-variants.{Accept, Refuse}
 use Rattle.hennelaku.specs.OutgoingHeader.{newField, newFields, outgoingSegments, outgoingHeader}
-use Rattle.hennelaku.specs.Outcome.{numberOf, placeOf, over, ofEnvelope, ofLines, ofOrcpt, ofHeld, firstOf, verdict, Outcome, outcomeOf, outcome}
+use Rattle.hennelaku.specs.Outcome.{numberOf, placeOf, ofEnvelope, ofLines, ofOrcpt, ofHeld, firstOf, verdict, Outcome, outcomeOf, outcome}
 use Rattle.hennelaku.specs.OutputLaws.{over-yes, over-no}
 use Rattle.demands.specs.Demands.{InLimits, EnvelopePasses, HeaderPasses, OrcptPasses, Passes, Given, Untouched, KeptPast, Demand1, became, Demand2, DemandThree, Demands}
 use Rattle.demands.specs.Demands.Given.{envelope-over, header-over, envelope-malformed, no-alternative, bad-alternative, header-malformed, orcpt-non-ascii, held-non-ascii, envelope-longer, header-longer, none-holds}

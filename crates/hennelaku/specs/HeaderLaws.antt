@@ -1,23 +1,21 @@
 -- Laws of the outgoing header: the length of what is written for a field, and its writing field by field. Assumes nothing.
-use mathlib.Core.Path.{_≡_, refl, sym, ap, _∙_}
-use mathlib.Core.Bool.{Bool, true, false, cond}
+use mathlib.Core.Path.{_≡_, ap}
+use mathlib.Core.Bool.{Bool, true, false}
 use mathlib.Core.List.{List, [], _∷_, _++_, append-nil, map}
 use Prim.Native.Nat.{ℕ, zero, suc, pred, _+_, _-_, _*_, _≤_, _<_}
 use native.Mathlib.Omega.{arith}
-use lib.ListN.{length, take, drop, length-append, length-take, length-drop, drop-of-length-le}
-use lib.Seq.{length-take-le}
-use lib.Dec.{T}
+use lib.ListN.{length, take, drop, length-append, length-take, drop-of-length-le}
 use Rattle.buffer.specs.Buffer.{Wrote, Appended, AppendedCapped, Reached, greatest}
 use Rattle.buffer.specs.BufferLaws.{wrote-nothing, appended-of, reached-start, reached-then, reached-end, length-reached, reached-within}
 use Rattle.utf8.specs.Byte.{isAscii}
-use Rattle.utf8.specs.Lists.{all, joined, cond-has, yes-true, true-yes}
+use Rattle.utf8.specs.Lists.{all, joined, cond-has, true-yes}
 use Rattle.letter_case.specs.LetterCase.{bytes}
 use Rattle.encoded_word.specs.StreamLaws.{length-row-le}
 use Rattle.encoded_word.specs.Segments.{Segment, rendered}
 use Rattle.encoded_word.specs.SegmentsLaws.{rendered-append}
 use Rattle.header.specs.Lines.{nameLen}
 use Rattle.header.specs.Fields.{fieldLen, fieldsAfter, fieldsOf, nameOf, valueOf, textOf}
-use Rattle.header.specs.FieldLaws.{field-after, fields-nil, fields-next, fields-joined, name-le}
+use Rattle.header.specs.FieldLaws.{fields-nil, fields-next, fields-joined}
 use Rattle.header_name.specs.declared.Kind.{Kind}
 use Rattle.header_name.specs.declared.Kind.the-variants.{Address, PlainText, Held, Other}
 use Rattle.header_name.specs.Names.{kindOf}
@@ -69,7 +67,9 @@ length-fields : (fields : List (List ℕ)) → length (rendered (joined (map (fi
 unfolding rendered
 length-fields [] = omega arith
 length-fields (field ∷ fields) =
-    rw (rendered-append (fieldSegments addressField field) (joined (map (fieldSegments addressField) fields)), length-append, length-append)
+    let one = rendered (fieldSegments addressField field) in
+    let more = rendered (joined (map (fieldSegments addressField) fields)) in
+    rw (rendered-append (fieldSegments addressField field) (joined (map (fieldSegments addressField) fields)), length-append one more, length-append field (joined fields))
     (omega (arith, length-field field, length-fields fields))
 
 -- no more than 256 bytes for one

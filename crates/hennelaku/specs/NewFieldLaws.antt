@@ -1,9 +1,9 @@
 -- Laws of the new first fields: their length, and their writing part by part. Assumes nothing.
-use mathlib.Core.Path.{_≡_, refl, sym, ap, _∙_}
-use mathlib.Core.List.{List, [], _∷_, _++_, append-nil}
-use Prim.Native.Nat.{ℕ, _+_, _*_, _≤_, _<_}
+use mathlib.Core.Path.{_≡_, refl}
+use mathlib.Core.List.{List, [], _∷_}
+use Prim.Native.Nat.{ℕ, _+_, _*_, _≤_}
 use native.Mathlib.Omega.{arith}
-use lib.ListN.{length, take, length-append, length-take}
+use lib.ListN.{length, take, length-append}
 use Rattle.buffer.specs.Buffer.{Wrote, AppendedCapped, greatest}
 use Rattle.buffer.specs.BufferLaws.{capped-none, capped-then, length-added, overlay-front}
 use Rattle.encoded_word.specs.Row.{row, bounded}

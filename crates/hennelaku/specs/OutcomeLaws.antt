@@ -1,7 +1,5 @@
 -- Laws of the outcome, case by case. Assumes nothing.
-use mathlib.Core.Path.{_≡_, refl, sym, _∙_}
-use mathlib.Core.List.{List, [], _∷_}
-use Prim.Native.Nat.{ℕ}
+use mathlib.Core.Path.{_≡_}
 use Rattle.hennelaku.specs.declared.Refusal.{Refusal}
 use Rattle.hennelaku.specs.declared.Answer.{Answer}
 use Rattle.hennelaku.specs.Outcome.{numberOf, placeOf}

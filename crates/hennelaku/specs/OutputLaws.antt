@@ -1,14 +1,12 @@
 -- Laws of the outcome where the input is accepted: measured, then written. Assumes nothing.
-use mathlib.Core.Path.{_≡_, refl, sym, ap, _∙_}
-use mathlib.Core.Bool.{Bool, true, false, cond}
+use mathlib.Core.Path.{_≡_, refl, sym, _∙_}
 use mathlib.Core.List.{List, [], _∷_, _++_}
-use Prim.Native.Nat.{ℕ, _+_, _*_, _≤_, _<_, min}
+use Prim.Native.Nat.{ℕ, _≤_, _<_, min}
 use native.Mathlib.Omega.{arith}
-use lib.Dec.{ltb, lit≤}
-use lib.ListN.{length, length-append}
+use lib.ListN.{length}
 use borrow.Author.Tests.{lt-ltb, le-ltb}
-use Rattle.buffer.specs.Buffer.{overlay, Wrote, Appended, AppendedCapped, greatest}
-use Rattle.buffer.specs.BufferLaws.{appended-of, appended-then, wrote-from, length-added}
+use Rattle.buffer.specs.Buffer.{Wrote, Appended, AppendedCapped}
+use Rattle.buffer.specs.BufferLaws.{appended-of, appended-then, wrote-from}
 use Rattle.letter_case.specs.LetterCase.{bytes}
 use Rattle.encoded_word.specs.Segments.{rendered}
 use Rattle.encoded_word.specs.SegmentsLaws.{rendered-append}
@@ -24,14 +22,13 @@ use Rattle.header.specs.Fields.{heldOf}
 use Rattle.field.specs.Field.{headerSegments}
 use Rattle.address_pieces.specs.AddressField.{addressField}
 use Rattle.hennelaku.specs.declared.Refusal.{Refusal}
-use Rattle.hennelaku.specs.declared.Refusal.the-variants.{EnvelopeOver, HeaderOver, EnvelopeLine, HeaderLine, OrcptLine, HeldLine, EnvelopeNeeds, HeaderNeeds}
+use Rattle.hennelaku.specs.declared.Refusal.the-variants.{EnvelopeOver, HeaderOver, EnvelopeLine, EnvelopeNeeds, HeaderNeeds}
 use Rattle.hennelaku.specs.declared.Verdict.{Verdict}
 use Rattle.hennelaku.specs.declared.Verdict.the-variants.{Accept, Refuse}
 use Rattle.hennelaku.specs.declared.Answer.{Answer}
 use Rattle.hennelaku.specs.OutgoingHeader.{newField, newFields, outgoingSegments, outgoingHeader}
-use Rattle.hennelaku.specs.Outcome.{numberOf, placeOf, over, ofEnvelope, ofLines, ofOrcpt, ofHeld, firstOf, verdict, outcomeOf, outcome, left}
+use Rattle.hennelaku.specs.Outcome.{over, ofEnvelope, ofLines, ofOrcpt, ofHeld, firstOf, verdict, outcomeOf, outcome, left}
 use Rattle.hennelaku.specs.OutcomeLaws.{RefusedBy}
-use Rattle.hennelaku.specs.HeaderLaws.{length-header}
 use Rattle.hennelaku.specs.NewFieldLaws.{length-new-field}
 
 -- ---- refusals

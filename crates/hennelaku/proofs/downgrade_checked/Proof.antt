@@ -3,45 +3,31 @@ use mathlib.Core.Path.{sym, _∙_}
 use borrow.Author.Needs.{needs}
 use Rattle.hennelaku.proofs.downgrade_checked.Statement.{statement}
 use Rattle.hennelaku.proofs.downgrade_checked.Tie as tie
-use Rattle.hennelaku.proofs.downgrade_checked.Reads as reads
-use Rattle.hennelaku.proofs.downgrade_checked.Lts as lts
-use Rattle.hennelaku.proofs.output.fill.Reads as fill-reads
-use Rattle.hennelaku.proofs.refusing.of_content.Reads as of-content-reads
-use Rattle.hennelaku.proofs.refusing.refused.Reads as refused-reads
 
--- src/lib.rt:52:11
 of-content-requires : tie.Need-of-content-requires
 of-content-requires c κs = search needs
 
--- src/lib.rt:53:25
 enum-known-refusal : tie.Need-enum-known-refusal
 enum-known-refusal c = search needs
 
--- src/lib.rt:53:37
 refused-requires : tie.Need-refused-requires
 refused-requires c κs = search needs
 
--- src/lib.rt:55:59
 enum-told : tie.Need-enum-told
 enum-told c = search needs
 
--- src/lib.rt:55:13
 fill-requires : tie.Need-fill-requires
 fill-requires c κs = (c .before .before .before .before .before .before .before .before .before .pre, record { content = sym (c .before .before .before .before .of-content .ensures) ∙ c .before .before .enum-told .given .1 })
 
--- src/lib.rt:41:1
 returns : tie.Need-returns
 returns c = refused-left _ _ _ _ (content-refused (c .before .before .before .before .before .before .before .before .before .pre) _ _ (sym (c .before .before .before .before .of-content .ensures) ∙ c .before .before .refusal .given .1)) (c .refused .ensures)
 
--- src/lib.rt:41:1
 same-length : tie.Need-same-length
 same-length c = search needs
 
--- src/lib.rt:41:1
 same-length-2 : tie.Need-same-length-2
 same-length-2 c = search needs
 
--- src/lib.rt:41:1
 returns-2 : tie.Need-returns-2
 returns-2 c = search needs
 

@@ -3,61 +3,43 @@ use mathlib.Core.Path.{refl, sym, _∙_}
 use borrow.Author.Needs.{needs}
 use Rattle.hennelaku.proofs.hennelaku_downgrade_slices.Statement.{statement}
 use Rattle.hennelaku.proofs.hennelaku_downgrade_slices.Tie as tie
-use Rattle.hennelaku.proofs.hennelaku_downgrade_slices.Reads as reads
-use Rattle.hennelaku.proofs.hennelaku_downgrade_slices.Lts as lts
-use Rattle.envelope.proofs.check.Reads as check-reads
-use Rattle.hennelaku.proofs.downgrade_checked.Reads as downgrade-checked-reads
-use Rattle.hennelaku.proofs.refusing.refused.Reads as refused-reads
 
--- src/lib.rt:71:9
 refused-requires : tie.Need-refused-requires
 refused-requires c κs = search needs
 
--- src/lib.rt:71:9
 returns : tie.Need-returns
 returns c = refused-left _ _ _ _ (envelope-over _ _ _ _ (c .before .if1 .taken)) (c .refused .ensures)
 
--- src/lib.rt:74:9
 refused-requires-2 : tie.Need-refused-requires-2
 refused-requires-2 c κs = search needs
 
--- src/lib.rt:74:9
 returns-2 : tie.Need-returns-2
 returns-2 c = refused-left _ _ _ _ (header-over _ _ _ _ (c .before .before .if1 .left) (c .before .if2 .taken)) (c .refused2 .ensures)
 
--- src/lib.rt:77:11
 check-requires : tie.Need-check-requires
 check-requires c κs = search needs
 
--- src/lib.rt:78:26
 enum-known-fault : tie.Need-enum-known-fault
 enum-known-fault c = search needs
 
--- src/lib.rt:78:42
 refused-requires-3 : tie.Need-refused-requires-3
 refused-requires-3 c κs = search needs
 
--- src/lib.rt:79:25
 enum-known-count : tie.Need-enum-known-count
 enum-known-count c = search needs
 
--- src/lib.rt:80:13
 downgrade-checked-requires : tie.Need-downgrade-checked-requires
 downgrade-checked-requires c κs = to-ready (c .before .before .before .before .before .before .before .before .before .if1 .left) (c .before .before .before .before .before .before .before .before .if2 .left) (c .before .before .before .before .before .before .check .ensures) (c .before .before .before .before .count .given .1) refl
 
--- src/lib.rt:61:1
 returns-3 : tie.Need-returns-3
 returns-3 c = refused-left _ _ _ _ (envelope-line _ _ _ _ (c .before .before .before .before .before .before .before .if1 .left) (c .before .before .before .before .before .before .if2 .left) _ _ (sym (c .before .before .before .before .check .ensures .answer) ∙ c .before .before .fault .given .1)) (c .refused3 .ensures)
 
--- src/lib.rt:61:1
 same-length : tie.Need-same-length
 same-length c = search needs
 
--- src/lib.rt:61:1
 same-length-2 : tie.Need-same-length-2
 same-length-2 c = search needs
 
--- src/lib.rt:61:1
 returns-4 : tie.Need-returns-4
 returns-4 c = search needs
 

@@ -1,15 +1,11 @@
 use Rattle.hennelaku.specs.HeaderLaws.{Fielding, fielding-start, fielding-next, fielding-end, length-fielding}
 use Rattle.header.specs.FieldLaws.{field-after}
-use lib.ListN.{length, length-take, length-drop}
+use lib.ListN.{length}
 use native.Mathlib.Omega.{arith}
 use Prim.Native.Nat.{_-_}
 use borrow.Author.Needs.{needs}
 use Rattle.hennelaku.proofs.fields.add_fields.Statement.{statement}
 use Rattle.hennelaku.proofs.fields.add_fields.Tie as tie
-use Rattle.hennelaku.proofs.fields.add_fields.Reads as reads
-use Rattle.hennelaku.proofs.fields.add_fields.Lts as lts
-use Rattle.header.proofs.field.field_end.Reads as field-end-reads
-use Rattle.hennelaku.proofs.fields.add_field.Reads as add-field-reads
 
 abbrev Inv-loop : tie.InvT-loop
 Inv-loop out₀ at header next₀ i₀ out next i = Fielding header i at out₀ out next
@@ -17,43 +13,33 @@ Inv-loop out₀ at header next₀ i₀ out next i = Fielding header i at out₀ 
 abbrev μ-loop : tie.MeasureT-loop
 μ-loop out₀ at header next₀ i₀ out next i = length header - i
 
--- src/fields.rt:51:5
 loop-holds : tie.Need-loop-holds Inv-loop μ-loop
 loop-holds c = fielding-start _ _ _
 
--- src/fields.rt:52:13
 field-end-requires : tie.Need-field-end-requires Inv-loop μ-loop
 field-end-requires c κs = search needs
 
--- src/fields.rt:53:37
 sub-add-field : tie.Need-sub-add-field Inv-loop μ-loop
 sub-add-field c = let a = field-after _ _ _ (c .before .before .loop-test .taken) (c .before .field-end .ensures) in omega (arith, a .0)
 
--- src/fields.rt:53:37
 part-add-field-start : tie.Need-part-add-field-start Inv-loop μ-loop
 part-add-field-start c = let a = field-after _ _ _ (c .before .before .loop-test .taken) (c .before .field-end .ensures) in omega (arith, a .0)
 
--- src/fields.rt:53:37
 part-add-field-end : tie.Need-part-add-field-end Inv-loop μ-loop
 part-add-field-end c = let a = field-after _ _ _ (c .before .before .loop-test .taken) (c .before .field-end .ensures) in omega (arith, a .1)
 
--- src/fields.rt:53:9
 add-field-requires : tie.Need-add-field-requires Inv-loop μ-loop
 add-field-requires c κs = let a = field-after _ _ _ (c .before .before .before .loop-test .taken) (c .before .before .field-end .ensures) in omega (arith, a .1, c .before .before .before .before .before .before .before .pre .0)
 
--- src/fields.rt:51:5
 loop-less : tie.Need-loop-less Inv-loop μ-loop
 loop-less c = let a = field-after _ _ _ (c .before .before .before .before .before .before .loop-test .taken) (c .before .before .before .before .before .field-end .ensures) in omega (arith, a .0, a .1)
 
--- src/fields.rt:51:5
 loop-again : tie.Need-loop-again Inv-loop μ-loop
 loop-again c = fielding-next (c .before .before .before .before .before .before .before .loop .inv) (c .before .before .before .before .before .before .before .before .before .before .pre .0) (c .before .before .before .before .before .before .before .before .before .before .pre .1) (c .before .before .before .before .before .before .loop-test .taken) (c .before .before .before .before .before .field-end .ensures) (c .before .before .add-field .ensures)
 
--- src/fields.rt:45:1
 same-length : tie.Need-same-length Inv-loop μ-loop
 same-length c = length-fielding (c .before .loop .inv)
 
--- src/fields.rt:45:1
 returns : tie.Need-returns Inv-loop μ-loop
 returns c = fielding-end (c .before .loop .inv) (c .loop-test .left)
 

@@ -2,64 +2,46 @@ use Rattle.hennelaku.specs.HeaderLaws.{wrote-address, wrote-plain, wrote
 use borrow.Author.Needs.{needs}
 use Rattle.hennelaku.proofs.fields.put_encoded.Statement.{statement}
 use Rattle.hennelaku.proofs.fields.put_encoded.Tie as tie
-use Rattle.hennelaku.proofs.fields.put_encoded.Reads as reads
-use Rattle.hennelaku.proofs.fields.put_encoded.Lts as lts
-use Rattle.address_pieces.proofs.write_field.Reads as write-field-reads
-use Rattle.field.proofs.write_encoded.Reads as write-encoded-reads
 
--- src/fields.rt:16:54
 enum-told : tie.Need-enum-told
 enum-told c = search needs
 
--- src/fields.rt:16:26
 write-field-requires : tie.Need-write-field-requires
 write-field-requires c κs = search needs
 
--- src/fields.rt:17:49
 enum-told-2 : tie.Need-enum-told-2
 enum-told-2 c = search needs
 
--- src/fields.rt:17:28
 write-encoded-requires : tie.Need-write-encoded-requires
 write-encoded-requires c κs = search needs
 
--- src/fields.rt:18:23
 enum-told-3 : tie.Need-enum-told-3
 enum-told-3 c = search needs
 
--- src/fields.rt:19:45
 enum-told-4 : tie.Need-enum-told-4
 enum-told-4 c = search needs
 
--- src/fields.rt:19:24
 write-encoded-requires-2 : tie.Need-write-encoded-requires-2
 write-encoded-requires-2 c κs = search needs
 
--- src/fields.rt:11:1
 same-length : tie.Need-same-length
 same-length c = search needs
 
--- src/fields.rt:11:1
 returns : tie.Need-returns
 returns c = wrote-address _ (c .before .before .before .before .before .before .before .before .pre) (c .before .before .before .before .enum-told .given .1) (c .before .before .write-field .ensures)
 
--- src/fields.rt:11:1
 same-length-2 : tie.Need-same-length-2
 same-length-2 c = search needs
 
--- src/fields.rt:11:1
 returns-2 : tie.Need-returns-2
 returns-2 c = wrote-plain _ (c .before .before .before .before .before .before .before .before .pre) (c .before .before .before .before .enum-told2 .given .1) (c .before .before .write-encoded .ensures)
 
--- src/fields.rt:11:1
 returns-3 : tie.Need-returns-3
 returns-3 c = wrote-held _ _ (c .enum-told3 .given .1)
 
--- src/fields.rt:11:1
 same-length-3 : tie.Need-same-length-3
 same-length-3 c = search needs
 
--- src/fields.rt:11:1
 returns-4 : tie.Need-returns-4
 returns-4 c = wrote-other _ (c .before .before .before .before .before .before .before .before .pre) (c .before .before .before .before .enum-told4 .given .1) (c .before .before .write-encoded2 .ensures)
 

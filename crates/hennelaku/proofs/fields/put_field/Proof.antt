@@ -1,55 +1,37 @@
 use mathlib.Core.Path.{sym, _∙_}
-use borrow.Author.Tests.{not-true, not-false}
 use Rattle.field.specs.FieldLaws.{name-size}
 use Rattle.hennelaku.specs.HeaderLaws.{wrote-copied, wrote-encoded}
 use borrow.Author.Needs.{needs}
 use Rattle.hennelaku.proofs.fields.put_field.Statement.{statement}
 use Rattle.hennelaku.proofs.fields.put_field.Tie as tie
-use Rattle.hennelaku.proofs.fields.put_field.Reads as reads
-use Rattle.hennelaku.proofs.fields.put_field.Lts as lts
-use Rattle.buffer.proofs.put_slice.Reads as put-slice-reads
-use Rattle.header.proofs.checking.name_len.Reads as name-len-reads
-use Rattle.header.proofs.field.value_is_ascii.Reads as value-is-ascii-reads
-use Rattle.header_name.proofs.kind_of.Reads as kind-of-reads
-use Rattle.hennelaku.proofs.fields.put_encoded.Reads as put-encoded-reads
 
--- src/fields.rt:28:8
 value-is-ascii-requires : tie.Need-value-is-ascii-requires
 value-is-ascii-requires c κs = search needs
 
--- src/fields.rt:29:9
 put-slice-requires : tie.Need-put-slice-requires
 put-slice-requires c κs = search needs
 
--- src/fields.rt:29:9
 same-length : tie.Need-same-length
 same-length c = search needs
 
--- src/fields.rt:29:9
 returns : tie.Need-returns
 returns c = wrote-copied _ (sym (c .before .before .before .before .before .value-is-ascii .ensures) ∙ c .before .before .before .before .if1 .taken) (c .before .before .put-slice .ensures)
 
--- src/fields.rt:31:9
 name-len-requires : tie.Need-name-len-requires
 name-len-requires c κs = search needs
 
--- src/fields.rt:32:50
 slice-aggregate-kind-of : tie.Need-slice-aggregate-kind-of
 slice-aggregate-kind-of c = name-size _ _ (c .before .before .name-len .ensures)
 
--- src/fields.rt:32:29
 kind-of-requires : tie.Need-kind-of-requires
 kind-of-requires c κs = search needs
 
--- src/fields.rt:32:5
 put-encoded-requires : tie.Need-put-encoded-requires
 put-encoded-requires c κs = search needs
 
--- src/fields.rt:24:1
 same-length-2 : tie.Need-same-length-2
 same-length-2 c = search needs
 
--- src/fields.rt:24:1
 returns-2 : tie.Need-returns-2
 returns-2 c = wrote-encoded _ (c .before .before .before .before .before .before .name-len .result) (sym (c .before .before .before .before .before .before .before .before .value-is-ascii .ensures) ∙ c .before .before .before .before .before .before .before .if1 .left) (c .before .before .before .before .before .before .name-len .ensures) (c .before .before .before .kind-of .ensures) (c .before .before .put-encoded .ensures)
 

@@ -2,41 +2,28 @@ use Rattle.buffer.specs.BufferLaws.{added-by}
 use borrow.Author.Needs.{needs}
 use Rattle.hennelaku.proofs.new_fields.add_words.Statement.{statement}
 use Rattle.hennelaku.proofs.new_fields.add_words.Tie as tie
-use Rattle.hennelaku.proofs.new_fields.add_words.Reads as reads
-use Rattle.hennelaku.proofs.new_fields.add_words.Lts as lts
-use Rattle.buffer.proofs.clip.Reads as clip-reads
-use Rattle.buffer.proofs.place_after.Reads as place-after-reads
-use Rattle.encoded_word.proofs.write.Reads as write-reads
 
--- src/new_fields.rt:17:9
 clip-requires : tie.Need-clip-requires
 clip-requires c κs = search needs
 
--- src/new_fields.rt:18:49
 sub-write : tie.Need-sub-write
 sub-write c = search needs
 
--- src/new_fields.rt:18:49
 part-write-start : tie.Need-part-write-start
 part-write-start c = search needs
 
--- src/new_fields.rt:18:49
 part-write-end : tie.Need-part-write-end
 part-write-end c = search needs
 
--- src/new_fields.rt:18:29
 write-requires : tie.Need-write-requires
 write-requires c κs = search needs
 
--- src/new_fields.rt:18:5
 place-after-requires : tie.Need-place-after-requires
 place-after-requires c κs = search needs
 
--- src/new_fields.rt:14:1
 same-length : tie.Need-same-length
 same-length c = search needs
 
--- src/new_fields.rt:14:1
 returns : tie.Need-returns
 returns c = added-by _ _ _ _ _ (c .before .before .before .before .before .clip .ensures) (c .before .before .before .write .ensures) (c .place-after .ensures)
 

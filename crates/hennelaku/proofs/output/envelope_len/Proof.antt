@@ -2,19 +2,13 @@ use Rattle.hennelaku.specs.OutputLaws.{ready-written}
 use borrow.Author.Needs.{needs}
 use Rattle.hennelaku.proofs.output.envelope_len.Statement.{statement}
 use Rattle.hennelaku.proofs.output.envelope_len.Tie as tie
-use Rattle.hennelaku.proofs.output.envelope_len.Reads as reads
-use Rattle.hennelaku.proofs.output.envelope_len.Lts as lts
-use Rattle.envelope.proofs.put.Reads as put-reads
 
--- src/output.rt:37:19
 slice-aggregate-put : tie.Need-slice-aggregate-put
 slice-aggregate-put c = search needs
 
--- src/output.rt:37:5
 put-requires : tie.Need-put-requires
 put-requires c κs = search needs
 
--- src/output.rt:32:1
 returns : tie.Need-returns
 returns c = ready-written (c .before .before .before .before .before .pre) (c .before .put .ensures) .size
 

@@ -3,55 +3,37 @@ use mathlib.Core.Path.{refl}
 use borrow.Author.Needs.{needs}
 use Rattle.hennelaku.proofs.output.fill.Statement.{statement}
 use Rattle.hennelaku.proofs.output.fill.Tie as tie
-use Rattle.hennelaku.proofs.output.fill.Reads as reads
-use Rattle.hennelaku.proofs.output.fill.Lts as lts
-use Rattle.envelope.proofs.put.Reads as put-reads
-use Rattle.hennelaku.proofs.output.envelope_len.Reads as envelope-len-reads
-use Rattle.hennelaku.proofs.output.header_len.Reads as header-len-reads
-use Rattle.hennelaku.proofs.output.put_header.Reads as put-header-reads
-use Rattle.hennelaku.proofs.refusing.refused.Reads as refused-reads
 
--- src/output.rt:60:9
 envelope-len-requires : tie.Need-envelope-len-requires
 envelope-len-requires c κs = search needs
 
--- src/output.rt:62:9
 refused-requires : tie.Need-refused-requires
 refused-requires c κs = search needs
 
--- src/output.rt:62:9
 returns : tie.Need-returns
 returns c = envelope-needs (c .before .before .before .before .before .before .before .pre .0) (c .before .before .before .before .before .before .before .pre .1) _ _ (c .before .before .envelope-len .ensures) (c .before .if1 .taken) (c .refused .ensures)
 
--- src/output.rt:64:9
 header-len-requires : tie.Need-header-len-requires
 header-len-requires c κs = search needs
 
--- src/output.rt:66:9
 refused-requires-2 : tie.Need-refused-requires-2
 refused-requires-2 c κs = search needs
 
--- src/output.rt:66:9
 returns-2 : tie.Need-returns-2
 returns-2 c = header-needs (c .before .before .before .before .before .before .before .before .before .pre .0) (c .before .before .before .before .before .before .before .before .before .pre .1) _ _ (c .before .before .before .before .envelope-len .ensures) (c .before .before .before .if1 .left) (c .before .before .header-len .ensures) (c .before .if2 .taken) (c .refused2 .ensures)
 
--- src/output.rt:71:23
 put-requires : tie.Need-put-requires
 put-requires c κs = search needs
 
--- src/output.rt:72:21
 put-header-requires : tie.Need-put-header-requires
 put-header-requires c κs = search needs
 
--- src/output.rt:49:1
 same-length : tie.Need-same-length
 same-length c = search needs
 
--- src/output.rt:49:1
 same-length-2 : tie.Need-same-length-2
 same-length-2 c = search needs
 
--- src/output.rt:49:1
 returns-3 : tie.Need-returns-3
 returns-3 c = downgraded (c .before .before .before .before .before .before .before .before .before .before .before .before .before .before .before .before .pre .0) (c .before .before .before .before .before .before .before .before .before .before .before .before .before .before .before .before .pre .1) _ _ (c .before .before .before .before .before .before .before .before .before .before .before .envelope-len .ensures) (c .before .before .before .before .before .before .before .before .before .before .if1 .left) (c .before .before .before .before .before .before .before .before .before .header-len .ensures) (c .before .before .before .before .before .before .before .before .if2 .left) refl refl (ready-written (c .before .before .before .before .before .before .before .before .before .before .before .before .before .before .before .before .pre .0) (c .before .before .before .before .before .before .put .ensures)) (c .before .before .put-header .ensures)
 

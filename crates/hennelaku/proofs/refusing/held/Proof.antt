@@ -1,30 +1,21 @@
-use mathlib.Core.Path.{sym, ap, _∙_}
 use Rattle.hennelaku.specs.Outcome.{firstOf, ofHeld}
 use borrow.Author.Needs.{needs}
 use Rattle.hennelaku.proofs.refusing.held.Statement.{statement}
 use Rattle.hennelaku.proofs.refusing.held.Tie as tie
-use Rattle.hennelaku.proofs.refusing.held.Reads as reads
-use Rattle.hennelaku.proofs.refusing.held.Lts as lts
-use Rattle.header.proofs.held_field.Reads as held-field-reads
 
--- src/refusing.rt:74:11
 held-field-requires : tie.Need-held-field-requires
 held-field-requires c κs = search needs
 
--- src/refusing.rt:75:30
 enum-told : tie.Need-enum-told
 enum-told c = search needs
 
--- src/refusing.rt:76:23
 enum-known-line : tie.Need-enum-known-line
 enum-known-line c = search needs
 
--- src/refusing.rt:71:1
 returns : tie.Need-returns
 unfolding firstOf ofHeld
 returns c = rw (← (c .before .before .held-field .ensures), c .enum-told .given .1)
 
--- src/refusing.rt:71:1
 returns-2 : tie.Need-returns-2
 unfolding firstOf ofHeld
 returns-2 c = rw (← (c .before .before .before .held-field .ensures), c .before .line .given .1)

@@ -1,35 +1,25 @@
-use mathlib.Core.Path.{sym, ap, _∙_}
+use mathlib.Core.Path.{_∙_}
 use Rattle.hennelaku.specs.Outcome.{firstOf, ofOrcpt}
 use borrow.Author.Needs.{needs}
 use Rattle.hennelaku.proofs.refusing.non_ascii.Statement.{statement}
 use Rattle.hennelaku.proofs.refusing.non_ascii.Tie as tie
-use Rattle.hennelaku.proofs.refusing.non_ascii.Reads as reads
-use Rattle.hennelaku.proofs.refusing.non_ascii.Lts as lts
-use Rattle.envelope.proofs.orcpt_line.Reads as orcpt-line-reads
-use Rattle.hennelaku.proofs.refusing.held.Reads as held-reads
 
--- src/refusing.rt:84:11
 orcpt-line-requires : tie.Need-orcpt-line-requires
 orcpt-line-requires c κs = search needs
 
--- src/refusing.rt:85:25
 enum-told : tie.Need-enum-told
 enum-told c = search needs
 
--- src/refusing.rt:85:25
 held-requires : tie.Need-held-requires
 held-requires c κs = search needs
 
--- src/refusing.rt:86:19
 enum-known-line : tie.Need-enum-known-line
 enum-known-line c = search needs
 
--- src/refusing.rt:81:1
 returns : tie.Need-returns
 unfolding firstOf ofOrcpt
 returns c = c .held .ensures ∙ rw (← (c .before .before .before .orcpt-line .ensures), c .before .enum-told .given .1)
 
--- src/refusing.rt:81:1
 returns-2 : tie.Need-returns-2
 unfolding firstOf ofOrcpt
 returns-2 c = rw (← (c .before .before .before .orcpt-line .ensures), c .before .line .given .1)

@@ -1,35 +1,25 @@
-use mathlib.Core.Path.{sym, ap, _∙_}
+use mathlib.Core.Path.{_∙_}
 use Rattle.hennelaku.specs.Outcome.{firstOf, ofLines}
 use borrow.Author.Needs.{needs}
 use Rattle.hennelaku.proofs.refusing.of_content.Statement.{statement}
 use Rattle.hennelaku.proofs.refusing.of_content.Tie as tie
-use Rattle.hennelaku.proofs.refusing.of_content.Reads as reads
-use Rattle.hennelaku.proofs.refusing.of_content.Lts as lts
-use Rattle.header.proofs.check.Reads as check-reads
-use Rattle.hennelaku.proofs.refusing.non_ascii.Reads as non-ascii-reads
 
--- src/refusing.rt:94:11
 check-requires : tie.Need-check-requires
 check-requires c κs = search needs
 
--- src/refusing.rt:95:30
 enum-told : tie.Need-enum-told
 enum-told c = search needs
 
--- src/refusing.rt:95:30
 non-ascii-requires : tie.Need-non-ascii-requires
 non-ascii-requires c κs = search needs
 
--- src/refusing.rt:96:26
 enum-known-line : tie.Need-enum-known-line
 enum-known-line c = search needs
 
--- src/refusing.rt:91:1
 returns : tie.Need-returns
 unfolding firstOf ofLines
 returns c = c .non-ascii .ensures ∙ rw (← (c .before .before .before .check .ensures), c .before .enum-told .given .1)
 
--- src/refusing.rt:91:1
 returns-2 : tie.Need-returns-2
 unfolding firstOf ofLines
 returns-2 c = rw (← (c .before .before .before .check .ensures), c .before .line .given .1)
