@@ -5,7 +5,7 @@ use Prim.Native.Nat.{ℕ, _+_, _*_, _≤_}
 use native.Mathlib.Omega.{arith}
 use lib.ListN.{length, take, length-append}
 use Rattle.buffer.specs.Buffer.{Wrote, AppendedCapped, greatest}
-use Rattle.buffer.specs.BufferLaws.{capped-none, capped-then, length-added, overlay-front}
+use Rattle.buffer.specs.BufferLaws.{capped-none, capped-then, length-added, overlay-front, length-wrote}
 use Rattle.encoded_word.specs.Row.{row, bounded}
 use Rattle.encoded_word.specs.StreamLaws.{bounded-short, length-row-le}
 use Rattle.encoded_word.specs.Segments.{rendered}
@@ -36,15 +36,11 @@ module _ {text before after : List ℕ} {n : ℕ} (a : AppendedCapped text 0 bef
   found : Wrote text before after n
   found = wrote-of a (omega arith)
 
-  pub found-within : n ≤ 2048
-  found-within = omega (arith, found .size)
+  pub found-within : n ≤ length after
+  found-within = omega (arith, found .size, length-wrote found)
 
   pub found-front : take n after ≡ text
   found-front = rw (found .size, found .bytes) (overlay-front text before (omega arith))
 
   pub found-size : n ≡ length (take n after)
   found-size = rw found-front (found .size)
-
-pub new-field-of : (name : List ℕ) {text part before after : List ℕ} {at r : ℕ} → part ≡ text → AppendedCapped (rendered (newField name part)) at before after r
-    → AppendedCapped (rendered (newField name text)) at before after r
-new-field-of name e a = rw e at a

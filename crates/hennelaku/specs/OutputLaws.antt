@@ -1,5 +1,5 @@
 -- Laws of the outcome where the input is accepted: measured, then written. Assumes nothing.
-use mathlib.Core.Path.{_≡_, refl, sym, _∙_}
+use mathlib.Core.Path.{_≡_, refl, sym, ap, _∙_}
 use mathlib.Core.List.{List, [], _∷_, _++_}
 use Prim.Native.Nat.{ℕ, _≤_, _<_, min}
 use native.Mathlib.Omega.{arith}
@@ -90,6 +90,55 @@ first-accepted (Refuse r ∷ a) b k = absurd (let z : _≡_ {A = ℕ} 0 1 = cc i
 pub record Accepted (e h : List ℕ) : Type 0 where
   pub content : firstOf (ofLines (linesOf h) ∷ ofOrcpt (orcptLine e) ∷ ofHeld (heldOf h) ∷ []) ≡ Accept
 
+-- ---- the header, by the texts of its new first fields
+
+unfoldable pub headerOf : List ℕ → List ℕ → List ℕ → List ℕ
+headerOf mail rcpt h =
+    rendered ((newField (bytes "Downgraded-Mail-From:") mail ++ newField (bytes "Downgraded-Rcpt-To:") rcpt) ++ headerSegments addressField h)
+
+-- texts of new first fields, and a header, within their limits
+pub record Short (mail rcpt h : List ℕ) : Type 0 where
+  pub of-mail : length mail ≤ 2048
+  pub of-rcpt : length rcpt ≤ 2048
+  pub of-header : length h ≤ 32768
+
+module _ {mail rcpt h : List ℕ} (s : Short mail rcpt h) {before mid rest : List ℕ} {n m : ℕ}
+    (a : AppendedCapped (rendered (newField (bytes "Downgraded-Mail-From:") mail)) 0 before mid n)
+    (b : AppendedCapped (rendered (newField (bytes "Downgraded-Rcpt-To:") rcpt)) n mid rest m) where
+  mail-size : length (rendered (newField (bytes "Downgraded-Mail-From:") mail)) ≤ 40000
+  unfolding bytes
+  mail-size = omega (arith, s .of-mail, length-new-field (bytes "Downgraded-Mail-From:") mail)
+
+  rcpt-size : length (rendered (newField (bytes "Downgraded-Rcpt-To:") rcpt)) ≤ 40000
+  unfolding bytes
+  rcpt-size = omega (arith, s .of-rcpt, length-new-field (bytes "Downgraded-Rcpt-To:") rcpt)
+
+  first : Appended (rendered (newField (bytes "Downgraded-Mail-From:") mail)) 0 before mid n
+  first = appended-of a (omega (arith, mail-size))
+
+  second : Appended (rendered (newField (bytes "Downgraded-Rcpt-To:") rcpt)) n mid rest m
+  second = appended-of b (omega (arith, mail-size, rcpt-size, first .place))
+
+  pub new-fields-place : m ≤ 1048576
+  new-fields-place = omega (arith, mail-size, rcpt-size, first .place, second .place)
+
+  pub header-wrote : {after : List ℕ} {k : ℕ} → Appended (rendered (headerSegments addressField h)) m rest after k → Wrote (headerOf mail rcpt h) before after k
+  unfolding headerOf
+  header-wrote d =
+      let all = appended-then (appended-then first second) d in
+      wrote-from
+      (rw (rendered-append (newField (bytes "Downgraded-Mail-From:") mail ++ newField (bytes "Downgraded-Rcpt-To:") rcpt) (headerSegments addressField h), rendered-append (newField (bytes "Downgraded-Mail-From:") mail) (newField (bytes "Downgraded-Rcpt-To:") rcpt))
+      all)
+
+-- these are the texts of the new first fields
+pub record Texts (e mail rcpt : List ℕ) : Type 0 where
+  pub of-mail : mail ≡ mailReplacement e
+  pub of-rcpt : rcpt ≡ rcptReplacement e
+
+pub header-of : {e mail rcpt : List ℕ} → Texts e mail rcpt → (h : List ℕ) → headerOf mail rcpt h ≡ outgoingHeader e h
+unfolding headerOf outgoingHeader outgoingSegments newFields
+header-of t h = rw (t .of-mail, t .of-rcpt)
+
 -- ---- what the writers need
 
 -- An envelope and a header within their limits; the envelope passes the check, with so many RCPT lines whose starts are the first
@@ -126,40 +175,11 @@ module _ {e h array : List ℕ} {count : ℕ} (r : Ready e h array count) where
   unfolding written
   ready-written a = rw (r .starts) at (wrote-of a (written-fits e (r .short₁) array count))
 
-  -- the header
-  module _ {before mid rest : List ℕ} {n m : ℕ} (a : AppendedCapped (rendered (newField (bytes "Downgraded-Mail-From:") (mailReplacement e))) 0 before mid n)
-      (b : AppendedCapped (rendered (newField (bytes "Downgraded-Rcpt-To:") (replacementBy (entries (min count 100) array) e))) n mid rest m) where
-    abbrev mail-from : List ℕ
-    mail-from = rendered (newField (bytes "Downgraded-Mail-From:") (mailReplacement e))
+  pub ready-texts : {mail rcpt : List ℕ} → mail ≡ mailReplacement e → rcpt ≡ replacementBy (entries (min count 100) array) e → Texts e mail rcpt
+  ready-texts p q = record { of-mail = p; of-rcpt = q ∙ rcpt-is }
 
-    abbrev rcpt-to : List ℕ
-    rcpt-to = rendered (newField (bytes "Downgraded-Rcpt-To:") (replacementBy (entries (min count 100) array) e))
-
-    mail-size : length mail-from ≤ 40000
-    unfolding bytes
-    mail-size = omega (arith, mail-short, length-new-field (bytes "Downgraded-Mail-From:") (mailReplacement e))
-
-    rcpt-size : length rcpt-to ≤ 40000
-    unfolding bytes
-    rcpt-size = omega (arith, rcpt-short, length-new-field (bytes "Downgraded-Rcpt-To:") (replacementBy (entries (min count 100) array) e))
-
-    first : Appended mail-from 0 before mid n
-    first = appended-of a (omega (arith, mail-size))
-
-    second : Appended rcpt-to n mid rest m
-    second = appended-of b (omega (arith, mail-size, rcpt-size, first .place))
-
-    pub new-fields-place : m ≤ 1048576
-    new-fields-place = omega (arith, mail-size, rcpt-size, first .place, second .place)
-
-    pub ready-header : {after : List ℕ} {k : ℕ} → Appended (rendered (headerSegments addressField h)) m rest after k → Wrote (outgoingHeader e h) before after k
-    unfolding outgoingHeader outgoingSegments newFields
-    ready-header d =
-        let all = appended-then (appended-then first second) d in
-        let is : rendered ((newField (bytes "Downgraded-Mail-From:") (mailReplacement e) ++ newField (bytes "Downgraded-Rcpt-To:") (rcptReplacement e)) ++ headerSegments addressField h)
-        ≡ (mail-from ++ rcpt-to) ++ rendered (headerSegments addressField h) =
-        rw (rendered-append (newField (bytes "Downgraded-Mail-From:") (mailReplacement e) ++ newField (bytes "Downgraded-Rcpt-To:") (rcptReplacement e)) (headerSegments addressField h), rendered-append (newField (bytes "Downgraded-Mail-From:") (mailReplacement e)) (newField (bytes "Downgraded-Rcpt-To:") (rcptReplacement e)), ← rcpt-is) in
-        wrote-from (rw is all)
+  pub ready-short : {mail rcpt : List ℕ} → Texts e mail rcpt → Short mail rcpt h
+  ready-short t = record { of-mail = rw (t .of-mail) mail-short; of-rcpt = rw (t .of-rcpt) (omega (arith, rcpt-replacement-short e)); of-header = r .short₂ }
 
   -- ---- room
 
@@ -178,21 +198,24 @@ module _ {e h array : List ℕ} {count : ℕ} (r : Ready e h array count) where
     envelope-needs {n} {a} q k f =
         refused-left e h b c (past-content ∙ rw (over-yes (length b) (length (written e)) (EnvelopeNeeds (length (written e))) (rw q at k))) (rw q at f)
 
-    pub header-needs : {n m : ℕ} {a : Answer} → n ≡ length (written e) → n ≤ length b → m ≡ length (outgoingHeader e h) → length c < m → RefusedBy (HeaderNeeds m) a
-        → left a b c ≡ outcome e h b c
+    pub header-needs : {mail rcpt : List ℕ} {n m : ℕ} {a : Answer} → Texts e mail rcpt → n ≡ length (written e) → n ≤ length b → m ≡ length (headerOf mail rcpt h) → length c < m
+        → RefusedBy (HeaderNeeds m) a → left a b c ≡ outcome e h b c
     unfolding firstOf
-    header-needs {n} {m} {a} q k p l f =
+    header-needs {mail} {rcpt} {n} {m} {a} t q k d l f =
+        let p : m ≡ length (outgoingHeader e h) = d ∙ ap length (header-of t h) in
         refused-left e h b c
         (past-content
         ∙ rw (over-no (length b) (length (written e)) (EnvelopeNeeds (length (written e))) (rw q at k), over-yes (length c) (length (outgoingHeader e h)) (HeaderNeeds (length (outgoingHeader e h))) (rw p at l)))
         (rw p at f)
 
     -- both fit
-    pub downgraded : {n m : ℕ} {b′ c′ : List ℕ} {a : Answer} → n ≡ length (written e) → n ≤ length b → m ≡ length (outgoingHeader e h) → m ≤ length c
-        → a .number ≡ 0 → a .place ≡ 0 → Wrote (written e) b b′ (a .«envelope_len») → Wrote (outgoingHeader e h) c c′ (a .«header_len»)
+    pub downgraded : {mail rcpt : List ℕ} {n m : ℕ} {b′ c′ : List ℕ} {a : Answer} → Texts e mail rcpt → n ≡ length (written e) → n ≤ length b → m ≡ length (headerOf mail rcpt h) → m ≤ length c
+        → a .number ≡ 0 → a .place ≡ 0 → Wrote (written e) b b′ (a .«envelope_len») → Wrote (headerOf mail rcpt h) c c′ (a .«header_len»)
         → left a b′ c′ ≡ outcome e h b c
     unfolding firstOf outcome outcomeOf
-    downgraded {n} {m} {b′} {c′} {a} q k p l x y v w =
+    downgraded {mail} {rcpt} {n} {m} {b′} {c′} {a} t q k d l x y v u =
+        let p : m ≡ length (outgoingHeader e h) = d ∙ ap length (header-of t h) in
+        let w : Wrote (outgoingHeader e h) c c′ (a .«header_len») = rw (header-of t h) at u in
         let fine : verdict e h (length b) (length c) ≡ Accept =
         past-content
         ∙ rw (over-no (length b) (length (written e)) (EnvelopeNeeds (length (written e))) (rw q at k), over-no (length c) (length (outgoingHeader e h)) (HeaderNeeds (length (outgoingHeader e h))) (rw p at l)) in

@@ -1,32 +1,36 @@
-use Rattle.hennelaku.specs.OutputLaws.{envelope-needs, header-needs, downgraded, ready-written}
+use Rattle.hennelaku.specs.OutputLaws.{mail-short, rcpt-short, ready-texts}
+use Rattle.hennelaku.specs.NewFieldLaws.{found-within, found-front, found-size}
 use mathlib.Core.Path.{refl}
 use borrow.Author.Needs.{needs}
 use Rattle.hennelaku.proofs.output.fill.Statement.{statement}
 use Rattle.hennelaku.proofs.output.fill.Tie as tie
 
-envelope-len-requires : tie.Need-envelope-len-requires
-envelope-len-requires c κs = search needs
+slice-aggregate-put-mail-replacement : tie.Need-slice-aggregate-put-mail-replacement
+slice-aggregate-put-mail-replacement c = search needs
 
-refused-requires : tie.Need-refused-requires
-refused-requires c κs = search needs
+put-mail-replacement-requires : tie.Need-put-mail-replacement-requires
+put-mail-replacement-requires c κs = search needs
 
-returns : tie.Need-returns
-returns c = envelope-needs (c .before .before .before .before .before .before .before .pre .0) (c .before .before .before .before .before .before .before .pre .1) _ _ (c .before .before .envelope-len .ensures) (c .before .if1 .taken) (c .refused .ensures)
+slice-aggregate-put-rcpt-replacement : tie.Need-slice-aggregate-put-rcpt-replacement
+slice-aggregate-put-rcpt-replacement c = search needs
 
-header-len-requires : tie.Need-header-len-requires
-header-len-requires c κs = search needs
+put-rcpt-replacement-requires : tie.Need-put-rcpt-replacement-requires
+put-rcpt-replacement-requires c κs = search needs
 
-refused-requires-2 : tie.Need-refused-requires-2
-refused-requires-2 c κs = search needs
+array-share-prefix-mail : tie.Need-array-share-prefix-mail
+array-share-prefix-mail c = found-within (c .before .before .before .before .put-mail-replacement .ensures) (mail-short (c .before .before .before .before .before .before .before .before .before .before .pre .0)) refl
 
-returns-2 : tie.Need-returns-2
-returns-2 c = header-needs (c .before .before .before .before .before .before .before .before .before .pre .0) (c .before .before .before .before .before .before .before .before .before .pre .1) _ _ (c .before .before .before .before .envelope-len .ensures) (c .before .before .before .if1 .left) (c .before .before .header-len .ensures) (c .before .if2 .taken) (c .refused2 .ensures)
+slice-aggregate-fill-with : tie.Need-slice-aggregate-fill-with
+slice-aggregate-fill-with c = found-size (c .before .before .before .before .before .put-mail-replacement .ensures) (mail-short (c .before .before .before .before .before .before .before .before .before .before .before .pre .0)) refl
 
-put-requires : tie.Need-put-requires
-put-requires c κs = search needs
+array-share-prefix-rcpt : tie.Need-array-share-prefix-rcpt
+array-share-prefix-rcpt c = found-within (c .before .before .put-rcpt-replacement .ensures) (rcpt-short (c .before .before .before .before .before .before .before .before .before .before .before .pre .0)) refl
 
-put-header-requires : tie.Need-put-header-requires
-put-header-requires c κs = search needs
+slice-aggregate-fill-with-2 : tie.Need-slice-aggregate-fill-with-2
+slice-aggregate-fill-with-2 c = found-size (c .before .before .before .put-rcpt-replacement .ensures) (rcpt-short (c .before .before .before .before .before .before .before .before .before .before .before .before .pre .0)) refl
+
+fill-with-requires : tie.Need-fill-with-requires
+fill-with-requires c κs = (c .before .before .before .before .before .before .before .before .before .before .before .before .before .before .pre .0, c .before .before .before .before .before .before .before .before .before .before .before .before .before .before .pre .1, ready-texts (c .before .before .before .before .before .before .before .before .before .before .before .before .before .before .pre .0) (found-front (c .before .before .before .before .before .before .before .before .put-mail-replacement .ensures) (mail-short (c .before .before .before .before .before .before .before .before .before .before .before .before .before .before .pre .0)) refl) (found-front (c .before .before .before .before .before .put-rcpt-replacement .ensures) (rcpt-short (c .before .before .before .before .before .before .before .before .before .before .before .before .before .before .pre .0)) refl))
 
 same-length : tie.Need-same-length
 same-length c = search needs
@@ -34,21 +38,22 @@ same-length c = search needs
 same-length-2 : tie.Need-same-length-2
 same-length-2 c = search needs
 
-returns-3 : tie.Need-returns-3
-returns-3 c = downgraded (c .before .before .before .before .before .before .before .before .before .before .before .before .before .before .before .before .pre .0) (c .before .before .before .before .before .before .before .before .before .before .before .before .before .before .before .before .pre .1) _ _ (c .before .before .before .before .before .before .before .before .before .before .before .envelope-len .ensures) (c .before .before .before .before .before .before .before .before .before .before .if1 .left) (c .before .before .before .before .before .before .before .before .before .header-len .ensures) (c .before .before .before .before .before .before .before .before .if2 .left) refl refl (ready-written (c .before .before .before .before .before .before .before .before .before .before .before .before .before .before .before .before .pre .0) (c .before .before .before .before .before .before .put .ensures)) (c .before .before .put-header .ensures)
+returns : tie.Need-returns
+returns c = search needs
 
 pub fill-spec : {M : Type 1} → statement M
 fill-spec =
     tie.close
     (tie.spec
-    envelope-len-requires
-    refused-requires
-    returns
-    header-len-requires
-    refused-requires-2
-    returns-2
-    put-requires
-    put-header-requires
+    slice-aggregate-put-mail-replacement
+    put-mail-replacement-requires
+    slice-aggregate-put-rcpt-replacement
+    put-rcpt-replacement-requires
+    array-share-prefix-mail
+    slice-aggregate-fill-with
+    array-share-prefix-rcpt
+    slice-aggregate-fill-with-2
+    fill-with-requires
     same-length
     same-length-2
-    returns-3)
+    returns)

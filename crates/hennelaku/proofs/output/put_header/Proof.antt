@@ -1,24 +1,40 @@
-use Rattle.hennelaku.specs.OutputLaws.{mail-short, rcpt-short, new-fields-place, ready-header}
+use Rattle.hennelaku.specs.OutputLaws.{new-fields-place, header-wrote}
+use Rattle.letter_case.specs.LetterCase.{bytes}
 use borrow.Author.Needs.{needs}
 use Rattle.hennelaku.proofs.output.put_header.Statement.{statement}
 use Rattle.hennelaku.proofs.output.put_header.Tie as tie
 
-add-mail-from-requires : tie.Need-add-mail-from-requires
-add-mail-from-requires c κs = mail-short (c .before .before .before .before .pre)
+slice-aggregate-add-new-field : tie.Need-slice-aggregate-add-new-field
+slice-aggregate-add-new-field c = search needs
 
-add-rcpt-to-requires : tie.Need-add-rcpt-to-requires
-add-rcpt-to-requires c κs = rcpt-short (c .before .before .before .before .before .before .before .before .pre)
+add-new-field-requires : tie.Need-add-new-field-requires
+add-new-field-requires c κs = search needs
+
+slice-aggregate-add-new-field-2 : tie.Need-slice-aggregate-add-new-field-2
+slice-aggregate-add-new-field-2 c = search needs
+
+add-new-field-requires-2 : tie.Need-add-new-field-requires-2
+add-new-field-requires-2 c κs = search needs
 
 add-fields-requires : tie.Need-add-fields-requires
-add-fields-requires c κs = (c .before .before .before .before .before .before .before .before .before .before .before .before .pre .short₂, new-fields-place (c .before .before .before .before .before .before .before .before .before .before .before .before .pre) (c .before .before .before .before .before .before .before .add-mail-from .ensures) (c .before .before .before .add-rcpt-to .ensures))
+unfolding bytes
+add-fields-requires c κs = (c .before .before .before .before .before .before .before .before .before .before .before .before .before .before .before .pre .of-header, new-fields-place (c .before .before .before .before .before .before .before .before .before .before .before .before .before .before .before .pre) (c .before .before .before .before .before .before .before .before .add-new-field .ensures) (c .before .before .before .add-new-field2 .ensures))
 
 same-length : tie.Need-same-length
 same-length c = search needs
 
 returns : tie.Need-returns
-returns c = ready-header (c .before .before .before .before .before .before .before .before .before .before .before .before .before .before .before .pre) (c .before .before .before .before .before .before .before .before .before .before .add-mail-from .ensures) (c .before .before .before .before .before .before .add-rcpt-to .ensures) (c .before .before .add-fields .ensures)
+unfolding bytes
+returns c = header-wrote (c .before .before .before .before .before .before .before .before .before .before .before .before .before .before .before .before .before .before .pre) (c .before .before .before .before .before .before .before .before .before .before .before .add-new-field .ensures) (c .before .before .before .before .before .before .add-new-field2 .ensures) (c .before .before .add-fields .ensures)
 
 pub put-header-spec : {M : Type 1} → statement M
 put-header-spec =
     tie.close
-    (tie.spec add-mail-from-requires add-rcpt-to-requires add-fields-requires same-length returns)
+    (tie.spec
+    slice-aggregate-add-new-field
+    add-new-field-requires
+    slice-aggregate-add-new-field-2
+    add-new-field-requires-2
+    add-fields-requires
+    same-length
+    returns)
