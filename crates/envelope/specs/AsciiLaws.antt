@@ -32,7 +32,7 @@ fine-is NoAlternative e = absurd (true-yes false e)
 fine-is BadAlternative e = absurd (true-yes false e)
 
 -- a line without fault, with its CRLF
-front-fine : (mail : Bool) (e : List ℕ) → isFine (frontFault mail e) ≡ true → lineFault mail (take (lineLen e) e) ≡ Fine
+pub front-fine : (mail : Bool) (e : List ℕ) → isFine (frontFault mail e) ≡ true → lineFault mail (take (lineLen e) e) ≡ Fine
 unfolding frontFault isFine
 front-fine mail e f =
     by-test (crlf (drop (lineLen e) e)) (λ t. fine-is (lineFault mail (take (lineLen e) e)) (rw (yes-true (crlf (drop (lineLen e) e)) t) at f))
@@ -50,7 +50,7 @@ module _ (e : List ℕ) where
   at-ascii mail at s q f o =
       rw (← q) (all-append isAscii (writtenLine mail (take (lineLen s) s)) (13 ∷ 10 ∷ []) (line-ascii mail (take (lineLen s) s) (front-fine mail s f) o) tt)
 
-  drop-next : (at b : ℕ) (s : List ℕ) → b ∷ s ≡ drop at e → s ≡ drop (suc at) e
+  pub drop-next : (at b : ℕ) (s : List ℕ) → b ∷ s ≡ drop at e → s ≡ drop (suc at) e
   drop-next at b s q = let m : at + 1 ≡ suc at = omega arith in ap (drop 1) q ∙ rw (drop-drop, m)
 
   starts-ascii : (k n at : ℕ) (s : List ℕ) → s ≡ drop at e → orcptFrom k (suc n) s ≡ Clean → T (all isAscii (joined (map (writtenAt false e) (startsFrom k n at s))))

@@ -5,3 +5,4 @@ pub mod WrittenLaws
 pub mod LengthLaws
 pub mod AsciiLaws
 pub mod EnvelopeCases
+pub mod ReplacementLaws

@@ -124,7 +124,7 @@ tail-ascii (x ∷ t) s h o = after-ascii 0 (x ∷ t) tt (λ l. rw (eqb→eq x 32
 -- ---- the new path
 
 module _ (ps : List (List ℕ)) where
-  new-ascii : altFault false (alts ps) ≡ Fine → T (all isAscii (decoded (value (alt ps))))
+  pub new-ascii : altFault false (alts ps) ≡ Fine → T (all isAscii (decoded (value (alt ps))))
   unfolding altFault alt isAltAddress isAsciiAddress
   new-ascii f = go (alts ps) refl
     where
@@ -149,17 +149,17 @@ unfolding verb bytes
 verb-ascii true = tt
 verb-ascii false = tt
 
-module _ (mail : Bool) (line : List ℕ) (f : lineFault mail line ≡ Fine) (o : orcptFault mail line ≡ false) where
-  well-formed : T (wellFormed mail line)
+module _ (mail : Bool) (line : List ℕ) (f : lineFault mail line ≡ Fine) where
+  pub well-formed : T (wellFormed mail line)
   unfolding lineFault
   well-formed = by-test (wellFormed mail line) (λ t. t) (λ t. absurd (
       let q = rw (no-false (wellFormed mail line) t) at f in let z : _≡_ {A = ℕ} 0 1 = cc in omega arith))
 
-  alt-fine : altFault (all isAscii (path mail line)) (alts (params (tail mail line))) ≡ Fine
+  pub alt-fine : altFault (all isAscii (path mail line)) (alts (params (tail mail line))) ≡ Fine
   unfolding lineFault
   alt-fine = rw (yes-true (wellFormed mail line) well-formed) at f
 
-  parts : T (hasVerb mail line) × T (hasPath mail line) × T (spaced (tail mail line)) × T (all isParam (params (tail mail line)))
+  pub parts : T (hasVerb mail line) × T (hasPath mail line) × T (spaced (tail mail line)) × T (all isParam (params (tail mail line)))
   unfolding wellFormed
   parts =
       let l = leb (length line) 998 in
@@ -174,34 +174,35 @@ module _ (mail : Bool) (line : List ℕ) (f : lineFault mail line ≡ Fine) (o :
       let e = and-yes (l && u && v) p (d .0) in
       (and-yes (l && u) v (e .0) .1, e .1, d .1, b .1)
 
-  rest-ascii : T (all isAscii (tail mail line))
-  unfolding orcptFault
-  rest-ascii = tail-ascii (tail mail line) (parts .2) (parts .3) (true-yes (all orcptClean (params (tail mail line))) (not-false (all orcptClean (params (tail mail line))) o))
-
-  front-ascii : T (all isAscii (take (verbLen mail) line))
+  pub front-ascii : T (all isAscii (take (verbLen mail) line))
   unfolding hasVerb
   front-ascii = same-ascii (verb mail) (take (verbLen mail) line) (parts .0) (verb-ascii mail)
 
-  closed-ascii : T (all isAscii (drop (verbLen mail + pathLen mail line) line))
-  unfolding tail hasPath
-  closed-ascii =
-      let n = verbLen mail + pathLen mail line in
-      let close = eqb→eq (getD line n 0) 62 (and-yes (isTo (pathScan mail (drop (verbLen mail) line))) (eqb (getD line n 0) 62) (parts .1) .1) in
-      ascii-from line n (rw close tt) rest-ascii
+  module _ (o : orcptFault mail line ≡ false) where
+    rest-ascii : T (all isAscii (tail mail line))
+    unfolding orcptFault
+    rest-ascii = tail-ascii (tail mail line) (parts .2) (parts .3) (true-yes (all orcptClean (params (tail mail line))) (not-false (all orcptClean (params (tail mail line))) o))
 
-  -- "Out: an ASCII envelope": of a line
-  pub line-ascii : T (all isAscii (writtenLine mail line))
-  unfolding writtenLine path newPath withoutAlt
-  line-ascii =
-      cond-has (λ out. T (all isAscii out)) (all isAscii (path mail line)) line (take (verbLen mail) line ++ (newPath mail line ++ (62 ∷ withoutAlt (tail mail line))))
-      (λ t. let v = verbLen mail in let n = pathLen mail line in
-      let after : T (all isAscii (drop n (drop v line))) = rw drop-drop closed-ascii in
-      let from : T (all isAscii (drop v line)) = rw (take-append-drop n (drop v line)) at (all-append isAscii (take n (drop v line)) (drop n (drop v line)) t after) in
-      rw (take-append-drop v line) at (all-append isAscii (take v line) (drop v line) front-ascii from))
-      (λ t. let ps = params (tail mail line) in
-      let new = new-ascii ps (rw (no-false (all isAscii (path mail line)) t) at alt-fine) in
-      let n = altPlace ps in
-      let m = altPlace ps + suc (length (alt ps)) in
-      let others = all-append isAscii (take n (tail mail line)) (drop m (tail mail line)) (all-take isAscii n (tail mail line) rest-ascii) (all-drop isAscii m (tail mail line) rest-ascii) in
-      all-append isAscii (take (verbLen mail) line) (newPath mail line ++ (62 ∷ withoutAlt (tail mail line))) front-ascii
-      (all-append isAscii (newPath mail line) (62 ∷ withoutAlt (tail mail line)) new others))
+    closed-ascii : T (all isAscii (drop (verbLen mail + pathLen mail line) line))
+    unfolding tail hasPath
+    closed-ascii =
+        let n = verbLen mail + pathLen mail line in
+        let close = eqb→eq (getD line n 0) 62 (and-yes (isTo (pathScan mail (drop (verbLen mail) line))) (eqb (getD line n 0) 62) (parts .1) .1) in
+        ascii-from line n (rw close tt) rest-ascii
+
+    -- "Out: an ASCII envelope": of a line
+    pub line-ascii : T (all isAscii (writtenLine mail line))
+    unfolding writtenLine path newPath withoutAlt
+    line-ascii =
+        cond-has (λ out. T (all isAscii out)) (all isAscii (path mail line)) line (take (verbLen mail) line ++ (newPath mail line ++ (62 ∷ withoutAlt (tail mail line))))
+        (λ t. let v = verbLen mail in let n = pathLen mail line in
+        let after : T (all isAscii (drop n (drop v line))) = rw drop-drop closed-ascii in
+        let from : T (all isAscii (drop v line)) = rw (take-append-drop n (drop v line)) at (all-append isAscii (take n (drop v line)) (drop n (drop v line)) t after) in
+        rw (take-append-drop v line) at (all-append isAscii (take v line) (drop v line) front-ascii from))
+        (λ t. let ps = params (tail mail line) in
+        let new = new-ascii ps (rw (no-false (all isAscii (path mail line)) t) at alt-fine) in
+        let n = altPlace ps in
+        let m = altPlace ps + suc (length (alt ps)) in
+        let others = all-append isAscii (take n (tail mail line)) (drop m (tail mail line)) (all-take isAscii n (tail mail line) rest-ascii) (all-drop isAscii m (tail mail line) rest-ascii) in
+        all-append isAscii (take (verbLen mail) line) (newPath mail line ++ (62 ∷ withoutAlt (tail mail line))) front-ascii
+        (all-append isAscii (newPath mail line) (62 ∷ withoutAlt (tail mail line)) new others))

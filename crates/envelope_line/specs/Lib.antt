@@ -5,3 +5,4 @@ pub mod FaultLaws
 pub mod WriteLaws
 pub mod AsciiLaws
 pub mod LengthLaws
+pub mod ReplacementLaws

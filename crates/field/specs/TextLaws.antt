@@ -285,15 +285,16 @@ module _ {value before after : List ℕ} {start n : ℕ} (t : TextStart value st
   pub words-folded : Wrote (row (unfoldedAfter 0 (take (length value - start) (drop start value)))) before after n → Wrote (row (trimmed (unfoldedAfter 0 value))) before after n
   words-folded w = rw (text-folded t) w
 
-module _ (s : List ℕ) {begun text : List ℕ} {n : ℕ} (u : Wrote (unfoldedAfter 0 s) begun text n) (h : length s ≤ 32768) where
-  pub unfolded-within : n ≤ 32768
+-- a text that is unfolded into a buffer with room for it
+module _ (s : List ℕ) (room : ℕ) {begun text : List ℕ} {n : ℕ} (u : Wrote (unfoldedAfter 0 s) begun text n) (h : length s ≤ room) (k : length begun ≡ room) where
+  pub unfolded-within : n ≤ room
   unfolded-within = omega (arith, u .size, length-unfolded 0 s)
 
-  pub unfolded-size : length begun ≡ 32768 → n ≡ length (take n text)
-  unfolded-size k = rw length-take (omega (arith, unfolded-within, length-wrote u))
+  pub unfolded-size : n ≡ length (take n text)
+  unfolded-size = rw length-take (omega (arith, unfolded-within, length-wrote u))
 
-  pub words-unfolded : {before after : List ℕ} {r : ℕ} → length begun ≡ 32768 → Wrote (row (bounded (take n text))) before after r → Wrote (row (unfoldedAfter 0 s)) before after r
-  words-unfolded k w =
+  pub words-unfolded : {before after : List ℕ} {r : ℕ} → room ≤ 32768 → Wrote (row (bounded (take n text))) before after r → Wrote (row (unfoldedAfter 0 s)) before after r
+  words-unfolded small w =
       let front : take n text ≡ unfoldedAfter 0 s = wrote-front u (omega (arith, length-unfolded 0 s)) in
       let short : bounded (unfoldedAfter 0 s) ≡ unfoldedAfter 0 s = bounded-short (unfoldedAfter 0 s) (omega (arith, length-unfolded 0 s)) in
       rw (front, short) at w

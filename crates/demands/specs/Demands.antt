@@ -1,0 +1,124 @@
+-- The three demands on a call with an envelope e, a header h and two buffers b and c, about its outcome o. The theorem `demands` in
+-- DemandsLaws.antt says that they hold of `outcome e h b c`, which the exported call's contract equates with what the call answers
+-- and leaves. Assumes nothing.
+use mathlib.Core.Path.{_≡_}
+use mathlib.Core.List.{List, _++_, map, List·Memᴰ}
+use Prim.Native.Nat.{ℕ, _≤_, _<_}
+use lib.Dec.{T}
+use lib.ListN.{length, take, drop}
+use Rattle.utf8.specs.Byte.{isAscii}
+use Rattle.utf8.specs.Lists.{all, joined}
+use Rattle.encoded_word.specs.Row.{row}
+use Rattle.encoded_word.specs.Demand3.{Demand3}
+use Rattle.encoded_word.specs.Segments.{rendered}
+use Rattle.encoded_word.specs.Segments.Segment.{words}
+use Rattle.envelope_line.specs.declared.Fault.the-variants.{Malformed, NoAlternative, BadAlternative}
+use Rattle.envelope.specs.declared.Checked.the-variants.{Passed, Refused}
+use Rattle.envelope.specs.declared.Orcpt.the-variants.{Clean, At}
+use Rattle.envelope.specs.Envelope.{checked, orcptLine, written}
+use Rattle.header.specs.declared.Lines.the-variants.{WellFormed, Malformed as MalformedLine}
+use Rattle.header.specs.declared.HeldField.the-variants.{Absent, At as HeldAt}
+use Rattle.header.specs.Lines.{linesOf}
+use Rattle.header.specs.Fields.{fieldsOf, valueOf, heldOf}
+use Rattle.field.specs.Field.{fieldSegments}
+use Rattle.address_pieces.specs.AddressField.{addressField}
+use Rattle.hennelaku.specs.OutgoingHeader.{newFields, outgoingSegments, outgoingHeader}
+use Rattle.hennelaku.specs.Outcome.{Outcome}
+
+-- ---- demand 1: "Every input of bytes is taken: downgraded, or refused by one of the numbers 1 to 8 under the exact condition of
+-- that number. A refusal writes to neither buffer. A success gives both lengths and touches nothing past them."
+
+-- how far an input passes: neither part is over its limit,
+pub record InLimits (e h : List ℕ) : Type 0 where
+  pub envelope : length e ≤ 16384
+  pub header : length h ≤ 32768
+
+-- and no envelope line is at fault,
+pub record EnvelopePasses (e h : List ℕ) : Type 0 where
+  pub limits : InLimits e h
+  pub recipients : ℕ
+  pub lines : checked e ≡ Passed recipients
+
+-- and no header line is malformed,
+pub record HeaderPasses (e h : List ℕ) : Type 0 where
+  pub envelope : EnvelopePasses e h
+  pub lines : linesOf h ≡ WellFormed
+
+-- and no ORCPT carries non-ASCII,
+pub record OrcptPasses (e h : List ℕ) : Type 0 where
+  pub header : HeaderPasses e h
+  pub orcpt : orcptLine e ≡ Clean
+
+-- and no held field does.
+pub record Passes (e h : List ℕ) : Type 0 where
+  pub orcpt : OrcptPasses e h
+  pub held : heldOf h ≡ Absent
+
+-- The table "Answers by number": a number and a place, and when they are given, by the order of the refusals.
+pub data Given (e h b c : List ℕ) : ℕ → ℕ → Type 0 where
+  envelope-over : 16384 < length e → Given e h b c 1 0
+  header-over : length e ≤ 16384 → 32768 < length h → Given e h b c 1 1
+  envelope-malformed : {line : ℕ} → InLimits e h → checked e ≡ Refused Malformed line → Given e h b c 2 line
+  no-alternative : {line : ℕ} → InLimits e h → checked e ≡ Refused NoAlternative line → Given e h b c 3 line
+  bad-alternative : {line : ℕ} → InLimits e h → checked e ≡ Refused BadAlternative line → Given e h b c 4 line
+  header-malformed : {line at : ℕ} → EnvelopePasses e h → linesOf h ≡ MalformedLine line at → Given e h b c 5 line
+  orcpt-non-ascii : {line : ℕ} → HeaderPasses e h → orcptLine e ≡ At line → Given e h b c 6 line
+  held-non-ascii : {line at : ℕ} → OrcptPasses e h → heldOf h ≡ HeldAt line at → Given e h b c 6 line
+  envelope-longer : Passes e h → length b < length (written e) → Given e h b c 7 (length (written e))
+  header-longer : Passes e h → length (written e) ≤ length b → length c < length (outgoingHeader e h) → Given e h b c 8 (length (outgoingHeader e h))
+  none-holds : Passes e h → length (written e) ≤ length b → length (outgoingHeader e h) ≤ length c → Given e h b c 0 0
+
+-- "A refusal changes no byte of either buffer and gives both lengths as 0."
+pub record Untouched (b c : List ℕ) (o : Outcome) : Type 0 where
+  pub envelope-len : o .envelopeLen ≡ 0
+  pub header-len : o .headerLen ≡ 0
+  pub envelope-buffer : o .envelopeBuffer ≡ b
+  pub header-buffer : o .headerBuffer ≡ c
+
+-- "After 0 the bytes past each length are as before."
+pub record KeptPast (len : ℕ) (before after : List ℕ) : Type 0 where
+  pub inside : len ≤ length before
+  pub size : length after ≡ length before
+  pub past : drop len after ≡ drop len before
+
+pub record Demand1 (e h b c : List ℕ) (o : Outcome) : Type 0 where
+  -- every input has an answer, and the condition of that answer holds;
+  pub answered : Given e h b c (o .number) (o .place)
+  -- a condition holds for that answer alone
+  pub exact : (number place : ℕ) → Given e h b c number place → (number ≡ o .number) × (place ≡ o .place)
+  pub refusal : (o .number ≡ 0 → ⊥) → Untouched b c o
+  pub success : o .number ≡ 0 → KeptPast (o .envelopeLen) b (o .envelopeBuffer) × KeptPast (o .headerLen) c (o .headerBuffer)
+
+-- ---- demand 2: "The outgoing envelope and header are those that RFC 5504 asks for, as the paper spells it out: all ASCII, each
+-- field that was ASCII copied byte for byte."
+
+-- what becomes of a field of the header
+abbrev pub became : List ℕ → List ℕ
+became field = rendered (fieldSegments addressField field)
+
+pub record Demand2 (e h : List ℕ) (o : Outcome) : Type 0 where
+  -- what stands in the buffers
+  pub envelope : take (o .envelopeLen) (o .envelopeBuffer) ≡ written e
+  pub header : take (o .headerLen) (o .headerBuffer) ≡ outgoingHeader e h
+  pub envelope-len : o .envelopeLen ≡ length (written e)
+  pub header-len : o .headerLen ≡ length (outgoingHeader e h)
+  -- all ASCII
+  pub envelope-ascii : T (all isAscii (written e))
+  pub header-ascii : T (all isAscii (outgoingHeader e h))
+  -- the new first fields, then what became of each field, in order; the fields joined are the header
+  pub fields : outgoingHeader e h ≡ rendered (newFields e) ++ joined (map became (fieldsOf h))
+  pub whole : joined (fieldsOf h) ≡ h
+  pub copied : (field : List ℕ) → T (all isAscii (valueOf field)) → became field ≡ field
+
+-- ---- demand 3: "Every row of encoded words reads back, by RFC 2047, as exactly its text; each word is at most 75 characters and
+-- holds whole characters; no other row in our spelling that reads back as the same text has fewer words." Of each text that a rule
+-- asks to encode: `outgoingHeader` has its row there.
+abbrev pub DemandThree : List ℕ → List ℕ → Type 0
+DemandThree e h = (text : List ℕ) → List·Memᴰ (words text) (outgoingSegments e h) → Demand3 text (row text)
+
+-- ---- all three
+
+pub record Demands (e h b c : List ℕ) (o : Outcome) : Type 0 where
+  pub demand-1 : Demand1 e h b c o
+  pub demand-2 : o .number ≡ 0 → Demand2 e h o
+  pub demand-3 : o .number ≡ 0 → DemandThree e h

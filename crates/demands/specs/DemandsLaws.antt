@@ -1,0 +1,285 @@
+-- The three demands hold of the outcome. Assumes nothing.
+use mathlib.Core.Path.{_≡_, refl, ap, _∙_}
+use mathlib.Core.Bool.{true}
+use mathlib.Core.List.{List, [], _∷_, _++_, map}
+use Prim.Native.Nat.{ℕ, zero, suc, _+_, _≤_}
+use native.Mathlib.Omega.{arith}
+use lib.Dec.{T, ltb}
+use lib.ListN.{length, drop}
+use mir.Facts.{ltb-yes, ltb-no, yes-and}
+use Rattle.utf8.specs.Byte.{isAscii}
+use Rattle.utf8.specs.Utf8.{utf8}
+use Rattle.utf8.specs.Lists.{by-test, all, all-append, joined}
+use Rattle.buffer.specs.Buffer.{overlay}
+use Rattle.buffer.specs.BufferLaws.{length-overlay, overlay-front, overlay-past}
+use Rattle.encoded_word.specs.Segments.{rendered, sound}
+use Rattle.encoded_word.specs.Segments.Segment.{raw, words}
+use Rattle.encoded_word.specs.SegmentsLaws.{rendered-append, rendered-ascii, words-demand-3}
+use Rattle.letter_case.specs.LetterCase.{bytes}
+use Rattle.envelope_line.specs.declared.Fault.{Fault}
+use Rattle.envelope_line.specs.declared.Fault.the-variants.{Fine, Malformed, NoAlternative, BadAlternative}
+use Rattle.envelope.specs.declared.Checked.{Checked}
+use Rattle.envelope.specs.declared.Checked.the-variants.{Passed, Refused}
+use Rattle.envelope.specs.declared.Orcpt.{Orcpt}
+use Rattle.envelope.specs.declared.Orcpt.the-variants.{Clean, At}
+use Rattle.envelope.specs.Envelope.{frontFault, thenNext, rcptFault, rcptsFrom, checked, numberOf as checkedNumber, faultNumber, orcptLine, written, mailReplacement, rcptReplacement}
+use Rattle.envelope.specs.AsciiLaws.{written-ascii}
+use Rattle.envelope.specs.ReplacementLaws.{mail-replacement-utf8, rcpt-replacement-utf8}
+use Rattle.line.specs.Line.{lineLen}
+use Rattle.header.specs.declared.Lines.{Lines}
+use Rattle.header.specs.declared.Lines.the-variants.{WellFormed, Malformed as MalformedLine}
+use Rattle.header.specs.declared.HeldField.{HeldField}
+use Rattle.header.specs.declared.HeldField.the-variants.{Absent, At as HeldAt}
+use Rattle.header.specs.Lines.{linesOf}
+use Rattle.header.specs.Fields.{fieldsOf, heldOf}
+use Rattle.header.specs.FieldLaws.{fields-joined}
+use Rattle.field.specs.Field.{fieldSegments, headerSegments}
+use Rattle.field.specs.FieldSound.{field-copied, header-sound}
+use Rattle.address_pieces.specs.AddressField.{addressField}
+use Rattle.address_pieces.specs.AddressFieldLaws.{address-field-sound}
+use Rattle.hennelaku.specs.declared.Refusal.the-variants.{EnvelopeOver, HeaderOver, EnvelopeNeeds, HeaderNeeds}
+use Rattle.hennelaku.specs.declared.Verdict.{Verdict}
+use Rattle.hennelaku.specs.declared.Verdict.the-variants.{Accept, Refuse}
+use Rattle.hennelaku.specs.OutgoingHeader.{newField, newFields, outgoingSegments, outgoingHeader}
+use Rattle.hennelaku.specs.Outcome.{numberOf, placeOf, ofEnvelope, ofLines, ofOrcpt, ofHeld, firstOf, verdict, Outcome, outcomeOf, outcome}
+use Rattle.hennelaku.specs.OutputLaws.{over-yes, over-no}
+use Rattle.demands.specs.Demands.{InLimits, EnvelopePasses, HeaderPasses, OrcptPasses, Passes, Given, Untouched, KeptPast, Demand1, became, Demand2, DemandThree, Demands}
+use Rattle.demands.specs.Demands.Given.{envelope-over, header-over, envelope-malformed, no-alternative, bad-alternative, header-malformed, orcpt-non-ascii, held-non-ascii, envelope-longer, header-longer, none-holds}
+
+-- ---- a refused envelope has a line at fault
+
+fine-never : {fault : Fault} {n line : ℕ} → Refused fault n ≡ Refused Fine line → (faultNumber fault ≡ 0 → ⊥) → ⊥
+unfolding checkedNumber faultNumber
+fine-never {fault} e k = k (ap checkedNumber e)
+
+next-not-fine : (fault : Fault) (n line : ℕ) (next : Checked) → (next ≡ Refused Fine line → ⊥) → thenNext fault n next ≡ Refused Fine line → ⊥
+unfolding thenNext faultNumber
+next-not-fine Fine n line next k e = k e
+next-not-fine Malformed n line next k e = fine-never e (λ z. omega arith)
+next-not-fine NoAlternative n line next k e = fine-never e (λ z. omega arith)
+next-not-fine BadAlternative n line next k e = fine-never e (λ z. omega arith)
+
+rcpts-not-fine : (k n line : ℕ) (e : List ℕ) → rcptsFrom k n e ≡ Refused Fine line → ⊥
+unfolding rcptsFrom faultNumber
+rcpts-not-fine k zero line [] q = fine-never q (λ z. omega arith)
+rcpts-not-fine k (suc n) line [] q = let z : _≡_ {A = ℕ} 0 1 = cc in omega arith
+rcpts-not-fine (suc k) n line (b ∷ e) q = rcpts-not-fine k n line e q
+rcpts-not-fine zero n line (b ∷ e) q =
+    next-not-fine (rcptFault n (b ∷ e)) (suc n) line (rcptsFrom (suc (lineLen (b ∷ e))) (suc n) e) (rcpts-not-fine (suc (lineLen (b ∷ e))) (suc n) line e) q
+
+checked-not-fine : (e : List ℕ) (line : ℕ) → checked e ≡ Refused Fine line → ⊥
+unfolding checked
+checked-not-fine e line q = next-not-fine (frontFault true e) 0 line (rcptsFrom 0 0 (drop (lineLen e + 2) e)) (rcpts-not-fine 0 0 line (drop (lineLen e + 2) e)) q
+
+-- ---- demand 1
+
+module _ (e h b c : List ℕ) where
+  abbrev o : Outcome
+  o = outcome e h b c
+
+  -- the answer of a verdict
+  abbrev Answers : Verdict → ℕ → ℕ → Type 0
+  Answers v number place = (number ≡ outcomeOf v e h b c .number) × (place ≡ outcomeOf v e h b c .place)
+
+  -- each condition gives its verdict
+  exactly : (number place : ℕ) → Given e h b c number place → Answers (verdict e h (length b) (length c)) number place
+  unfolding verdict firstOf outcomeOf numberOf placeOf faultNumber ofEnvelope ofLines ofOrcpt ofHeld
+  exactly number place (envelope-over k) = rw (over-yes 16384 (length e) EnvelopeOver k) (refl, refl)
+  exactly number place (header-over k l) = rw (over-no 16384 (length e) EnvelopeOver k, over-yes 32768 (length h) HeaderOver l) (refl, refl)
+  exactly number place (envelope-malformed s k) = rw (over-no 16384 (length e) EnvelopeOver (s .envelope), over-no 32768 (length h) HeaderOver (s .header), k) (refl, refl)
+  exactly number place (no-alternative s k) = rw (over-no 16384 (length e) EnvelopeOver (s .envelope), over-no 32768 (length h) HeaderOver (s .header), k) (refl, refl)
+  exactly number place (bad-alternative s k) = rw (over-no 16384 (length e) EnvelopeOver (s .envelope), over-no 32768 (length h) HeaderOver (s .header), k) (refl, refl)
+  exactly number place (header-malformed p k) =
+      rw (over-no 16384 (length e) EnvelopeOver (p .limits .envelope), over-no 32768 (length h) HeaderOver (p .limits .header), p .lines, k) (refl, refl)
+  exactly number place (orcpt-non-ascii p k) =
+      let s = p .envelope .limits in
+      rw (over-no 16384 (length e) EnvelopeOver (s .envelope), over-no 32768 (length h) HeaderOver (s .header), p .envelope .lines, p .lines, k) (refl, refl)
+  exactly number place (held-non-ascii p k) =
+      let s = p .header .envelope .limits in
+      rw (over-no 16384 (length e) EnvelopeOver (s .envelope), over-no 32768 (length h) HeaderOver (s .header), p .header .envelope .lines, p .header .lines, p .orcpt, k) (refl, refl)
+  exactly number place (envelope-longer p k) =
+      let q = p .orcpt .header in
+      let s = q .envelope .limits in
+      rw (over-no 16384 (length e) EnvelopeOver (s .envelope), over-no 32768 (length h) HeaderOver (s .header), q .envelope .lines, q .lines, p .orcpt .orcpt, p .held, over-yes (length b) (length (written e)) (EnvelopeNeeds (length (written e))) k) (refl, refl)
+  exactly number place (header-longer p k l) =
+      let q = p .orcpt .header in
+      let s = q .envelope .limits in
+      rw (over-no 16384 (length e) EnvelopeOver (s .envelope), over-no 32768 (length h) HeaderOver (s .header), q .envelope .lines, q .lines, p .orcpt .orcpt, p .held, over-no (length b) (length (written e)) (EnvelopeNeeds (length (written e))) k, over-yes (length c) (length (outgoingHeader e h)) (HeaderNeeds (length (outgoingHeader e h))) l) (refl, refl)
+  exactly number place (none-holds p k l) =
+      let q = p .orcpt .header in
+      let s = q .envelope .limits in
+      rw (over-no 16384 (length e) EnvelopeOver (s .envelope), over-no 32768 (length h) HeaderOver (s .header), q .envelope .lines, q .lines, p .orcpt .orcpt, p .held, over-no (length b) (length (written e)) (EnvelopeNeeds (length (written e))) k, over-no (length c) (length (outgoingHeader e h)) (HeaderNeeds (length (outgoingHeader e h))) l) (refl, refl)
+
+  -- some condition holds
+  record Some : Type 0 where
+    pub number : ℕ
+    pub place : ℕ
+    pub given : Given e h b c number place
+
+  found : {number place : ℕ} → Given e h b c number place → Some
+  found {number} {place} g = record { number = number; place = place; given = g }
+
+  some-room : Passes e h → Some
+  some-room p =
+      by-test (ltb (length b) (length (written e)))
+      (λ t. found (envelope-longer p (ltb-yes {a = length b} {b = length (written e)} t)))
+      (λ t. let k = ltb-no {a = length b} {b = length (written e)} t in
+      by-test (ltb (length c) (length (outgoingHeader e h)))
+      (λ u. found (header-longer p k (ltb-yes {a = length c} {b = length (outgoingHeader e h)} u)))
+      (λ u. found (none-holds p k (ltb-no {a = length c} {b = length (outgoingHeader e h)} u))))
+
+  some-held : OrcptPasses e h → (found : HeldField) → heldOf h ≡ found → Some
+  some-held p Absent k = some-room (record { orcpt = p; held = k })
+  some-held p (HeldAt line at) k = found (held-non-ascii p k)
+
+  some-orcpt : HeaderPasses e h → (found : Orcpt) → orcptLine e ≡ found → Some
+  some-orcpt p Clean k = some-held (record { header = p; orcpt = k }) (heldOf h) refl
+  some-orcpt p (At line) k = found (orcpt-non-ascii p k)
+
+  some-header : EnvelopePasses e h → (found : Lines) → linesOf h ≡ found → Some
+  some-header p WellFormed k = some-orcpt (record { envelope = p; lines = k }) (orcptLine e) refl
+  some-header p (MalformedLine line at) k = found (header-malformed p k)
+
+  some-fault : InLimits e h → (fault : Fault) (line : ℕ) → checked e ≡ Refused fault line → Some
+  some-fault s Fine line k = absurd (checked-not-fine e line k)
+  some-fault s Malformed line k = found (envelope-malformed s k)
+  some-fault s NoAlternative line k = found (no-alternative s k)
+  some-fault s BadAlternative line k = found (bad-alternative s k)
+
+  some-envelope : InLimits e h → (found : Checked) → checked e ≡ found → Some
+  some-envelope s (Passed count) k = some-header (record { limits = s; recipients = count; lines = k }) (linesOf h) refl
+  some-envelope s (Refused fault line) k = some-fault s fault line k
+
+  some : Some
+  some =
+      by-test (ltb 16384 (length e)) (λ t. found (envelope-over (ltb-yes {a = 16384} {b = length e} t)))
+      (λ t. let k = ltb-no {a = 16384} {b = length e} t in
+      by-test (ltb 32768 (length h)) (λ u. found (header-over k (ltb-yes {a = 32768} {b = length h} u)))
+      (λ u. some-envelope (record { envelope = k; header = ltb-no {a = 32768} {b = length h} u }) (checked e) refl))
+
+  given-exact : (number place : ℕ) → Given e h b c number place → (number ≡ o .number) × (place ≡ o .place)
+  unfolding outcome
+  given-exact number place g = exactly number place g
+
+  given-answered : Given e h b c (o .number) (o .place)
+  given-answered = let q = given-exact (some .number) (some .place) (some .given) in rw (← q .0, ← q .1) (some .given)
+
+  -- a refusal has a number from 1 on
+  refusal-untouched : (v : Verdict) → (outcomeOf v e h b c .number ≡ 0 → ⊥) → Untouched b c (outcomeOf v e h b c)
+  unfolding outcomeOf
+  refusal-untouched Accept k = absurd (k refl)
+  refusal-untouched (Refuse refusal) k = record { envelope-len = refl; header-len = refl; envelope-buffer = refl; header-buffer = refl }
+
+  -- after 0 the whole input passes, and both outputs fit
+  record Taken : Type 0 where
+    pub passes : Passes e h
+    pub envelope-fits : length (written e) ≤ length b
+    pub header-fits : length (outgoingHeader e h) ≤ length c
+
+  taken : (number place : ℕ) → Given e h b c number place → number ≡ 0 → Taken
+  taken number place (envelope-over k) z = absurd (omega arith)
+  taken number place (header-over k l) z = absurd (omega arith)
+  taken number place (envelope-malformed s k) z = absurd (omega arith)
+  taken number place (no-alternative s k) z = absurd (omega arith)
+  taken number place (bad-alternative s k) z = absurd (omega arith)
+  taken number place (header-malformed p k) z = absurd (omega arith)
+  taken number place (orcpt-non-ascii p k) z = absurd (omega arith)
+  taken number place (held-non-ascii p k) z = absurd (omega arith)
+  taken number place (envelope-longer p k) z = absurd (omega arith)
+  taken number place (header-longer p k l) z = absurd (omega arith)
+  taken number place (none-holds p k l) z = record { passes = p; envelope-fits = k; header-fits = l }
+
+  module _ (t : Taken) where
+    accepted : verdict e h (length b) (length c) ≡ Accept
+    unfolding verdict firstOf ofEnvelope ofLines ofOrcpt ofHeld
+    accepted =
+        let p = t .passes in
+        let q = p .orcpt .header in
+        let s = q .envelope .limits in
+        rw (over-no 16384 (length e) EnvelopeOver (s .envelope), over-no 32768 (length h) HeaderOver (s .header), q .envelope .lines, q .lines, p .orcpt .orcpt, p .held, over-no (length b) (length (written e)) (EnvelopeNeeds (length (written e))) (t .envelope-fits), over-no (length c) (length (outgoingHeader e h)) (HeaderNeeds (length (outgoingHeader e h))) (t .header-fits))
+
+    outcome-is : outcomeOf Accept e h b c ≡ o
+    unfolding outcome
+    outcome-is = rw accepted
+
+    -- what was written over a buffer
+    kept-past : (text before : List ℕ) → length text ≤ length before → KeptPast (length text) before (overlay text before)
+    kept-past text before k = record { inside = k; size = length-overlay text before; past = overlay-past text before }
+
+    success-kept : KeptPast (o .envelopeLen) b (o .envelopeBuffer) × KeptPast (o .headerLen) c (o .headerBuffer)
+    unfolding outcomeOf
+    success-kept = rw (← outcome-is) (kept-past (written e) b (t .envelope-fits), kept-past (outgoingHeader e h) c (t .header-fits))
+
+  outcome-demand-1 : Demand1 e h b c o
+  unfolding outcome
+  outcome-demand-1 = record {
+    answered = given-answered;
+    exact = given-exact;
+    refusal = refusal-untouched (verdict e h (length b) (length c));
+    success = λ z. success-kept (taken (o .number) (o .place) given-answered z);
+  }
+
+-- ---- demands 2 and 3
+
+new-field-sound : (name text : List ℕ) → T (all isAscii name) → T (utf8 text) → T (all sound (newField name text))
+unfolding newField
+new-field-sound name [] a u = tt
+new-field-sound name (x ∷ text) a u = yes-and (all isAscii name) (all sound (words (x ∷ text) ∷ raw (13 ∷ 10 ∷ []) ∷ [])) a (yes-and (utf8 (x ∷ text)) true u tt)
+
+became-all : (fields : List (List ℕ)) → rendered (joined (map (fieldSegments addressField) fields)) ≡ joined (map became fields)
+unfolding rendered
+became-all [] = refl
+became-all (field ∷ fields) =
+    rendered-append (fieldSegments addressField field) (joined (map (fieldSegments addressField) fields)) ∙ ap (λ (l : List ℕ). became field ++ l) (became-all fields)
+
+module _ (e h : List ℕ) (p : Passes e h) where
+  segments-sound : T (all sound (outgoingSegments e h))
+  unfolding outgoingSegments newFields bytes
+  segments-sound =
+      let q = p .orcpt .header in
+      let mail = mail-replacement-utf8 e (q .envelope .recipients) (q .envelope .lines) in
+      all-append sound (newFields e) (headerSegments addressField h)
+      (all-append sound (newField (bytes "Downgraded-Mail-From:") (mailReplacement e)) (newField (bytes "Downgraded-Rcpt-To:") (rcptReplacement e))
+      (new-field-sound (bytes "Downgraded-Mail-From:") (mailReplacement e) tt mail)
+      (new-field-sound (bytes "Downgraded-Rcpt-To:") (rcptReplacement e) tt (rcpt-replacement-utf8 e)))
+      (header-sound address-field-sound h (q .lines))
+
+  outcome-demand-3 : DemandThree e h
+  outcome-demand-3 text m = words-demand-3 (outgoingSegments e h) text segments-sound m
+
+  field-after-field : outgoingHeader e h ≡ rendered (newFields e) ++ joined (map became (fieldsOf h))
+  unfolding outgoingHeader outgoingSegments headerSegments
+  field-after-field =
+      rendered-append (newFields e) (headerSegments addressField h) ∙ ap (λ (l : List ℕ). rendered (newFields e) ++ l) (became-all (fieldsOf h))
+
+  written-out-ascii : T (all isAscii (outgoingHeader e h))
+  unfolding outgoingHeader
+  written-out-ascii = rendered-ascii (outgoingSegments e h) segments-sound
+
+  module _ (b c : List ℕ) (t : Taken e h b c) where
+    outcome-demand-2 : Demand2 e h (outcome e h b c)
+    unfolding outcomeOf
+    outcome-demand-2 =
+        rw (← outcome-is e h b c t)
+        (record {
+          envelope = overlay-front (written e) b (t .envelope-fits);
+          header = overlay-front (outgoingHeader e h) c (t .header-fits);
+          envelope-len = refl;
+          header-len = refl;
+          envelope-ascii = written-ascii e (p .orcpt .header .envelope .recipients) (p .orcpt .header .envelope .lines) (p .orcpt .orcpt);
+          header-ascii = written-out-ascii;
+          fields = field-after-field;
+          whole = fields-joined h;
+          copied = field-copied addressField;
+        })
+
+-- All three, of every envelope, every header and every two buffers.
+pub demands : (e h b c : List ℕ) → Demands e h b c (outcome e h b c)
+demands e h b c = record {
+  demand-1 = outcome-demand-1 e h b c;
+  demand-2 = λ z. let t = after-zero z in outcome-demand-2 e h (t .passes) b c t;
+  demand-3 = λ z. outcome-demand-3 e h (after-zero z .passes);
+}
+  where
+    after-zero : outcome e h b c .number ≡ 0 → Taken e h b c
+    after-zero z = taken e h b c (outcome e h b c .number) (outcome e h b c .place) (given-answered e h b c) z

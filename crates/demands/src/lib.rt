@@ -1,0 +1,1 @@
+// The three demands: specs/Demands.antt states them, specs/DemandsLaws.antt proves them.

@@ -1,0 +1,72 @@
+-- Of a line without fault: how long it is, and that the text for the header where its path is replaced is UTF-8. Assumes nothing.
+use mathlib.Core.Path.{_≡_}
+use mathlib.Core.Bool.{Bool, not, _&&_}
+use mathlib.Core.List.{List, [], _∷_, _++_}
+use Prim.Native.Nat.{ℕ, suc, _+_, _≤_, _<_}
+use native.Mathlib.Omega.{arith}
+use lib.Dec.{T, eqb, leb, eqb→eq}
+use lib.ListN.{length, take, drop, getD, take-append-drop}
+use lib.Seq.{drop-cons, drop-drop}
+use mir.Facts.{and-yes, leb-yes}
+use Rattle.utf8.specs.Lists.{cond-has, no-false, all}
+use Rattle.utf8.specs.Byte.{isAscii}
+use Rattle.utf8.specs.Utf8.{utf8}
+use Rattle.utf8.specs.Utf8Laws.{utf8-right, utf8-append, utf8-ascii, utf8-cut}
+use Rattle.address.specs.AddressLaws.{byte-within}
+use Rattle.envelope_line.specs.declared.Fault.the-variants.{Fine}
+use Rattle.envelope_line.specs.EnvelopeLine.{verbLen, hasVerb, pathScan, isTo, pathLen, path, hasPath, tail, spaced, isParam, params, altsOk, alts, wellFormed, lineFault, newPath, replacement}
+use Rattle.envelope_line.specs.AsciiLaws.{well-formed, alt-fine, parts, front-ascii, new-ascii}
+use Rattle.envelope_line.specs.LengthLaws.{replacement-le}
+
+module _ (mail : Bool) (line : List ℕ) (f : lineFault mail line ≡ Fine) where
+  sized : T (leb (length line) 998) × T (utf8 line)
+  unfolding wellFormed
+  sized =
+      let l = leb (length line) 998 in
+      let u = utf8 line in
+      let v = hasVerb mail line in
+      let p = hasPath mail line in
+      let s = spaced (tail mail line) in
+      let q = all isParam (params (tail mail line)) in
+      let a = and-yes (l && u && v && p && s && q) (altsOk (alts (params (tail mail line)))) (well-formed mail line f) in
+      let b = and-yes (l && u && v && p && s) q (a .0) in
+      let d = and-yes (l && u && v && p) s (b .0) in
+      let e = and-yes (l && u && v) p (d .0) in
+      and-yes l u (and-yes (l && u) v (e .0) .0)
+
+  -- "at most 998 bytes"
+  pub fine-short : length line ≤ 998
+  fine-short = leb-yes {a = length line} {b = 998} (sized .0)
+
+  pub replacement-short : length (replacement mail line) ≤ 2001
+  replacement-short = omega (arith, fine-short, replacement-le mail line)
+
+  -- the path stands between ASCII bytes
+  path-utf8 : T (utf8 (path mail line))
+  unfolding path hasPath
+  path-utf8 =
+      let v = verbLen mail in
+      let n = pathLen mail line in
+      let rest = drop v line in
+      let all-utf8 : T (utf8 (take v line ++ rest)) = rw take-append-drop (sized .1) in
+      let from : T (utf8 rest) = rw (utf8-right (take v line) rest (utf8-ascii (take v line) (front-ascii mail line f))) at all-utf8 in
+      let close = eqb→eq (getD line (v + n) 0) 62 (and-yes (isTo (pathScan mail rest)) (eqb (getD line (v + n) 0) 62) (parts mail line f .1) .1) in
+      let there : v + n < length line = byte-within line (v + n) 61 close in
+      let after : drop n rest ≡ 62 ∷ drop (suc (v + n)) line = rw (drop-drop, drop-cons line (v + n) 0 there, close) in
+      let cut : T (utf8 (take n rest ++ (62 ∷ drop (suc (v + n)) line))) = rw (← after, take-append-drop) from in
+      utf8-cut (take n rest) 62 (drop (suc (v + n)) line) (omega arith) cut .0
+
+  new-utf8 : T (not (all isAscii (path mail line))) → T (utf8 (newPath mail line))
+  unfolding newPath
+  new-utf8 t = utf8-ascii (newPath mail line) (new-ascii (params (tail mail line)) (rw (no-false (all isAscii (path mail line)) t) at (alt-fine mail line f)))
+
+  pub replacement-utf8 : T (utf8 (replacement mail line))
+  unfolding replacement
+  replacement-utf8 =
+      let p = path mail line in
+      cond-has (λ text. T (utf8 text)) (all isAscii p) [] (60 ∷ (p ++ (32 ∷ 60 ∷ (newPath mail line ++ (62 ∷ 62 ∷ [])))))
+      (λ t. utf8-ascii [] tt)
+      (λ t. utf8-append (60 ∷ []) (p ++ (32 ∷ 60 ∷ (newPath mail line ++ (62 ∷ 62 ∷ [])))) (utf8-ascii (60 ∷ []) tt)
+      (utf8-append p (32 ∷ 60 ∷ (newPath mail line ++ (62 ∷ 62 ∷ []))) path-utf8
+      (utf8-append (32 ∷ 60 ∷ []) (newPath mail line ++ (62 ∷ 62 ∷ [])) (utf8-ascii (32 ∷ 60 ∷ []) tt)
+      (utf8-append (newPath mail line) (62 ∷ 62 ∷ []) (new-utf8 t) (utf8-ascii (62 ∷ 62 ∷ []) tt)))))
