@@ -97,21 +97,21 @@ same-length c = search needs
 
 returns-2 : tie.Need-returns-2
 unfolding pieces
-returns-2 c = rw (c .before .before .before .before .enum-told2 .given .1, rendered-one (raw (44 ∷ []))) (c .before .before .add-byte .ensures)
+returns-2 c = rw (c .before .before .before .before .enum-told2 .given .1) (capped-same (sym (rendered-one (raw (44 ∷ [])))) (c .before .before .add-byte .ensures))
 
 same-length-2 : tie.Need-same-length-2
 same-length-2 c = search needs
 
 returns-3 : tie.Need-returns-3
 unfolding pieces
-returns-3 c = rw (c .before .before .before .before .before .enum-told3 .given .1, rendered-one (piece (58 ∷ []))) (c .before .before .add-piece .ensures)
+returns-3 c = rw (c .before .before .before .before .before .enum-told3 .given .1) (capped-same (sym (rendered-one (piece (58 ∷ [])))) (c .before .before .add-piece .ensures))
 
 same-length-3 : tie.Need-same-length-3
 same-length-3 c = search needs
 
 returns-4 : tie.Need-returns-4
 unfolding pieces
-returns-4 c = rw (c .before .before .before .before .before .enum-told4 .given .1, rendered-one (piece (59 ∷ []))) (c .before .before .add-piece2 .ensures)
+returns-4 c = rw (c .before .before .before .before .before .enum-told4 .given .1) (capped-same (sym (rendered-one (piece (59 ∷ [])))) (c .before .before .add-piece2 .ensures))
 
 same-length-4 : tie.Need-same-length-4
 same-length-4 c = search needs
