@@ -1,1 +1,3 @@
 pub mod GrammarLaws
+pub mod PartGrammar
+pub mod PartGrammarLaws
