@@ -1,3 +1,4 @@
 pub mod GrammarLaws
 pub mod PartGrammar
 pub mod PartGrammarLaws
+pub mod FoundLaws

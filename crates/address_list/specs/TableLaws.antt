@@ -28,7 +28,7 @@ examined-step : (place : Place) (changed : Bool) (p : Part) (ps : List Part)
 unfolding examinedFrom complete anyChanges
 examined-step place changed p ps = rw (or-assoc changed (changes (p .kind) (p .text)) (anyChanges ps))
 
-complete-unfit : (ps : List Part) → complete Unfit ps ≡ false
+pub complete-unfit : (ps : List Part) → complete Unfit ps ≡ false
 unfolding complete after
 complete-unfit [] = refl
 complete-unfit (p ∷ ps) = complete-unfit ps

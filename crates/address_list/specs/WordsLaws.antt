@@ -104,7 +104,7 @@ passed zero s h = omega arith
 passed (suc k) [] h = absurd (not-suc-le-zero h)
 passed (suc k) (b ∷ s) h = omega (arith, passed k s (omega arith))
 
-words-front : (n : ℕ) (s : List ℕ) → n ≡ nextWordLen s → 0 < n → n ≤ length s → nextWordsLen 0 s ≡ n + nextWordsLen 0 (drop n s)
+pub words-front : (n : ℕ) (s : List ℕ) → n ≡ nextWordLen s → 0 < n → n ≤ length s → nextWordsLen 0 s ≡ n + nextWordsLen 0 (drop n s)
 unfolding nextWordsLen
 words-front n [] q p h = absurd (not-suc-le-zero {n = 0} (omega arith))
 words-front zero (b ∷ s) q p h = absurd (not-suc-le-zero p)

@@ -1,0 +1,174 @@
+-- Words, phrases and addresses that the grammar makes are found in a text, where what follows does not go on with them. Assumes
+-- nothing.
+use mathlib.Core.Path.{_≡_, refl, ap, sym, _∙_}
+use mathlib.Core.Bool.{Bool, true, false, cond, not, _&&_, _||_, and-false}
+use mathlib.Core.List.{List, [], _∷_, _++_, append-assoc}
+use Prim.Native.Nat.{ℕ, zero, suc, _+_, _≤_, _<_}
+use native.Mathlib.Nat.{add-zero}
+use native.Mathlib.Omega.{arith}
+use lib.Dec.{T, ltb, leb, eqb, eqb→eq}
+use borrow.Author.Tests.{lt-ltb, eq-eqb, ne-eqb}
+use lib.ListN.{length, take, drop, getD, length-append}
+use lib.Seq.{drop-append-seam, drop-at}
+use mir.Facts.{and-yes, or-no, eqb-no}
+use Rattle.utf8.specs.Lists.{cond-has, by-test, yes-true, no-false, all, nonempty}
+use Rattle.utf8.specs.Run.{run, run-past}
+use Rattle.header.specs.Lines.{blank}
+use Rattle.address.specs.declared.Scan.{Scan}
+use Rattle.address.specs.declared.Scan.the-variants.{To, Stop}
+use Rattle.address.specs.Address.{later, byteThen, scanThen, isAtext, isAtomByte, dotAtomEnd, dotAtomFrom, dotAtomScan, quotedScan, domainScan, localScan, addressScan}
+use Rattle.address.specs.Grammar.{Atom, DotAtom, QuotedString, LocalPart, Address as AddressForm}
+use Rattle.address.specs.GrammarLaws.{Closed, quoted-string-complete, address-complete}
+use Rattle.address_list.specs.Words.{found, capped, isWordByte, addressLen, wordLen, nextWordLen, nextWordsLen, phraseLen}
+use Rattle.address_list.specs.WordsLaws.{capped-in, words-front, words-stop}
+use Rattle.address_grammar.specs.PartGrammar.{WordForm, WordText, AddressText, Blanks, SomeBlanks, PhraseText}
+
+-- ---- bytes
+
+-- a word or an address starts with such a byte
+unfoldable pub starting : ℕ → Bool
+starting b = isWordByte b || eqb b 34
+
+-- no other part does
+pub record Starts (b : ℕ) : Type 0 where
+  pub no-blank : blank b ≡ false
+  pub no-comma : eqb b 44 ≡ false
+  pub no-colon : eqb b 58 ≡ false
+  pub no-semicolon : eqb b 59 ≡ false
+  pub no-bracket : eqb b 60 ≡ false
+
+pub starts : (b : ℕ) → T (starting b) → Starts b
+unfolding starting isWordByte isAtomByte isAtext blank
+starts b t = record {
+  no-blank = rw (ne-eqb b 32 (λ e. rw e at t), ne-eqb b 9 (λ e. rw e at t));
+  no-comma = ne-eqb b 44 (λ e. rw e at t);
+  no-colon = ne-eqb b 58 (λ e. rw e at t);
+  no-semicolon = ne-eqb b 59 (λ e. rw e at t);
+  no-bracket = ne-eqb b 60 (λ e. rw e at t);
+}
+
+-- a byte that stands after a word: a blank, a colon or `<`
+unfoldable pub stopping : ℕ → Bool
+stopping b = blank b || eqb b 58 || eqb b 60
+
+-- what follows a word does not go on with it, and does not make it an address
+pub record Apart (y : List ℕ) : Type 0 where
+  pub word : isWordByte (getD y 0 0) ≡ false
+  pub sign : eqb (getD y 0 0) 64 ≡ false
+
+pub stops : (b : ℕ) (y : List ℕ) → T (stopping b) → Apart (b ∷ y)
+unfolding stopping starting blank
+stops b y t = record { word = by-test (isWordByte b) (λ w. absurd (no w)) (λ n. no-false (isWordByte b) n); sign = ne-eqb b 64 (λ e. rw e at t) }
+  where
+    no : T (isWordByte b) → ⊥
+    no w = let s = starts b (rw (yes-true (isWordByte b) w) tt) in rw (s .no-blank, s .no-colon, s .no-bracket) at t
+
+pub stops-blanks : {gap : List ℕ} → SomeBlanks gap → (y : List ℕ) → Apart (gap ++ y)
+unfolding stopping
+stops-blanks {gap} g y = go gap (g .some) (g .blanks)
+  where
+    go : (gap : List ℕ) → T (nonempty gap) → Blanks gap → Apart (gap ++ y)
+    go [] s t = absurd s
+    go (b ∷ gap) s t = stops b (gap ++ y) (rw (yes-true (blank b) (and-yes (blank b) (all blank gap) t .0)) tt)
+
+run-none : (f : ℕ → Bool) (y : List ℕ) → f (getD y 0 0) ≡ false → run f y ≡ 0
+unfolding run
+run-none f [] e = refl
+run-none f (b ∷ y) e = rw e
+
+-- a run ends where the next byte does not pass
+pub run-whole : (f : ℕ → Bool) (x y : List ℕ) → T (all f x) → f (getD y 0 0) ≡ false → run f (x ++ y) ≡ length x
+run-whole f x y h e = run-past f x y h ∙ rw (run-none f y e, add-zero)
+
+-- ---- words
+
+run-starts : (w y : List ℕ) → T (nonempty w) → T (all isWordByte w) → T (starting (getD (w ++ y) 0 0))
+unfolding starting
+run-starts [] y s t = absurd s
+run-starts (b ∷ w) y s t = rw (yes-true (isWordByte b) (and-yes (isWordByte b) (all isWordByte w) t .0)) tt
+
+quote-starts : T (starting 34)
+unfolding starting isWordByte isAtomByte isAtext
+quote-starts = tt
+
+pub word-starts : {w : List ℕ} → WordText w → (y : List ℕ) → T (starting (getD (w ++ y) 0 0))
+word-starts {w} h y = go (h .form)
+  where
+    go : {w : List ℕ} → WordForm w → T (starting (getD (w ++ y) 0 0))
+    go (WordForm.string (QuotedString.quoted q)) = quote-starts
+    go (WordForm.run {w} s t) = run-starts w y s t
+
+pub word-some : {w : List ℕ} → WordText w → 0 < length w
+word-some {w} h = go (h .form)
+  where
+    runs : (w : List ℕ) → T (nonempty w) → 0 < length w
+    runs [] s = absurd s
+    runs (b ∷ w) s = omega arith
+    go : {w : List ℕ} → WordForm w → 0 < length w
+    go (WordForm.string (QuotedString.quoted q)) = omega arith
+    go (WordForm.run {w} s t) = runs w s
+
+-- a run of word bytes starts with no quote
+no-quote : (w y : List ℕ) → T (nonempty w) → T (all isWordByte w) → eqb (getD (w ++ y) 0 0) 34 ≡ false
+unfolding isWordByte isAtomByte isAtext
+no-quote [] y s t = absurd s
+no-quote (b ∷ w) y s t = ne-eqb b 34 (λ e. rw e at (and-yes (isWordByte b) (all isWordByte w) t .0))
+
+pub word-found : {w : List ℕ} → WordText w → (y : List ℕ) → Apart y → wordLen (w ++ y) ≡ length w
+unfolding wordLen
+word-found {w} h y a = go (h .form) (h .size)
+  where
+    go : {w : List ℕ} → WordForm w → length w ≤ 900 → wordLen (w ++ y) ≡ length w
+    go (WordForm.string (QuotedString.quoted {text} q)) n = rw (quoted-string-complete (QuotedString.quoted q) y) (sym (capped-in _ n))
+    go (WordForm.run {w} s t) n = rw (no-quote w y s t, run-whole isWordByte w y t (a .word)) (sym (capped-in _ n))
+
+-- a word and what follows it are no address
+data Ends (n : ℕ) (r : Scan) : Type 0 where
+  to : r ≡ To n → Ends n r
+  stop : (m : ℕ) → r ≡ Stop m → Ends n r
+
+later-ends : (n : ℕ) (r : Scan) → Ends n r → Ends (suc n) (later 1 r)
+unfolding later
+later-ends n r (Ends.to e) = Ends.to (rw e (let k : 1 + n ≡ suc n = omega arith in rw k))
+later-ends n r (Ends.stop m e) = Ends.stop (1 + m) (rw e)
+
+atoms-end : (due : Bool) (w y : List ℕ) → T (all isWordByte w) → isWordByte (getD y 0 0) ≡ false → Ends (length w) (dotAtomFrom due (w ++ y))
+unfolding dotAtomFrom isWordByte
+atoms-end true [] [] h e = Ends.stop 0 refl
+atoms-end false [] [] h e = Ends.to refl
+atoms-end due [] (b ∷ y) h e =
+    let no = or-no (isAtomByte b) (eqb b 46) (rw e tt) in
+    rw (no-false (isAtomByte b) (no .0), no-false (eqb b 46) (no .1)) (go due)
+  where
+    go : (due : Bool) → Ends 0 (dotAtomEnd due)
+    go true = Ends.stop 0 refl
+    go false = Ends.to refl
+atoms-end true (b ∷ w) y h e =
+    let both = and-yes (isAtomByte b || eqb b 46) (all isWordByte w) h in
+    rw (and-false (eqb b 46))
+    (cond-has (Ends (suc (length w))) (isAtomByte b || false) (later 1 (dotAtomFrom false (w ++ y))) (Stop 0)
+    (λ t. later-ends (length w) _ (atoms-end false w y (both .1) e))
+    (λ t. Ends.stop 0 refl))
+atoms-end false (b ∷ w) y h e =
+    let both = and-yes (isAtomByte b || eqb b 46) (all isWordByte w) h in
+    let dot = eqb b 46 && true in
+    rw (yes-true (isAtomByte b || dot) (go (isAtomByte b) (eqb b 46) (both .0))) (later-ends (length w) _ (atoms-end dot w y (both .1) e))
+  where
+    go : (a d : Bool) → T (a || d) → T (a || (d && true))
+    go true d t = tt
+    go false true t = tt
+    go false false t = t
+
+local-ends : {w : List ℕ} → WordForm w → (y : List ℕ) → Apart y → Ends (length w) (localScan (w ++ y))
+unfolding localScan dotAtomScan
+local-ends (WordForm.string (QuotedString.quoted {text} q)) y a = Ends.to (quoted-string-complete (QuotedString.quoted q) y)
+local-ends (WordForm.run {w} s t) y a = rw (no-quote w y s t) (atoms-end true w y t (a .word))
+
+no-sign : (w y : List ℕ) → Apart y → (r : Scan) → Ends (length w) r → found (scanThen r (byteThen 64 domainScan) (w ++ y)) ≡ 0
+unfolding scanThen byteThen later
+no-sign w y a r (Ends.to e) = rw (e, drop-append-seam w y, a .sign)
+no-sign w y a r (Ends.stop m e) = rw e
+
+pub word-no-address : {w : List ℕ} → WordText w → (y : List ℕ) → Apart y → addressLen (w ++ y) ≡ 0
+unfolding addressLen addressScan capped
+word-no-address {w} h y a = rw (no-sign w y a (localScan (w ++ y)) (local-ends (h .form) y a))
