@@ -172,3 +172,142 @@ no-sign w y a r (Ends.stop m e) = rw e
 pub word-no-address : {w : List ℕ} → WordText w → (y : List ℕ) → Apart y → addressLen (w ++ y) ≡ 0
 unfolding addressLen addressScan capped
 word-no-address {w} h y a = rw (no-sign w y a (localScan (w ++ y)) (local-ends (h .form) y a))
+
+-- ---- phrases
+
+-- what follows a phrase: blanks, perhaps none, and a colon or `<`
+pub record AfterPhrase (rest : List ℕ) : Type 0 where
+  pub gap : List ℕ
+  pub byte : ℕ
+  pub more : List ℕ
+  pub made : rest ≡ gap ++ (byte ∷ more)
+  pub blanks : Blanks gap
+  pub mark : T (eqb byte 58 || eqb byte 60)
+
+mark-stops : (b : ℕ) → T (eqb b 58 || eqb b 60) → T (stopping b)
+unfolding stopping
+mark-stops b t = go (blank b) (eqb b 58) (eqb b 60) t
+  where
+    go : (x y z : Bool) → T (y || z) → T (x || y || z)
+    go true y z t = tt
+    go false y z t = t
+
+pub after-apart : {rest : List ℕ} → AfterPhrase rest → Apart rest
+unfolding stopping
+after-apart {rest} r = rw (r .made) (go (r .gap) (r .blanks))
+  where
+    go : (gap : List ℕ) → Blanks gap → Apart (gap ++ (r .byte ∷ r .more))
+    go [] h = stops (r .byte) (r .more) (mark-stops (r .byte) (r .mark))
+    go (b ∷ gap) h = stops-blanks {gap = b ∷ gap} (record { some = tt; blanks = h }) (r .byte ∷ r .more)
+
+-- such a mark is no blank and starts no word
+mark-alone : (b : ℕ) (y : List ℕ) → T (eqb b 58 || eqb b 60) → (blank b ≡ false) × (wordLen (b ∷ y) ≡ 0)
+unfolding wordLen capped blank
+mark-alone b y t =
+    (rw (ne-eqb b 32 (λ e. rw e at t), ne-eqb b 9 (λ e. rw e at t)),
+    rw (ne-eqb b 34 (λ e. rw e at t), run-none isWordByte (b ∷ y) (stops b y (mark-stops b t) .word)))
+
+no-next : {rest : List ℕ} → AfterPhrase rest → nextWordLen rest ≡ 0
+unfolding nextWordLen
+no-next {rest} r =
+    let alone = mark-alone (r .byte) (r .more) (r .mark) in
+    rw (r .made, run-whole blank (r .gap) (r .byte ∷ r .more) (r .blanks) (alone .0), drop-append-seam (r .gap) (r .byte ∷ r .more), alone .1, and-false)
+
+no-more : {rest : List ℕ} → AfterPhrase rest → nextWordsLen 0 rest ≡ 0
+no-more {rest} r = omega (arith, words-stop rest 0 0 (sym (no-next r)) refl)
+
+next-found : {w gap : List ℕ} → WordText w → SomeBlanks gap → (y : List ℕ) → Apart y → nextWordLen (gap ++ (w ++ y)) ≡ length gap + length w
+unfolding nextWordLen
+next-found {w} {gap} h g y a =
+    rw (run-whole blank gap (w ++ y) (g .blanks) (starts (getD (w ++ y) 0 0) (word-starts h y) .no-blank), drop-append-seam gap (w ++ y),
+    word-found h y a, lt-ltb 0 (length w) (word-some h), lt-ltb 0 (length gap) (blanks-some gap (g .some)))
+  where
+    blanks-some : (gap : List ℕ) → T (nonempty gap) → 0 < length gap
+    blanks-some [] s = absurd s
+    blanks-some (b ∷ gap) s = omega arith
+
+-- blanks, a word, and what follows it
+words-next : {w gap : List ℕ} → WordText w → SomeBlanks gap → (y : List ℕ) → Apart y
+    → nextWordsLen 0 (gap ++ (w ++ y)) ≡ length gap + length w + nextWordsLen 0 y
+words-next {w} {gap} h g y a =
+    let s = gap ++ (w ++ y) in
+    let n = length gap + length w in
+    let whole : (gap ++ w) ++ y ≡ s = append-assoc gap w y in
+    let past : drop n s ≡ y = rw (← whole) (drop-at (gap ++ w) y n (length-append gap w)) in
+    let fact = words-front n s (sym (next-found h g y a)) (omega (arith, word-some h)) (omega (arith, length-append gap (w ++ y), length-append w y)) in
+    rw past at fact
+
+words-found : {p before : List ℕ} → PhraseText p → SomeBlanks before → (rest : List ℕ) → AfterPhrase rest → nextWordsLen 0 (before ++ (p ++ rest)) ≡ length before + length p
+words-found (PhraseText.one h) b rest r = words-next h b rest (after-apart r) ∙ rw (no-more r, add-zero)
+words-found (PhraseText.then {w} {gap} {more} h g m) b rest r =
+    rw (append-assoc w (gap ++ more) rest, append-assoc gap more rest)
+    (omega (arith, words-next h b (gap ++ (more ++ rest)) (stops-blanks g (more ++ rest)), words-found m g rest r, length-append w (gap ++ more), length-append gap more))
+
+-- a word, and the rest of a phrase
+phrase-front : {w : List ℕ} → WordText w → (y : List ℕ) → Apart y → phraseLen (w ++ y) ≡ length w + nextWordsLen 0 y
+unfolding phraseLen
+phrase-front {w} h y a = rw (word-found h y a, lt-ltb 0 (length w) (word-some h), drop-append-seam w y)
+
+-- a phrase starts with a word that stands apart
+record FirstWord (s : List ℕ) : Type 0 where
+  w : List ℕ
+  y : List ℕ
+  made : s ≡ w ++ y
+  is : WordText w
+  apart : Apart y
+
+first-word : {p : List ℕ} → PhraseText p → (rest : List ℕ) → AfterPhrase rest → FirstWord (p ++ rest)
+first-word (PhraseText.one {w} h) rest r = record { w = w; y = rest; made = refl; is = h; apart = after-apart r }
+first-word (PhraseText.then {w} {gap} {more} h g m) rest r =
+    record { w = w; y = gap ++ (more ++ rest); made = rw (append-assoc w (gap ++ more) rest, append-assoc gap more rest); is = h; apart = stops-blanks g (more ++ rest) }
+
+module _ {p : List ℕ} (h : PhraseText p) (rest : List ℕ) (r : AfterPhrase rest) where
+  pub phrase-starts : T (starting (getD (p ++ rest) 0 0))
+  phrase-starts = let f = first-word h rest r in rw (f .made) (word-starts (f .is) (f .y))
+
+  pub phrase-no-address : addressLen (p ++ rest) ≡ 0
+  phrase-no-address = let f = first-word h rest r in rw (f .made) (word-no-address (f .is) (f .y) (f .apart))
+
+  pub phrase-found : phraseLen (p ++ rest) ≡ length p
+  phrase-found = go h
+    where
+      go : {p : List ℕ} → PhraseText p → phraseLen (p ++ rest) ≡ length p
+      go (PhraseText.one h) = phrase-front h rest (after-apart r) ∙ rw (no-more r, add-zero)
+      go (PhraseText.then {w} {gap} {more} h g m) =
+          rw (append-assoc w (gap ++ more) rest, append-assoc gap more rest)
+          (omega (arith, phrase-front h (gap ++ (more ++ rest)) (stops-blanks g (more ++ rest)), words-found m g rest r, length-append w (gap ++ more), length-append gap more))
+
+pub phrase-some : {p : List ℕ} → PhraseText p → 0 < length p
+phrase-some (PhraseText.one h) = word-some h
+phrase-some (PhraseText.then {w} {gap} {more} h g m) = omega (arith, word-some h, length-append w (gap ++ more))
+
+-- ---- addresses
+
+atom-starts : {a : List ℕ} → Atom a → (y : List ℕ) → T (starting (getD (a ++ y) 0 0))
+unfolding starting isWordByte
+atom-starts {a} h y = go a (h .some) (h .bytes)
+  where
+    go : (a : List ℕ) → T (nonempty a) → T (all isAtomByte a) → T (starting (getD (a ++ y) 0 0))
+    go [] s t = absurd s
+    go (b ∷ a) s t = rw (yes-true (isAtomByte b) (and-yes (isAtomByte b) (all isAtomByte a) t .0)) tt
+
+local-starts : {l : List ℕ} → LocalPart l → (y : List ℕ) → T (starting (getD (l ++ y) 0 0))
+local-starts (LocalPart.atoms (DotAtom.one h)) y = atom-starts h y
+local-starts (LocalPart.atoms (DotAtom.then {a} {more} h d)) y = rw (append-assoc a (46 ∷ more) y) (atom-starts h ((46 ∷ more) ++ y))
+local-starts (LocalPart.string (QuotedString.quoted q)) y = quote-starts
+
+pub address-starts : {a : List ℕ} → AddressText a → (y : List ℕ) → T (starting (getD (a ++ y) 0 0))
+address-starts {a} h y = go (h .form)
+  where
+    go : {a : List ℕ} → AddressForm a → T (starting (getD (a ++ y) 0 0))
+    go (AddressForm.address {local} {domain} l d) = rw (append-assoc local (64 ∷ domain) y) (local-starts l ((64 ∷ domain) ++ y))
+
+pub address-some : {a : List ℕ} → AddressText a → 0 < length a
+address-some {a} h = go (h .form)
+  where
+    go : {a : List ℕ} → AddressForm a → 0 < length a
+    go (AddressForm.address {local} {domain} l d) = omega (arith, length-append local (64 ∷ domain))
+
+pub address-found : {a : List ℕ} → AddressText a → (rest : List ℕ) → Closed rest → addressLen (a ++ rest) ≡ length a
+unfolding addressLen
+address-found {a} h rest c = rw (address-complete (h .form) rest c) (sym (capped-in (length a) (h .size)))
