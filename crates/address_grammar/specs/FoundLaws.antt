@@ -71,6 +71,13 @@ stops-blanks {gap} g y = go gap (g .some) (g .blanks)
     go [] s t = absurd s
     go (b ∷ gap) s t = stops b (gap ++ y) (rw (yes-true (blank b) (and-yes (blank b) (all blank gap) t .0)) tt)
 
+pub apart-closed : {y : List ℕ} → Apart y → Closed y
+unfolding isWordByte
+apart-closed {y} a =
+    let first = getD y 0 0 in
+    let no = or-no (isAtomByte first) (eqb first 46) (rw (a .word) tt) in
+    record { atom = no-false (isAtomByte first) (no .0); dot = no-false (eqb first 46) (no .1) }
+
 run-none : (f : ℕ → Bool) (y : List ℕ) → f (getD y 0 0) ≡ false → run f y ≡ 0
 unfolding run
 run-none f [] e = refl

@@ -14,7 +14,7 @@ use Rattle.address_list.specs.Parts.{Part, partsOf, anyChanges}
 use Rattle.address_list.specs.Grammar.{InAngles, Mailbox, Mailboxes, Item, Items, unlessBlank, kindsOf}
 use Rattle.address_list.specs.Table.{after, isDone, complete, fits, examinedFrom, examined}
 
-false-true : {A : Type 0} → false ≡ true → A
+pub false-true : {A : Type 0} → false ≡ true → A
 false-true h = absurd (let z : _≡_ {A = ℕ} 0 1 = ap (λ (t : Bool). cond t 1 0) h in omega arith)
 
 -- ---- what the table takes is made by the grammar
@@ -224,10 +224,13 @@ unfolding leads after
 items-lead (Items.one {i} a) = ap (leads ItemDue) (sym (append-nil i)) ∙ item-due a []
 items-lead (Items.then {i} {is} a b) = item-due a (Comma ∷ is) ∙ items-lead b
 
+pub made-complete : (ps : List Part) → Items (kindsOf ps) → complete ItemDue ps ≡ true
+made-complete ps e = complete-leads ItemDue ps ∙ items-lead e
+
 -- a comma list of mailboxes or groups fits
 pub made-fits : (text : List ℕ) → Items (kindsOf (partsOf text)) → fits text ≡ true
 unfolding fits
-made-fits text e = complete-leads ItemDue (partsOf text) ∙ items-lead e
+made-fits text e = made-complete (partsOf text) e
 
 -- ---- what is told of a text
 

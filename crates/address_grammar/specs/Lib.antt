@@ -1,4 +1,5 @@
-pub mod GrammarLaws
 pub mod PartGrammar
+pub mod GrammarLaws
 pub mod PartGrammarLaws
 pub mod FoundLaws
+pub mod FittingLaws

@@ -1,5 +1,5 @@
--- What the bytes of each part of an address field's text are, in the paper's words, as rules that make texts. PartGrammarLaws.antt
--- proves that the parts of every text are made so. Assumes nothing.
+-- What the bytes of each part of an address field's text are, in the paper's words, as rules that make texts. FittingLaws.antt
+-- proves that a text fits exactly if it is made so. Assumes nothing.
 use mathlib.Core.Path.{_≡_}
 use mathlib.Core.Bool.{false}
 use mathlib.Core.List.{List, [], _∷_, _++_}
@@ -12,6 +12,7 @@ use Rattle.header.specs.Lines.{blank}
 use Rattle.address.specs.Grammar.{QuotedString, Address as AddressForm}
 use Rattle.address_list.specs.Words.{isWordByte}
 use Rattle.address_list.specs.Parts.{Part}
+use Rattle.address_list.specs.Grammar.{Items, kindsOf}
 use Rattle.address_list.specs.declared.Kind.{Kind}
 use Rattle.address_list.specs.declared.Kind.the-variants.{Blank, Comma, Colon, Semicolon, Phrase, Address, Angled, Alternative, Stray}
 
@@ -96,3 +97,10 @@ EachIsPart (p ∷ ps) = IsPart (p .kind) (p .text) × EachIsPart ps
 abbrev pub joinedParts : List Part → List ℕ
 joinedParts [] = []
 joinedParts (p ∷ ps) = p .text ++ joinedParts ps
+
+-- "The text must be a comma list of mailboxes or groups": parts whose kinds are such a list, each what its kind says
+pub record AddressList (text : List ℕ) : Type 0 where
+  pub parts : List Part
+  pub kinds : Items (kindsOf parts)
+  pub each : EachIsPart parts
+  pub joined : joinedParts parts ≡ text

@@ -1,0 +1,389 @@
+-- A text fits exactly if it is a comma list of mailboxes or groups, down to its bytes. Assumes nothing.
+use mathlib.Core.Path.{_≡_, refl, ap, sym, _∙_}
+use mathlib.Core.Bool.{Bool, true, false, cond, _||_}
+use mathlib.Core.List.{List, [], _∷_, _++_, append-assoc}
+use Prim.Native.Nat.{ℕ, zero, suc, _+_, _-_, _≤_, _<_}
+use native.Mathlib.Nat.{not-suc-le-zero}
+use native.Mathlib.Numerals.{add-one}
+use native.Mathlib.Omega.{arith}
+use lib.Dec.{T, ltb, eqb}
+use borrow.Author.Tests.{ne-eqb}
+use lib.ListN.{length, take, drop, getD, length-append}
+use lib.Seq.{drop-append-seam, drop-drop, drop-at, getD-drop, getD-append-seam, take-append-seam}
+use mir.Facts.{and-yes, yes-and}
+use Rattle.utf8.specs.Byte.{isAscii}
+use Rattle.utf8.specs.Lists.{yes-true, all, nonempty}
+use Rattle.utf8.specs.Run.{run}
+use Rattle.header.specs.Lines.{blank}
+use Rattle.address.specs.Address.{isAtext, isAtomByte}
+use Rattle.address.specs.AddressLaws.{front-byte}
+use Rattle.address.specs.GrammarLaws.{Closed, nothing-closed}
+use Rattle.address_list.specs.Words.{addressLen}
+use Rattle.address_list.specs.Parts.{Part, front, angledAt, alternativeAt, namedAt, partAt, partsFrom, partsOf}
+use Rattle.address_list.specs.PartsLaws.{partIn, parts-front, parts-end, named-address, named-phrase, angled-there, angled-more, alternative-there}
+use Rattle.address_list.specs.Grammar.{Items, kindsOf}
+use Rattle.address_list.specs.Table.{after, complete, fits}
+use Rattle.address_list.specs.TableLaws.{complete-unfit}
+use Rattle.address_list.specs.declared.Kind.{Kind}
+use Rattle.address_list.specs.declared.Kind.the-variants.{Blank, Comma, Colon, Semicolon, Phrase, Address, Angled, Alternative, Stray}
+use Rattle.address_list.specs.declared.Place.{Place}
+use Rattle.address_list.specs.declared.Place.the-variants.{ItemDue, ItemNamed, ItemDone, GroupOpen, MemberDue, MemberNamed, MemberDone, Unfit}
+use Rattle.address_list.specs.declared.Front.{Front}
+use Rattle.address_grammar.specs.PartGrammar.{WordText, AddressText, Blanks, SomeBlanks, PhraseText, AngledText, AlternativeText, OneByte, IsPart, EachIsPart, joinedParts, AddressList}
+use Rattle.address_grammar.specs.PartGrammarLaws.{parts-made, parts-joined}
+use Rattle.address_grammar.specs.GrammarLaws.{false-true, fits-made, made-complete}
+use Rattle.address_grammar.specs.FoundLaws.{starting, Starts, starts, stopping, stops, stops-blanks, apart-closed, run-whole, Apart, AfterPhrase, phrase-starts, phrase-no-address, phrase-found, phrase-some, address-starts, address-some, address-found}
+
+-- a text that fits is such a list
+pub fitting-text : (text : List ℕ) → fits text ≡ true → AddressList text
+fitting-text text h = record { parts = partsOf text; kinds = fits-made text h; each = parts-made text; joined = parts-joined text }
+
+-- ---- what follows a part, where the parts go on to a place where a text may end
+
+unfit : {A : Type 0} (ps : List Part) → complete Unfit ps ≡ true → A
+unfit ps h = false-true (sym (complete-unfit ps) ∙ h)
+
+blank-apart : {t : List ℕ} → IsPart Blank t → (y : List ℕ) → Apart (t ++ y)
+unfolding stopping
+blank-apart {t} p y = rw (p .made) (stops (p .byte) y (rw (yes-true (blank (p .byte)) (p .is)) tt))
+
+mark-closed : (b : ℕ) (y : List ℕ) → isAtomByte b ≡ false → eqb b 46 ≡ false → Closed (b ∷ y)
+mark-closed b y a d = record { atom = a; dot = d }
+
+comma-closed : {t : List ℕ} → t ≡ 44 ∷ [] → (y : List ℕ) → Closed (t ++ y)
+unfolding isAtomByte isAtext
+comma-closed p y = rw p (mark-closed 44 y refl refl)
+
+semicolon-closed : {t : List ℕ} → t ≡ 59 ∷ [] → (y : List ℕ) → Closed (t ++ y)
+unfolding isAtomByte isAtext
+semicolon-closed p y = rw p (mark-closed 59 y refl refl)
+
+close-closed : (y : List ℕ) → Closed (62 ∷ y)
+unfolding isAtomByte isAtext
+close-closed y = mark-closed 62 y refl refl
+
+item-next : (k : Kind) (t : List ℕ) (ps : List Part) → complete (after ItemDone k) ps ≡ true → IsPart k t → Closed (t ++ joinedParts ps)
+unfolding after
+item-next Blank t ps h p = apart-closed (blank-apart p (joinedParts ps))
+item-next Comma t ps h p = comma-closed p (joinedParts ps)
+item-next Colon t ps h p = unfit ps h
+item-next Semicolon t ps h p = unfit ps h
+item-next Phrase t ps h p = unfit ps h
+item-next Address t ps h p = unfit ps h
+item-next (Angled start size) t ps h p = unfit ps h
+item-next (Alternative start size) t ps h p = unfit ps h
+item-next Stray t ps h p = unfit ps h
+
+member-next : (k : Kind) (t : List ℕ) (ps : List Part) → complete (after MemberDone k) ps ≡ true → IsPart k t → Closed (t ++ joinedParts ps)
+unfolding after
+member-next Blank t ps h p = apart-closed (blank-apart p (joinedParts ps))
+member-next Comma t ps h p = comma-closed p (joinedParts ps)
+member-next Colon t ps h p = unfit ps h
+member-next Semicolon t ps h p = semicolon-closed p (joinedParts ps)
+member-next Phrase t ps h p = unfit ps h
+member-next Address t ps h p = unfit ps h
+member-next (Angled start size) t ps h p = unfit ps h
+member-next (Alternative start size) t ps h p = unfit ps h
+member-next Stray t ps h p = unfit ps h
+
+item-rest : (ps : List Part) → complete ItemDone ps ≡ true → EachIsPart ps → Closed (joinedParts ps)
+unfolding complete
+item-rest [] h e = nothing-closed
+item-rest (p ∷ ps) h e = item-next (p .kind) (p .text) ps h (e .0)
+
+member-rest : (ps : List Part) → complete MemberDone ps ≡ true → EachIsPart ps → Closed (joinedParts ps)
+unfolding complete
+member-rest [] h e = nothing-closed
+member-rest (p ∷ ps) h e = member-next (p .kind) (p .text) ps h (e .0)
+
+address-rest : (place : Place) (ps : List Part) → complete (after place Address) ps ≡ true → EachIsPart ps → Closed (joinedParts ps)
+unfolding after
+address-rest ItemDue ps h e = item-rest ps h e
+address-rest ItemNamed ps h e = unfit ps h
+address-rest ItemDone ps h e = unfit ps h
+address-rest GroupOpen ps h e = member-rest ps h e
+address-rest MemberDue ps h e = member-rest ps h e
+address-rest MemberNamed ps h e = unfit ps h
+address-rest MemberDone ps h e = unfit ps h
+address-rest Unfit ps h e = unfit ps h
+
+after-blank : {t y : List ℕ} → IsPart Blank t → AfterPhrase y → AfterPhrase (t ++ y)
+after-blank {t} {y} p r = record {
+  gap = p .byte ∷ r .gap;
+  byte = r .byte;
+  more = r .more;
+  made = rw (p .made, r .made);
+  blanks = yes-and (blank (p .byte)) (all blank (r .gap)) (p .is) (r .blanks);
+  mark = r .mark;
+}
+
+after-mark : {t : List ℕ} (b : ℕ) (more y : List ℕ) → T (eqb b 58 || eqb b 60) → t ≡ b ∷ more → AfterPhrase (t ++ y)
+after-mark b more y m e = record { gap = []; byte = b; more = more ++ y; made = rw e; blanks = tt; mark = m }
+
+item-named-next : (k : Kind) (t : List ℕ) (ps : List Part) → complete (after ItemNamed k) ps ≡ true → IsPart k t → (complete ItemNamed ps ≡ true → AfterPhrase (joinedParts ps)) → AfterPhrase (t ++ joinedParts ps)
+unfolding after
+item-named-next Blank t ps h p more = after-blank p (more h)
+item-named-next Comma t ps h p more = unfit ps h
+item-named-next Colon t ps h p more = after-mark 58 [] (joinedParts ps) tt p
+item-named-next Semicolon t ps h p more = unfit ps h
+item-named-next Phrase t ps h p more = unfit ps h
+item-named-next Address t ps h p more = unfit ps h
+item-named-next (Angled start size) t ps h p more = after-mark 60 _ (joinedParts ps) tt (p .made)
+item-named-next (Alternative start size) t ps h p more = after-mark 60 _ (joinedParts ps) tt (p .made)
+item-named-next Stray t ps h p more = unfit ps h
+
+item-named : (ps : List Part) → complete ItemNamed ps ≡ true → EachIsPart ps → AfterPhrase (joinedParts ps)
+unfolding complete
+item-named [] h e = false-true h
+item-named (p ∷ ps) h e = item-named-next (p .kind) (p .text) ps h (e .0) (λ k. item-named ps k (e .1))
+
+member-named-next : (k : Kind) (t : List ℕ) (ps : List Part) → complete (after MemberNamed k) ps ≡ true → IsPart k t → (complete MemberNamed ps ≡ true → AfterPhrase (joinedParts ps)) → AfterPhrase (t ++ joinedParts ps)
+unfolding after
+member-named-next Blank t ps h p more = after-blank p (more h)
+member-named-next Comma t ps h p more = unfit ps h
+member-named-next Colon t ps h p more = unfit ps h
+member-named-next Semicolon t ps h p more = unfit ps h
+member-named-next Phrase t ps h p more = unfit ps h
+member-named-next Address t ps h p more = unfit ps h
+member-named-next (Angled start size) t ps h p more = after-mark 60 _ (joinedParts ps) tt (p .made)
+member-named-next (Alternative start size) t ps h p more = after-mark 60 _ (joinedParts ps) tt (p .made)
+member-named-next Stray t ps h p more = unfit ps h
+
+member-named : (ps : List Part) → complete MemberNamed ps ≡ true → EachIsPart ps → AfterPhrase (joinedParts ps)
+unfolding complete
+member-named [] h e = false-true h
+member-named (p ∷ ps) h e = member-named-next (p .kind) (p .text) ps h (e .0) (λ k. member-named ps k (e .1))
+
+phrase-rest : (place : Place) (ps : List Part) → complete (after place Phrase) ps ≡ true → EachIsPart ps → AfterPhrase (joinedParts ps)
+unfolding after
+phrase-rest ItemDue ps h e = item-named ps h e
+phrase-rest ItemNamed ps h e = unfit ps h
+phrase-rest ItemDone ps h e = unfit ps h
+phrase-rest GroupOpen ps h e = member-named ps h e
+phrase-rest MemberDue ps h e = member-named ps h e
+phrase-rest MemberNamed ps h e = unfit ps h
+phrase-rest MemberDone ps h e = unfit ps h
+phrase-rest Unfit ps h e = unfit ps h
+
+after-stray : (place : Place) → after place Stray ≡ Unfit
+unfolding after
+after-stray ItemDue = refl
+after-stray ItemNamed = refl
+after-stray ItemDone = refl
+after-stray GroupOpen = refl
+after-stray MemberDue = refl
+after-stray MemberNamed = refl
+after-stray MemberDone = refl
+after-stray Unfit = refl
+
+-- where an address stands in its part does not matter
+same-angled : (a n b m : ℕ) (place : Place) → after place (Angled a n) ≡ after place (Angled b m)
+unfolding after
+same-angled a n b m ItemDue = refl
+same-angled a n b m ItemNamed = refl
+same-angled a n b m ItemDone = refl
+same-angled a n b m GroupOpen = refl
+same-angled a n b m MemberDue = refl
+same-angled a n b m MemberNamed = refl
+same-angled a n b m MemberDone = refl
+same-angled a n b m Unfit = refl
+
+same-alternative : (a n b m : ℕ) (place : Place) → after place (Alternative a n) ≡ after place (Alternative b m)
+unfolding after
+same-alternative a n b m ItemDue = refl
+same-alternative a n b m ItemNamed = refl
+same-alternative a n b m ItemDone = refl
+same-alternative a n b m GroupOpen = refl
+same-alternative a n b m MemberDue = refl
+same-alternative a n b m MemberNamed = refl
+same-alternative a n b m MemberDone = refl
+same-alternative a n b m Unfit = refl
+
+-- ---- a part that the grammar makes is found
+
+record Found (s : List ℕ) (kind : Kind) (size : ℕ) : Type 0 where
+  at : Front
+  is : at ≡ partAt s
+  width : at .size ≡ size
+  some : 0 < size
+  same : (place : Place) → after place (at .kind) ≡ after place kind
+
+whole-found : {s : List ℕ} (k : Kind) (n : ℕ) → front k n ≡ partAt s → 0 < n → Found s k n
+whole-found k n e p = record { at = front k n; is = e; width = refl; some = p; same = λ place. refl }
+
+blank-found : {t : List ℕ} → IsPart Blank t → (y : List ℕ) → Found (t ++ y) Blank (length t)
+unfolding partAt
+blank-found p y = rw (p .made) (whole-found Blank 1 (rw (yes-true (blank (p .byte)) (p .is))) (omega arith))
+
+comma-found : {t : List ℕ} → t ≡ 44 ∷ [] → (y : List ℕ) → Found (t ++ y) Comma (length t)
+unfolding partAt blank
+comma-found p y = rw p (whole-found Comma 1 refl (omega arith))
+
+colon-found : {t : List ℕ} → t ≡ 58 ∷ [] → (y : List ℕ) → Found (t ++ y) Colon (length t)
+unfolding partAt blank
+colon-found p y = rw p (whole-found Colon 1 refl (omega arith))
+
+semicolon-found : {t : List ℕ} → t ≡ 59 ∷ [] → (y : List ℕ) → Found (t ++ y) Semicolon (length t)
+unfolding partAt blank
+semicolon-found p y = rw p (whole-found Semicolon 1 refl (omega arith))
+
+named-part : (s : List ℕ) → T (starting (getD s 0 0)) → namedAt s ≡ partAt s
+unfolding partAt
+named-part s t = let n = starts (getD s 0 0) t in rw (n .no-blank, n .no-comma, n .no-colon, n .no-semicolon, n .no-bracket)
+
+bare-found : {t : List ℕ} → AddressText t → (y : List ℕ) → Closed y → Found (t ++ y) Address (length t)
+bare-found {t} p y c =
+    whole-found Address (length t)
+    (named-address (t ++ y) (length t) (sym (address-found p y c)) (λ z. not-suc-le-zero {n = 0} (omega (arith, address-some p))) ∙ named-part (t ++ y) (address-starts p y))
+    (address-some p)
+
+phrase-part : {t : List ℕ} → PhraseText t → (y : List ℕ) → AfterPhrase y → Found (t ++ y) Phrase (length t)
+phrase-part {t} p y r =
+    whole-found Phrase (length t)
+    (named-phrase (t ++ y) 0 (sym (phrase-no-address p y r)) refl (length t) (sym (phrase-found p y r)) (λ z. not-suc-le-zero {n = 0} (omega (arith, phrase-some p))) ∙ named-part (t ++ y) (phrase-starts p y r))
+    (phrase-some p)
+
+bracket-part : (y : List ℕ) → angledAt (60 ∷ y) ≡ partAt (60 ∷ y)
+unfolding partAt blank
+bracket-part y = refl
+
+-- blanks before an address
+gap-run : (gap : List ℕ) {a : List ℕ} → Blanks gap → AddressText a → (y : List ℕ) → run blank (gap ++ (a ++ y)) ≡ length gap
+gap-run gap {a} b h y = run-whole blank gap (a ++ y) b (starts (getD (a ++ y) 0 0) (address-starts h y) .no-blank)
+
+no-address : {a : List ℕ} → AddressText a → length a ≡ 0 → ⊥
+no-address h z = not-suc-le-zero {n = 0} (omega (arith, address-some h))
+
+angled-found : {start size : ℕ} {t : List ℕ} → AngledText start size t → (y : List ℕ) → Found (t ++ y) (Angled start size) (length t)
+angled-found {start} {size} {t} p y =
+    let gap = p .gap in
+    let address = p .address in
+    let s : List ℕ = 60 ∷ (gap ++ (address ++ (62 ∷ y))) in
+    let whole : t ++ y ≡ s = rw (p .made, append-assoc gap (address ++ (62 ∷ [])) y, append-assoc address (62 ∷ []) y) in
+    let a = suc (length gap) in
+    let n = length address in
+    let before : run blank (drop 1 s) ≡ length gap = gap-run gap (p .blanks) (p .is) (62 ∷ y) in
+    let from : drop a s ≡ address ++ (62 ∷ y) = drop-append-seam gap (address ++ (62 ∷ y)) in
+    let qs : a ≡ 1 + run blank (drop 1 s) = omega (arith, before) in
+    let qz : n ≡ addressLen (drop a s) = rw from (sym (address-found (p .is) (62 ∷ y) (close-closed y))) in
+    let close : getD s (a + n) 0 ≡ 62 = sym (getD-drop a s n 0) ∙ rw from (getD-append-seam address 62 y 0) in
+    let size-is : a + n + 1 ≡ length t = omega (arith, ap length (p .made), length-append gap (address ++ (62 ∷ [])), length-append address (62 ∷ [])) in
+    rw whole
+    (record {
+      at = front (Angled a n) (a + n + 1);
+      is = angled-there s a n qs qz (no-address (p .is)) close ∙ bracket-part (gap ++ (address ++ (62 ∷ y)));
+      width = size-is;
+      some = omega (arith, size-is);
+      same = same-angled a n start size
+    })
+
+beyond : (s : List ℕ) (i : ℕ) (x y : List ℕ) → drop i s ≡ x ++ y → drop (i + length x) s ≡ y
+beyond s i x y e = sym (drop-drop (length x) i s) ∙ rw e (drop-append-seam x y)
+
+blanks-first : {gap : List ℕ} → SomeBlanks gap → (y : List ℕ) → T (blank (getD (gap ++ y) 0 0))
+blanks-first {gap} g y = go gap (g .some) (g .blanks)
+  where
+    go : (gap : List ℕ) → T (nonempty gap) → Blanks gap → T (blank (getD (gap ++ y) 0 0))
+    go [] s t = absurd s
+    go (b ∷ gap) s t = and-yes (blank b) (all blank gap) t .0
+
+bracket-no-blank : blank 60 ≡ false
+unfolding blank
+bracket-no-blank = refl
+
+close-no-blank : (b : ℕ) → T (blank b) → b ≡ 62 → ⊥
+unfolding blank
+close-no-blank b t e = rw e at t
+
+some-length : (gap : List ℕ) → T (nonempty gap) → 0 < length gap
+some-length [] s = absurd s
+some-length (b ∷ gap) s = omega arith
+
+alternative-found : {start size : ℕ} {t : List ℕ} → AlternativeText start size t → (y : List ℕ) → Found (t ++ y) (Alternative start size) (length t)
+alternative-found {start} {size} {t} p y =
+    let gap = p .gap in
+    let first = p .first in
+    let between = p .between in
+    let gap₂ = p .gap₂ in
+    let other = p .alternative in
+    let y₃ : List ℕ = other ++ (62 ∷ 62 ∷ y) in
+    let y₂ : List ℕ = 60 ∷ (gap₂ ++ y₃) in
+    let y₁ : List ℕ = between ++ y₂ in
+    let s : List ℕ = 60 ∷ (gap ++ (first ++ y₁)) in
+    let whole : t ++ y ≡ s =
+    rw (p .made, append-assoc gap (first ++ (between ++ (60 ∷ (gap₂ ++ (other ++ (62 ∷ 62 ∷ [])))))) y,
+    append-assoc first (between ++ (60 ∷ (gap₂ ++ (other ++ (62 ∷ 62 ∷ []))))) y,
+    append-assoc between (60 ∷ (gap₂ ++ (other ++ (62 ∷ 62 ∷ [])))) y,
+    append-assoc gap₂ (other ++ (62 ∷ 62 ∷ [])) y, append-assoc other (62 ∷ 62 ∷ []) y) in
+    let a = suc (length gap) in
+    let n = length first in
+    let b = a + n in
+    let inner = b + length between in
+    let from = inner + 1 + length gap₂ in
+    let m = length other in
+    let end = from + m in
+    let d₁ : drop a s ≡ first ++ y₁ = drop-append-seam gap (first ++ y₁) in
+    let d₂ : drop b s ≡ between ++ y₂ = beyond s a first y₁ d₁ in
+    let d₃ : drop inner s ≡ y₂ = beyond s b between y₂ d₂ in
+    let d₄ : drop (inner + 1) s ≡ gap₂ ++ y₃ = sym (drop-drop 1 inner s) ∙ rw d₃ in
+    let d₅ : drop from s ≡ other ++ (62 ∷ 62 ∷ y) = beyond s (inner + 1) gap₂ y₃ d₄ in
+    let d₆ : drop end s ≡ 62 ∷ 62 ∷ y = beyond s from other (62 ∷ 62 ∷ y) d₅ in
+    let before : run blank (drop 1 s) ≡ length gap = gap-run gap (p .blanks) (p .first-is) y₁ in
+    let qs : a ≡ 1 + run blank (drop 1 s) = omega (arith, before) in
+    let qn : n ≡ addressLen (drop a s) = rw d₁ (sym (address-found (p .first-is) y₁ (apart-closed (stops-blanks (p .apart) y₂)))) in
+    let qi : inner ≡ b + run blank (drop b s) = rw (d₂, run-whole blank between y₂ (p .apart .blanks) bracket-no-blank) in
+    let qf : from ≡ inner + 1 + run blank (drop (inner + 1) s) = rw (d₄, gap-run gap₂ (p .blanks₂) (p .alternative-is) (62 ∷ 62 ∷ y)) in
+    let qm : m ≡ addressLen (drop from s) = rw d₅ (sym (address-found (p .alternative-is) (62 ∷ 62 ∷ y) (close-closed (62 ∷ y)))) in
+    let apart : getD s b 0 ≡ 62 → ⊥ = close-no-blank (getD s b 0) (rw (← front-byte s b, d₂) (blanks-first (p .apart) y₂)) in
+    let high : all isAscii (take (b - a) (drop a s)) ≡ false = (let w : b - a ≡ n = omega arith in rw (w, d₁, take-append-seam first y₁) (p .first-high)) in
+    let ascii : all isAscii (take (end - from) (drop from s)) ≡ true =
+    (let w : end - from ≡ m = omega arith in rw (w, d₅, take-append-seam other (62 ∷ 62 ∷ y)) (yes-true (all isAscii other) (p .alternative-ascii))) in
+    let opens : getD s inner 0 ≡ 60 = sym (front-byte s inner) ∙ rw d₃ in
+    let close : getD s end 0 ≡ 62 = sym (front-byte s end) ∙ rw d₆ in
+    let close₂ : getD s (end + 1) 0 ≡ 62 = sym (getD-drop end s 1 0) ∙ rw d₆ in
+    let gap-some : b < inner = omega (arith, some-length between (p .apart .some)) in
+    let size-is : end + 2 ≡ length t =
+    omega (arith, ap length (p .made), length-append gap (first ++ (between ++ (60 ∷ (gap₂ ++ (other ++ (62 ∷ 62 ∷ [])))))),
+    length-append first (between ++ (60 ∷ (gap₂ ++ (other ++ (62 ∷ 62 ∷ []))))), length-append between (60 ∷ (gap₂ ++ (other ++ (62 ∷ 62 ∷ [])))),
+    length-append gap₂ (other ++ (62 ∷ 62 ∷ [])), length-append other (62 ∷ 62 ∷ [])) in
+    rw whole
+    (record {
+      at = front (Alternative from m) (end + 2);
+      is = alternative-there s a b inner from m qi qf qm high gap-some opens (address-some (p .alternative-is)) close close₂ ascii
+          ∙ angled-more s a n qs qn (no-address (p .first-is)) apart ∙ bracket-part (gap ++ (first ++ y₁));
+      width = size-is;
+      some = omega (arith, size-is);
+      same = same-alternative from m start size
+    })
+
+part-found : (k : Kind) (t : List ℕ) (place : Place) (ps : List Part) → complete (after place k) ps ≡ true → IsPart k t → EachIsPart ps
+    → Found (t ++ joinedParts ps) k (length t)
+part-found Blank t place ps h p e = blank-found p (joinedParts ps)
+part-found Comma t place ps h p e = comma-found p (joinedParts ps)
+part-found Colon t place ps h p e = colon-found p (joinedParts ps)
+part-found Semicolon t place ps h p e = semicolon-found p (joinedParts ps)
+part-found Phrase t place ps h p e = phrase-part p (joinedParts ps) (phrase-rest place ps h e)
+part-found Address t place ps h p e = bare-found p (joinedParts ps) (address-rest place ps h e)
+part-found (Angled start size) t place ps h p e = angled-found p (joinedParts ps)
+part-found (Alternative start size) t place ps h p e = alternative-found p (joinedParts ps)
+part-found Stray t place ps h p e = unfit ps (rw (after-stray place) at h)
+
+-- ---- a list that the grammar makes fits
+
+joined-fits : (place : Place) (ps : List Part) → complete place ps ≡ true → EachIsPart ps → complete place (partsFrom 0 (joinedParts ps)) ≡ true
+unfolding complete
+joined-fits place [] h e = rw (parts-end [] 0 (omega arith)) h
+joined-fits place (p ∷ ps) h e =
+    let rest = joinedParts ps in
+    let s = p .text ++ rest in
+    let f = part-found (p .kind) (p .text) place ps h (e .0) (e .1) in
+    let some : 0 < f .at .size = omega (arith, f .some, f .width) in
+    let long : 0 < length s = omega (arith, f .some, length-append (p .text) rest) in
+    let past : drop (f .at .size) s ≡ rest = drop-at (p .text) rest (f .at .size) (sym (f .width)) in
+    let parts : partsFrom 0 s ≡ partIn (f .at) s ∷ partsFrom 0 rest = rw past at (parts-front (f .at) s (f .is) some long) in
+    ap (complete place) parts ∙ ap (λ (q : Place). complete q (partsFrom 0 rest)) (f .same place) ∙ joined-fits (after place (p .kind)) ps h (e .1)
+
+-- such a list fits
+pub listed-fits : (text : List ℕ) → AddressList text → fits text ≡ true
+unfolding fits partsOf
+listed-fits text l = rw (l .joined) at (joined-fits ItemDue (l .parts) (made-complete (l .parts) (l .kinds)) (l .each))
