@@ -3,3 +3,4 @@ pub mod GrammarLaws
 pub mod PartGrammarLaws
 pub mod FoundLaws
 pub mod FittingLaws
+pub mod ListCases
