@@ -22,16 +22,18 @@ use Rattle.address_list.specs.Words.{addressLen}
 use Rattle.address_list.specs.Parts.{Part, front, angledAt, alternativeAt, namedAt, partAt, partsFrom, partsOf}
 use Rattle.address_list.specs.PartsLaws.{partIn, parts-front, parts-end, named-address, named-phrase, angled-there, angled-more, alternative-there}
 use Rattle.address_list.specs.Grammar.{Items, kindsOf}
-use Rattle.address_list.specs.Table.{after, complete, fits}
+use Rattle.address_list.specs.Table.{after, complete, fits, examined}
 use Rattle.address_list.specs.TableLaws.{complete-unfit}
 use Rattle.address_list.specs.declared.Kind.{Kind}
 use Rattle.address_list.specs.declared.Kind.the-variants.{Blank, Comma, Colon, Semicolon, Phrase, Address, Angled, Alternative, Stray}
 use Rattle.address_list.specs.declared.Place.{Place}
 use Rattle.address_list.specs.declared.Place.the-variants.{ItemDue, ItemNamed, ItemDone, GroupOpen, MemberDue, MemberNamed, MemberDone, Unfit}
 use Rattle.address_list.specs.declared.Front.{Front}
+use Rattle.address_list.specs.declared.Examined.{Examined}
+use Rattle.address_list.specs.declared.Examined.the-variants.{DoesNotFit}
 use Rattle.address_grammar.specs.PartGrammar.{WordText, AddressText, Blanks, SomeBlanks, PhraseText, AngledText, AlternativeText, OneByte, IsPart, EachIsPart, joinedParts, AddressList}
 use Rattle.address_grammar.specs.PartGrammarLaws.{parts-made, parts-joined}
-use Rattle.address_grammar.specs.GrammarLaws.{false-true, fits-made, made-complete}
+use Rattle.address_grammar.specs.GrammarLaws.{false-true, fits-made, made-complete, examined-unfit, unfit-examined}
 use Rattle.address_grammar.specs.FoundLaws.{starting, Starts, starts, stopping, stops, stops-blanks, apart-closed, run-whole, Apart, AfterPhrase, phrase-starts, phrase-no-address, phrase-found, phrase-some, address-starts, address-some, address-found}
 
 -- a text that fits is such a list
@@ -274,7 +276,7 @@ angled-found {start} {size} {t} p y =
       is = angled-there s a n qs qz (no-address (p .is)) close ∙ bracket-part (gap ++ (address ++ (62 ∷ y)));
       width = size-is;
       some = omega (arith, size-is);
-      same = same-angled a n start size
+      same = same-angled a n start size;
     })
 
 beyond : (s : List ℕ) (i : ℕ) (x y : List ℕ) → drop i s ≡ x ++ y → drop (i + length x) s ≡ y
@@ -311,10 +313,14 @@ alternative-found {start} {size} {t} p y =
     let y₁ : List ℕ = between ++ y₂ in
     let s : List ℕ = 60 ∷ (gap ++ (first ++ y₁)) in
     let whole : t ++ y ≡ s =
-    rw (p .made, append-assoc gap (first ++ (between ++ (60 ∷ (gap₂ ++ (other ++ (62 ∷ 62 ∷ [])))))) y,
-    append-assoc first (between ++ (60 ∷ (gap₂ ++ (other ++ (62 ∷ 62 ∷ []))))) y,
-    append-assoc between (60 ∷ (gap₂ ++ (other ++ (62 ∷ 62 ∷ [])))) y,
-    append-assoc gap₂ (other ++ (62 ∷ 62 ∷ [])) y, append-assoc other (62 ∷ 62 ∷ []) y) in
+    rw (
+      p .made,
+      append-assoc gap (first ++ (between ++ (60 ∷ (gap₂ ++ (other ++ (62 ∷ 62 ∷ [])))))) y,
+      append-assoc first (between ++ (60 ∷ (gap₂ ++ (other ++ (62 ∷ 62 ∷ []))))) y,
+      append-assoc between (60 ∷ (gap₂ ++ (other ++ (62 ∷ 62 ∷ [])))) y,
+      append-assoc gap₂ (other ++ (62 ∷ 62 ∷ [])) y,
+      append-assoc other (62 ∷ 62 ∷ []) y,
+    ) in
     let a = suc (length gap) in
     let n = length first in
     let b = a + n in
@@ -343,9 +349,15 @@ alternative-found {start} {size} {t} p y =
     let close₂ : getD s (end + 1) 0 ≡ 62 = sym (getD-drop end s 1 0) ∙ rw d₆ in
     let gap-some : b < inner = omega (arith, some-length between (p .apart .some)) in
     let size-is : end + 2 ≡ length t =
-    omega (arith, ap length (p .made), length-append gap (first ++ (between ++ (60 ∷ (gap₂ ++ (other ++ (62 ∷ 62 ∷ [])))))),
-    length-append first (between ++ (60 ∷ (gap₂ ++ (other ++ (62 ∷ 62 ∷ []))))), length-append between (60 ∷ (gap₂ ++ (other ++ (62 ∷ 62 ∷ [])))),
-    length-append gap₂ (other ++ (62 ∷ 62 ∷ [])), length-append other (62 ∷ 62 ∷ [])) in
+    omega (
+      arith,
+      ap length (p .made),
+      length-append gap (first ++ (between ++ (60 ∷ (gap₂ ++ (other ++ (62 ∷ 62 ∷ [])))))),
+      length-append first (between ++ (60 ∷ (gap₂ ++ (other ++ (62 ∷ 62 ∷ []))))),
+      length-append between (60 ∷ (gap₂ ++ (other ++ (62 ∷ 62 ∷ [])))),
+      length-append gap₂ (other ++ (62 ∷ 62 ∷ [])),
+      length-append other (62 ∷ 62 ∷ []),
+    ) in
     rw whole
     (record {
       at = front (Alternative from m) (end + 2);
@@ -353,7 +365,7 @@ alternative-found {start} {size} {t} p y =
           ∙ angled-more s a n qs qn (no-address (p .first-is)) apart ∙ bracket-part (gap ++ (first ++ y₁));
       width = size-is;
       some = omega (arith, size-is);
-      same = same-alternative from m start size
+      same = same-alternative from m start size;
     })
 
 part-found : (k : Kind) (t : List ℕ) (place : Place) (ps : List Part) → complete (after place k) ps ≡ true → IsPart k t → EachIsPart ps
@@ -387,3 +399,14 @@ joined-fits place (p ∷ ps) h e =
 pub listed-fits : (text : List ℕ) → AddressList text → fits text ≡ true
 unfolding fits partsOf
 listed-fits text l = rw (l .joined) at (joined-fits ItemDue (l .parts) (made-complete (l .parts) (l .kinds)) (l .each))
+
+-- `DoesNotFit` is told exactly of the other texts
+pub unfit-text : (text : List ℕ) → examined text ≡ DoesNotFit → AddressList text → ⊥
+unfit-text text h l = false-true (sym (unfit-examined text h) ∙ listed-fits text l)
+
+pub text-unfit : (text : List ℕ) → (AddressList text → ⊥) → examined text ≡ DoesNotFit
+text-unfit text none = examined-unfit text (go (fits text) refl)
+  where
+    go : (b : Bool) → fits text ≡ b → fits text ≡ false
+    go true e = absurd (none (fitting-text text e))
+    go false e = e

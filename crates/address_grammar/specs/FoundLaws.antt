@@ -111,6 +111,7 @@ word-some {w} h = go (h .form)
     runs : (w : List ℕ) → T (nonempty w) → 0 < length w
     runs [] s = absurd s
     runs (b ∷ w) s = omega arith
+
     go : {w : List ℕ} → WordForm w → 0 < length w
     go (WordForm.string (QuotedString.quoted q)) = omega arith
     go (WordForm.run {w} s t) = runs w s
@@ -210,9 +211,10 @@ after-apart {rest} r = rw (r .made) (go (r .gap) (r .blanks))
 -- such a mark is no blank and starts no word
 mark-alone : (b : ℕ) (y : List ℕ) → T (eqb b 58 || eqb b 60) → (blank b ≡ false) × (wordLen (b ∷ y) ≡ 0)
 unfolding wordLen capped blank
-mark-alone b y t =
-    (rw (ne-eqb b 32 (λ e. rw e at t), ne-eqb b 9 (λ e. rw e at t)),
-    rw (ne-eqb b 34 (λ e. rw e at t), run-none isWordByte (b ∷ y) (stops b y (mark-stops b t) .word)))
+mark-alone b y t = (
+  rw (ne-eqb b 32 (λ e. rw e at t), ne-eqb b 9 (λ e. rw e at t)),
+  rw (ne-eqb b 34 (λ e. rw e at t), run-none isWordByte (b ∷ y) (stops b y (mark-stops b t) .word)),
+)
 
 no-next : {rest : List ℕ} → AfterPhrase rest → nextWordLen rest ≡ 0
 unfolding nextWordLen
@@ -226,8 +228,13 @@ no-more {rest} r = omega (arith, words-stop rest 0 0 (sym (no-next r)) refl)
 next-found : {w gap : List ℕ} → WordText w → SomeBlanks gap → (y : List ℕ) → Apart y → nextWordLen (gap ++ (w ++ y)) ≡ length gap + length w
 unfolding nextWordLen
 next-found {w} {gap} h g y a =
-    rw (run-whole blank gap (w ++ y) (g .blanks) (starts (getD (w ++ y) 0 0) (word-starts h y) .no-blank), drop-append-seam gap (w ++ y),
-    word-found h y a, lt-ltb 0 (length w) (word-some h), lt-ltb 0 (length gap) (blanks-some gap (g .some)))
+    rw (
+      run-whole blank gap (w ++ y) (g .blanks) (starts (getD (w ++ y) 0 0) (word-starts h y) .no-blank),
+      drop-append-seam gap (w ++ y),
+      word-found h y a,
+      lt-ltb 0 (length w) (word-some h),
+      lt-ltb 0 (length gap) (blanks-some gap (g .some)),
+    )
   where
     blanks-some : (gap : List ℕ) → T (nonempty gap) → 0 < length gap
     blanks-some [] s = absurd s

@@ -1,9 +1,11 @@
 -- A text fits exactly if the kinds of its parts are a comma list by the rules of Grammar.antt. Assumes nothing.
 use mathlib.Core.Path.{_≡_, refl, ap, sym, _∙_}
-use mathlib.Core.Bool.{Bool, true, false, cond}
+use mathlib.Core.Bool.{Bool, true, false, cond, _&&_, _||_}
 use mathlib.Core.List.{List, [], _∷_, _++_, append-assoc, append-nil}
 use Prim.Native.Nat.{ℕ}
 use native.Mathlib.Omega.{arith}
+use lib.Dec.{T}
+use mir.Facts.{and-yes, yes-and}
 use Rattle.address_list.specs.declared.Kind.{Kind}
 use Rattle.address_list.specs.declared.Kind.the-variants.{Blank, Comma, Colon, Semicolon, Phrase, Address, Angled, Alternative, Stray}
 use Rattle.address_list.specs.declared.Place.{Place}
@@ -231,6 +233,75 @@ made-complete ps e = complete-leads ItemDue ps ∙ items-lead e
 pub made-fits : (text : List ℕ) → Items (kindsOf (partsOf text)) → fits text ≡ true
 unfolding fits
 made-fits text e = made-complete (partsOf text) e
+
+-- ---- "runs of spaces and TABs allowed around `, : ; <`"
+
+-- such a mark, or `< >`, which starts with one
+abbrev pub isMark : Kind → Bool
+isMark Comma = true
+isMark Colon = true
+isMark Semicolon = true
+isMark Blank = false
+isMark Phrase = false
+isMark Address = false
+isMark (Angled start size) = false
+isMark (Alternative start size) = false
+isMark Stray = false
+
+abbrev pub opensWithMark : Kind → Bool
+opensWithMark (Angled start size) = true
+opensWithMark (Alternative start size) = true
+opensWithMark Comma = true
+opensWithMark Colon = true
+opensWithMark Semicolon = true
+opensWithMark Blank = false
+opensWithMark Phrase = false
+opensWithMark Address = false
+opensWithMark Stray = false
+
+-- a mark stands between any two parts: blanks between them stand around it
+abbrev pub markBetween : List Kind → Bool
+markBetween [] = true
+markBetween (k ∷ []) = true
+markBetween (k ∷ l ∷ ks) = (isMark k || opensWithMark l) && markBetween (l ∷ ks)
+
+mark-first : (k : Kind) (ks : List Kind) → T (isMark k) → T (markBetween ks) → T (markBetween (k ∷ ks))
+mark-first k [] m h = tt
+mark-first k (l ∷ ks) m h = yes-and (isMark k || opensWithMark l) (markBetween (l ∷ ks)) (or-left (isMark k) m) h
+  where
+    or-left : (a : Bool) → T a → T (a || opensWithMark l)
+    or-left true t = tt
+    or-left false t = absurd t
+
+mark-joins : (ks : List Kind) (k : Kind) (ls : List Kind) → T (isMark k) → T (opensWithMark k) → T (markBetween ks) → T (markBetween ls) → T (markBetween (ks ++ (k ∷ ls)))
+mark-joins [] k ls m o h g = mark-first k ls m g
+mark-joins (a ∷ []) k ls m o h g = yes-and (isMark a || opensWithMark k) (markBetween (k ∷ ls)) (or-right (isMark a) (opensWithMark k) o) (mark-first k ls m g)
+  where
+    or-right : (a b : Bool) → T b → T (a || b)
+    or-right true b t = tt
+    or-right false b t = t
+mark-joins (a ∷ b ∷ ks) k ls m o h g =
+    let both = and-yes (isMark a || opensWithMark b) (markBetween (b ∷ ks)) h in
+    yes-and (isMark a || opensWithMark b) (markBetween (b ∷ (ks ++ (k ∷ ls)))) (both .0) (mark-joins (b ∷ ks) k ls m o (both .1) g)
+
+mailbox-marked : {m : List Kind} → Mailbox m → T (markBetween m)
+mailbox-marked Mailbox.bare = tt
+mailbox-marked (Mailbox.angled a) = tt
+mailbox-marked (Mailbox.named (InAngles.address start size)) = tt
+mailbox-marked (Mailbox.named (InAngles.alternative start size)) = tt
+
+mailboxes-marked : {ms : List Kind} → Mailboxes ms → T (markBetween ms)
+mailboxes-marked (Mailboxes.one a) = mailbox-marked a
+mailboxes-marked (Mailboxes.then {ms} {m} a b) = mark-joins ms Comma m tt tt (mailboxes-marked a) (mailbox-marked b)
+
+item-marked : {i : List Kind} → Item i → T (markBetween i)
+item-marked (Item.mailbox a) = mailbox-marked a
+item-marked Item.emptyGroup = tt
+item-marked (Item.group {ms} a) = mark-first Colon (ms ++ (Semicolon ∷ [])) tt (mark-joins ms Semicolon [] tt tt (mailboxes-marked a) tt)
+
+pub items-marked : {ks : List Kind} → Items ks → T (markBetween ks)
+items-marked (Items.one a) = item-marked a
+items-marked (Items.then {i} {is} a b) = mark-joins i Comma is tt tt (item-marked a) (items-marked b)
 
 -- ---- what is told of a text
 

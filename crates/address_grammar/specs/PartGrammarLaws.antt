@@ -95,7 +95,7 @@ next-word-made s =
       word = take word (drop gap s);
       made = take-add gap word s;
       blanks = record { some = run-some blank s (ltb-yes (both .0)); blanks = run-all blank s };
-      is = word-made (drop gap s) (ltb-yes (both .1))
+      is = word-made (drop gap s) (ltb-yes (both .1));
     })
     (λ t p. none-some p)
 
@@ -126,7 +126,7 @@ words-made zero (b ∷ s) =
     record {
       rest = next .gap ++ (next .word ++ i .rest);
       made = ap (λ (l : List ℕ). b ∷ l) (i .made) ∙ ap (λ (l : List ℕ). l ++ i .rest) words ∙ append-assoc (next .gap) (next .word) (i .rest);
-      phrase = λ w h. PhraseText.then h (next .blanks) (i .phrase (next .word) (next .is))
+      phrase = λ w h. PhraseText.then h (next .blanks) (i .phrase (next .word) (next .is));
     })
     (λ t. record { rest = []; made = refl; phrase = ends })
 
@@ -183,8 +183,8 @@ module _ (s : List ℕ) (r n a b : ℕ) (qa : a ≡ 1 + r) (qb : b ≡ a + n) (o
           made = rw (total, byte-chunk s 0 59 (r + (n + 1)) opens, chunk s 1 r (n + 1), ← qa, chunk s a n 1, ← qb, byte-chunk s b 61 0 close);
           blanks = blanks;
           is = address;
-          told = part-in a n (b + 1) s (omega arith)
-        }
+          told = part-in a n (b + 1) s (omega arith);
+        };
       }
 
   -- blanks, `<`, blanks up to start, an address up to end, and `>>`
@@ -203,10 +203,23 @@ module _ (s : List ℕ) (r n a b : ℕ) (qa : a ≡ 1 + r) (qb : b ≡ a + n) (o
             gap₂ = take m (drop (inner + 1) s);
             alternative = take size (drop start s);
             made =
-                rw (total, byte-chunk s 0 59 (r + (n + (k + suc (m + (size + 2))))) opens, chunk s 1 r (n + (k + suc (m + (size + 2)))), ← qa,
-                chunk s a n (k + suc (m + (size + 2))), ← qb, chunk s b k (suc (m + (size + 2))), ← qi,
-                byte-chunk s inner 59 (m + (size + 2)) opens₂, chunk s (inner + 1) m (size + 2), ← qs,
-                chunk s start size 2, ← qe, byte-chunk s end 61 1 close, byte-chunk s (end + 1) 61 0 close₂);
+                rw (
+                  total,
+                  byte-chunk s 0 59 (r + (n + (k + suc (m + (size + 2))))) opens,
+                  chunk s 1 r (n + (k + suc (m + (size + 2)))),
+                  ← qa,
+                  chunk s a n (k + suc (m + (size + 2))),
+                  ← qb,
+                  chunk s b k (suc (m + (size + 2))),
+                  ← qi,
+                  byte-chunk s inner 59 (m + (size + 2)) opens₂,
+                  chunk s (inner + 1) m (size + 2),
+                  ← qs,
+                  chunk s start size 2,
+                  ← qe,
+                  byte-chunk s end 61 1 close,
+                  byte-chunk s (end + 1) 61 0 close₂,
+                );
             blanks = blanks;
             first-is = address;
             first-high = high;
@@ -214,8 +227,8 @@ module _ (s : List ℕ) (r n a b : ℕ) (qa : a ≡ 1 + r) (qb : b ≡ a + n) (o
             blanks₂ = blanks₂;
             alternative-is = other;
             alternative-ascii = ascii;
-            told = part-in start size (end + 2) s (omega arith)
-          }
+            told = part-in start size (end + 2) s (omega arith);
+          };
         }
 
 -- the tests of an alternative
