@@ -12,7 +12,7 @@ use lib.ListN.{length, take, drop, getD, length-append}
 use lib.Seq.{drop-append-seam, drop-drop, drop-at, getD-drop, getD-append-seam, take-append-seam}
 use mir.Facts.{and-yes, yes-and}
 use Rattle.utf8.specs.Byte.{isAscii}
-use Rattle.utf8.specs.Lists.{yes-true, all, nonempty}
+use Rattle.utf8.specs.Lists.{yes-true, no-false, all, nonempty}
 use Rattle.utf8.specs.Run.{run}
 use Rattle.header.specs.Lines.{blank}
 use Rattle.address.specs.Address.{isAtext, isAtomByte}
@@ -341,7 +341,7 @@ alternative-found {start} {size} {t} p y =
     let qf : from ≡ inner + 1 + run blank (drop (inner + 1) s) = rw (d₄, gap-run gap₂ (p .blanks₂) (p .alternative-is) (62 ∷ 62 ∷ y)) in
     let qm : m ≡ addressLen (drop from s) = rw d₅ (sym (address-found (p .alternative-is) (62 ∷ 62 ∷ y) (close-closed (62 ∷ y)))) in
     let apart : getD s b 0 ≡ 62 → ⊥ = close-no-blank (getD s b 0) (rw (← front-byte s b, d₂) (blanks-first (p .apart) y₂)) in
-    let high : all isAscii (take (b - a) (drop a s)) ≡ false = (let w : b - a ≡ n = omega arith in rw (w, d₁, take-append-seam first y₁) (p .first-high)) in
+    let high : all isAscii (take (b - a) (drop a s)) ≡ false = (let w : b - a ≡ n = omega arith in rw (w, d₁, take-append-seam first y₁) (no-false (all isAscii first) (p .first-high))) in
     let ascii : all isAscii (take (end - from) (drop from s)) ≡ true =
     (let w : end - from ≡ m = omega arith in rw (w, d₅, take-append-seam other (62 ∷ 62 ∷ y)) (yes-true (all isAscii other) (p .alternative-ascii))) in
     let opens : getD s inner 0 ≡ 60 = sym (front-byte s inner) ∙ rw d₃ in

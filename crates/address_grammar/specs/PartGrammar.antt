@@ -1,7 +1,7 @@
 -- What the bytes of each part of an address field's text are, in the paper's words, as rules that make texts. FittingLaws.antt
 -- proves that a text fits exactly if it is made so. Assumes nothing.
 use mathlib.Core.Path.{_≡_}
-use mathlib.Core.Bool.{false}
+use mathlib.Core.Bool.{not}
 use mathlib.Core.List.{List, [], _∷_, _++_}
 use Prim.Native.Nat.{ℕ, _≤_}
 use lib.Dec.{T}
@@ -64,7 +64,7 @@ pub record AlternativeText (start size : ℕ) (text : List ℕ) : Type 0 where
   pub made : text ≡ 60 ∷ (gap ++ (first ++ (between ++ (60 ∷ (gap₂ ++ (alternative ++ (62 ∷ 62 ∷ [])))))))
   pub blanks : Blanks gap
   pub first-is : AddressText first
-  pub first-high : all isAscii first ≡ false
+  pub first-high : T (not (all isAscii first))
   pub apart : SomeBlanks between
   pub blanks₂ : Blanks gap₂
   pub alternative-is : AddressText alternative

@@ -189,7 +189,7 @@ module _ (s : List ℕ) (r n a b : ℕ) (qa : a ≡ 1 + r) (qb : b ≡ a + n) (o
 
   -- blanks, `<`, blanks up to start, an address up to end, and `>>`
   module _ (k inner m start size end : ℕ) (qi : inner ≡ b + k) (qs : start ≡ inner + 1 + m) (qe : end ≡ start + size) where
-    alternative-there : all isAscii (take n (drop a s)) ≡ false → SomeBlanks (take k (drop b s)) → getD s inner 0 ≡ 60
+    alternative-there : T (not (all isAscii (take n (drop a s)))) → SomeBlanks (take k (drop b s)) → getD s inner 0 ≡ 60
         → T (all blank (take m (drop (inner + 1) s))) → AddressText (take size (drop start s)) → T (all isAscii (take size (drop start s)))
         → getD s end 0 ≡ 62 → getD s (end + 1) 0 ≡ 62 → Made s (front (Alternative start size) (end + 2))
     alternative-there high apart opens₂ blanks₂ other ascii close close₂ =
@@ -270,7 +270,7 @@ alternative-made s r n a qa opens blanks address =
     let y = seven (ltb b inner) high (eqb (getD s inner 0) 60) (ltb 0 size) (eqb (getD s end 0) 62) (eqb (getD s (end + 1) 0) 62) ascii t in
     let gap : b < inner = ltb-yes (y .gap) in
     alternative-there s r n a b qa refl opens blanks address k inner m start size end refl refl refl
-    (rw width at (no-false (all isAscii (take (b - a) (drop a s))) (y .high)))
+    (rw width at (y .high))
     (record { some = run-some blank (drop b s) (omega (arith, gap)); blanks = run-all blank (drop b s) })
     (eqb→eq _ 60 (y .opens)) (run-all blank (drop (inner + 1) s)) (address-made (drop start s) (ltb-yes (y .some)))
     (y .ascii) (eqb→eq _ 62 (y .close)) (eqb→eq _ 62 (y .close₂)))
