@@ -33,7 +33,7 @@ use Rattle.address_list.specs.declared.Examined.{Examined}
 use Rattle.address_list.specs.declared.Examined.the-variants.{DoesNotFit}
 use Rattle.address_grammar.specs.PartGrammar.{WordText, AddressText, Blanks, SomeBlanks, PhraseText, AngledText, AlternativeText, OneByte, IsPart, EachIsPart, joinedParts, AddressList}
 use Rattle.address_grammar.specs.PartGrammarLaws.{parts-made, parts-joined}
-use Rattle.address_grammar.specs.GrammarLaws.{false-true, fits-made, made-complete, examined-unfit, unfit-examined}
+use Rattle.address_grammar.specs.GrammarLaws.{false-true, fits-made, made-complete, made-fits, examined-unfit, unfit-examined}
 use Rattle.address_grammar.specs.FoundLaws.{starting, Starts, starts, stopping, stops, stops-blanks, apart-closed, run-whole, Apart, AfterPhrase, phrase-starts, phrase-no-address, phrase-found, phrase-some, address-starts, address-some, address-found}
 
 -- a text that fits is such a list
@@ -178,40 +178,14 @@ after-stray MemberNamed = refl
 after-stray MemberDone = refl
 after-stray Unfit = refl
 
--- where an address stands in its part does not matter
-same-angled : (a n b m : ℕ) (place : Place) → after place (Angled a n) ≡ after place (Angled b m)
-unfolding after
-same-angled a n b m ItemDue = refl
-same-angled a n b m ItemNamed = refl
-same-angled a n b m ItemDone = refl
-same-angled a n b m GroupOpen = refl
-same-angled a n b m MemberDue = refl
-same-angled a n b m MemberNamed = refl
-same-angled a n b m MemberDone = refl
-same-angled a n b m Unfit = refl
-
-same-alternative : (a n b m : ℕ) (place : Place) → after place (Alternative a n) ≡ after place (Alternative b m)
-unfolding after
-same-alternative a n b m ItemDue = refl
-same-alternative a n b m ItemNamed = refl
-same-alternative a n b m ItemDone = refl
-same-alternative a n b m GroupOpen = refl
-same-alternative a n b m MemberDue = refl
-same-alternative a n b m MemberNamed = refl
-same-alternative a n b m MemberDone = refl
-same-alternative a n b m Unfit = refl
-
 -- ---- a part that the grammar makes is found
 
 record Found (s : List ℕ) (kind : Kind) (size : ℕ) : Type 0 where
-  at : Front
-  is : at ≡ partAt s
-  width : at .size ≡ size
+  is : front kind size ≡ partAt s
   some : 0 < size
-  same : (place : Place) → after place (at .kind) ≡ after place kind
 
 whole-found : {s : List ℕ} (k : Kind) (n : ℕ) → front k n ≡ partAt s → 0 < n → Found s k n
-whole-found k n e p = record { at = front k n; is = e; width = refl; some = p; same = λ place. refl }
+whole-found k n e p = record { is = e; some = p }
 
 blank-found : {t : List ℕ} → IsPart Blank t → (y : List ℕ) → Found (t ++ y) Blank (length t)
 unfolding partAt
@@ -270,14 +244,9 @@ angled-found {start} {size} {t} p y =
     let qz : n ≡ addressLen (drop a s) = rw from (sym (address-found (p .is) (62 ∷ y) (close-closed y))) in
     let close : getD s (a + n) 0 ≡ 62 = sym (getD-drop a s n 0) ∙ rw from (getD-append-seam address 62 y 0) in
     let size-is : a + n + 1 ≡ length t = omega (arith, ap length (p .made), length-append gap (address ++ (62 ∷ [])), length-append address (62 ∷ [])) in
-    rw whole
-    (record {
-      at = front (Angled a n) (a + n + 1);
-      is = angled-there s a n qs qz (no-address (p .is)) close ∙ bracket-part (gap ++ (address ++ (62 ∷ y)));
-      width = size-is;
-      some = omega (arith, size-is);
-      same = same-angled a n start size;
-    })
+    let start-is : start ≡ a = omega (arith, p .start-is) in
+    rw (whole, start-is, p .size-is, ← size-is)
+    (whole-found (Angled a n) (a + n + 1) (angled-there s a n qs qz (no-address (p .is)) close ∙ bracket-part (gap ++ (address ++ (62 ∷ y)))) (omega arith))
 
 beyond : (s : List ℕ) (i : ℕ) (x y : List ℕ) → drop i s ≡ x ++ y → drop (i + length x) s ≡ y
 beyond s i x y e = sym (drop-drop (length x) i s) ∙ rw e (drop-append-seam x y)
@@ -358,15 +327,12 @@ alternative-found {start} {size} {t} p y =
       length-append gap₂ (other ++ (62 ∷ 62 ∷ [])),
       length-append other (62 ∷ 62 ∷ []),
     ) in
-    rw whole
-    (record {
-      at = front (Alternative from m) (end + 2);
-      is = alternative-there s a b inner from m qi qf qm high gap-some opens (address-some (p .alternative-is)) close close₂ ascii
-          ∙ angled-more s a n qs qn (no-address (p .first-is)) apart ∙ bracket-part (gap ++ (first ++ y₁));
-      width = size-is;
-      some = omega (arith, size-is);
-      same = same-alternative from m start size;
-    })
+    let start-is : start ≡ from = omega (arith, p .start-is) in
+    rw (whole, start-is, p .size-is, ← size-is)
+    (whole-found (Alternative from m) (end + 2)
+    (alternative-there s a b inner from m qi qf qm high gap-some opens (address-some (p .alternative-is)) close close₂ ascii
+    ∙ angled-more s a n qs qn (no-address (p .first-is)) apart ∙ bracket-part (gap ++ (first ++ y₁)))
+    (omega arith))
 
 part-found : (k : Kind) (t : List ℕ) (place : Place) (ps : List Part) → complete (after place k) ps ≡ true → IsPart k t → EachIsPart ps
     → Found (t ++ joinedParts ps) k (length t)
@@ -382,23 +348,27 @@ part-found Stray t place ps h p e = unfit ps (rw (after-stray place) at h)
 
 -- ---- a list that the grammar makes fits
 
-joined-fits : (place : Place) (ps : List Part) → complete place ps ≡ true → EachIsPart ps → complete place (partsFrom 0 (joinedParts ps)) ≡ true
+joined-parts : (place : Place) (ps : List Part) → complete place ps ≡ true → EachIsPart ps → partsFrom 0 (joinedParts ps) ≡ ps
 unfolding complete
-joined-fits place [] h e = rw (parts-end [] 0 (omega arith)) h
-joined-fits place (p ∷ ps) h e =
+joined-parts place [] h e = parts-end [] 0 (omega arith)
+joined-parts place (p ∷ ps) h e =
+    let text = p .text in
     let rest = joinedParts ps in
-    let s = p .text ++ rest in
-    let f = part-found (p .kind) (p .text) place ps h (e .0) (e .1) in
-    let some : 0 < f .at .size = omega (arith, f .some, f .width) in
-    let long : 0 < length s = omega (arith, f .some, length-append (p .text) rest) in
-    let past : drop (f .at .size) s ≡ rest = drop-at (p .text) rest (f .at .size) (sym (f .width)) in
-    let parts : partsFrom 0 s ≡ partIn (f .at) s ∷ partsFrom 0 rest = rw past at (parts-front (f .at) s (f .is) some long) in
-    ap (complete place) parts ∙ ap (λ (q : Place). complete q (partsFrom 0 rest)) (f .same place) ∙ joined-fits (after place (p .kind)) ps h (e .1)
+    let s = text ++ rest in
+    let n = length text in
+    let f = part-found (p .kind) text place ps h (e .0) (e .1) in
+    let long : 0 < length s = omega (arith, f .some, length-append text rest) in
+    parts-front (front (p .kind) n) s (f .is) (f .some) long
+    ∙ rw (take-append-seam text rest, drop-append-seam text rest, joined-parts (after place (p .kind)) ps h (e .1))
+
+-- a text is such a list in one way only
+pub one-reading : (text : List ℕ) (l : AddressList text) → partsOf text ≡ l .parts
+unfolding partsOf
+one-reading text l = rw (l .joined) at (joined-parts ItemDue (l .parts) (made-complete (l .parts) (l .kinds)) (l .each))
 
 -- such a list fits
 pub listed-fits : (text : List ℕ) → AddressList text → fits text ≡ true
-unfolding fits partsOf
-listed-fits text l = rw (l .joined) at (joined-fits ItemDue (l .parts) (made-complete (l .parts) (l .kinds)) (l .each))
+listed-fits text l = made-fits text (rw (one-reading text l) (l .kinds))
 
 -- `DoesNotFit` is told exactly of the other texts
 pub unfit-text : (text : List ℕ) → examined text ≡ DoesNotFit → AddressList text → ⊥

@@ -3,9 +3,9 @@
 use mathlib.Core.Path.{_≡_}
 use mathlib.Core.Bool.{not}
 use mathlib.Core.List.{List, [], _∷_, _++_}
-use Prim.Native.Nat.{ℕ, _≤_}
+use Prim.Native.Nat.{ℕ, _+_, _≤_}
 use lib.Dec.{T}
-use lib.ListN.{length, take, drop}
+use lib.ListN.{length}
 use Rattle.utf8.specs.Lists.{all, nonempty}
 use Rattle.utf8.specs.Byte.{isAscii}
 use Rattle.header.specs.Lines.{blank}
@@ -51,7 +51,8 @@ pub record AngledText (start size : ℕ) (text : List ℕ) : Type 0 where
   pub made : text ≡ 60 ∷ (gap ++ (address ++ (62 ∷ [])))
   pub blanks : Blanks gap
   pub is : AddressText address
-  pub told : take size (drop start text) ≡ address
+  pub start-is : start ≡ 1 + length gap
+  pub size-is : size ≡ length address
 
 -- "with an alternative `<address <ASCII address>>`, the first non-ASCII, at least one space or TAB between". The kind tells where
 -- the alternative is.
@@ -69,7 +70,8 @@ pub record AlternativeText (start size : ℕ) (text : List ℕ) : Type 0 where
   pub blanks₂ : Blanks gap₂
   pub alternative-is : AddressText alternative
   pub alternative-ascii : T (all isAscii alternative)
-  pub told : take size (drop start text) ≡ alternative
+  pub start-is : start ≡ 1 + length gap + length first + length between + 1 + length gap₂
+  pub size-is : size ≡ length alternative
 
 -- a text of one byte that passes a test
 pub record OneByte (f : ℕ → Type 0) (text : List ℕ) : Type 0 where

@@ -7,8 +7,8 @@ use native.Mathlib.Nat.{not-suc-le-zero}
 use native.Mathlib.Numerals.{add-one}
 use native.Mathlib.Omega.{arith}
 use lib.Dec.{T, ltb, leb, eqb, eqb→eq}
-use lib.ListN.{length, take, drop, getD, length-take, length-drop, take-append-drop}
-use lib.Seq.{drop-cons, drop-drop, take-add, take-nil, take-take}
+use lib.ListN.{length, take, drop, getD, length-append, length-drop, take-append-drop}
+use lib.Seq.{drop-cons, drop-drop, drop-append-seam, drop-at, take-add, take-nil, take-append-seam, length-take-le}
 use mir.Facts.{and-yes, ltb-yes, ltb-no, leb-yes, eqb-no}
 use Rattle.utf8.specs.Byte.{isAscii}
 use Rattle.utf8.specs.Lists.{cond-has, by-test, yes-true, no-false, all, nonempty}
@@ -148,12 +148,29 @@ chunk s i n m = take-add n m (drop i s) ∙ rw (drop-drop n i s)
 byte-chunk : (s : List ℕ) (i b m : ℕ) → getD s i 0 ≡ suc b → take (suc m) (drop i s) ≡ suc b ∷ take m (drop (i + 1) s)
 byte-chunk s i b m e = rw (drop-cons s i 0 (byte-within s i b e), e, add-one)
 
--- a part of the front of a text is a part of the text
-part-in : (i n total : ℕ) (s : List ℕ) → i + n ≤ total → take n (drop i (take total s)) ≡ take n (drop i s)
-part-in zero n total s h = take-take n total s (omega arith)
-part-in (suc i) n zero s h = absurd (not-suc-le-zero {n = i + n} (omega arith))
-part-in (suc i) n (suc total) [] h = refl
-part-in (suc i) n (suc total) (b ∷ s) h = part-in i n total s (omega arith)
+chunk-length : (s : List ℕ) (i n : ℕ) → i + n ≤ length s → length (take n (drop i s)) ≡ n
+chunk-length s i n h = length-take-le n (drop i s) (rw length-drop (omega arith))
+
+-- ---- the address that a part names
+
+pub angled-told : {start size : ℕ} {t : List ℕ} (p : AngledText start size t) → take size (drop start t) ≡ p .address
+angled-told p =
+    let from : 1 + length (p .gap) ≡ suc (length (p .gap)) = omega arith in
+    rw (p .made, p .size-is, p .start-is, from, drop-append-seam (p .gap) (p .address ++ (62 ∷ [])), take-append-seam (p .address) (62 ∷ []))
+
+pub alternative-told : {start size : ℕ} {t : List ℕ} (p : AlternativeText start size t) → take size (drop start t) ≡ p .alternative
+alternative-told {start} {size} {t} p =
+    let gap = p .gap in
+    let first = p .first in
+    let between = p .between in
+    let gap₂ = p .gap₂ in
+    let last : List ℕ = p .alternative ++ (62 ∷ 62 ∷ []) in
+    let front : List ℕ = 60 ∷ (gap ++ (first ++ (between ++ (60 ∷ gap₂)))) in
+    let whole : t ≡ front ++ last =
+    p .made ∙ rw (append-assoc gap (first ++ (between ++ (60 ∷ gap₂))) last, append-assoc first (between ++ (60 ∷ gap₂)) last, append-assoc between (60 ∷ gap₂) last) in
+    let from : length front ≡ start =
+    omega (arith, p .start-is, length-append gap (first ++ (between ++ (60 ∷ gap₂))), length-append first (between ++ (60 ∷ gap₂)), length-append between (60 ∷ gap₂)) in
+    rw (whole, p .size-is, drop-at front last start from, take-append-seam (p .alternative) (62 ∷ 62 ∷ []))
 
 -- ---- the part at the front
 
@@ -175,6 +192,7 @@ module _ (s : List ℕ) (r n a b : ℕ) (qa : a ≡ 1 + r) (qb : b ≡ a + n) (o
   angled-there : getD s b 0 ≡ 62 → Made s (front (Angled a n) (b + 1))
   angled-there close =
       let total : b + 1 ≡ suc (r + (n + 1)) = omega arith in
+      let long : b < length s = byte-within s b 61 close in
       record {
         some = omega arith;
         is = record {
@@ -183,7 +201,8 @@ module _ (s : List ℕ) (r n a b : ℕ) (qa : a ≡ 1 + r) (qb : b ≡ a + n) (o
           made = rw (total, byte-chunk s 0 59 (r + (n + 1)) opens, chunk s 1 r (n + 1), ← qa, chunk s a n 1, ← qb, byte-chunk s b 61 0 close);
           blanks = blanks;
           is = address;
-          told = part-in a n (b + 1) s (omega arith);
+          start-is = omega (arith, chunk-length s 1 r (omega arith));
+          size-is = sym (chunk-length s a n (omega arith));
         };
       }
 
@@ -194,6 +213,7 @@ module _ (s : List ℕ) (r n a b : ℕ) (qa : a ≡ 1 + r) (qb : b ≡ a + n) (o
         → getD s end 0 ≡ 62 → getD s (end + 1) 0 ≡ 62 → Made s (front (Alternative start size) (end + 2))
     alternative-there high apart opens₂ blanks₂ other ascii close close₂ =
         let total : end + 2 ≡ suc (r + (n + (k + suc (m + (size + 2))))) = omega arith in
+        let long : end < length s = byte-within s end 61 close in
         record {
           some = omega arith;
           is = record {
@@ -227,7 +247,9 @@ module _ (s : List ℕ) (r n a b : ℕ) (qa : a ≡ 1 + r) (qb : b ≡ a + n) (o
             blanks₂ = blanks₂;
             alternative-is = other;
             alternative-ascii = ascii;
-            told = part-in start size (end + 2) s (omega arith);
+            start-is =
+                omega (arith, chunk-length s 1 r (omega arith), chunk-length s a n (omega arith), chunk-length s b k (omega arith), chunk-length s (inner + 1) m (omega arith));
+            size-is = sym (chunk-length s start size (omega arith));
           };
         }
 
