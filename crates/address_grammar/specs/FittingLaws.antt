@@ -1,15 +1,13 @@
 -- A text fits exactly if it is a comma list of mailboxes or groups, down to its bytes. Assumes nothing.
 use mathlib.Core.Path.{_≡_, refl, ap, sym, _∙_}
-use mathlib.Core.Bool.{Bool, true, false, cond, _||_}
+use mathlib.Core.Bool.{Bool, true, false, _||_}
 use mathlib.Core.List.{List, [], _∷_, _++_, append-assoc}
-use Prim.Native.Nat.{ℕ, zero, suc, _+_, _-_, _≤_, _<_}
+use Prim.Native.Nat.{ℕ, suc, _+_, _-_, _<_}
 use native.Mathlib.Nat.{not-suc-le-zero}
-use native.Mathlib.Numerals.{add-one}
 use native.Mathlib.Omega.{arith}
-use lib.Dec.{T, ltb, eqb}
-use borrow.Author.Tests.{ne-eqb}
+use lib.Dec.{T}
 use lib.ListN.{length, take, drop, getD, length-append}
-use lib.Seq.{drop-append-seam, drop-drop, drop-at, getD-drop, getD-append-seam, take-append-seam}
+use lib.Seq.{drop-append-seam, drop-drop, getD-drop, getD-append-seam, take-append-seam}
 use mir.Facts.{and-yes, yes-and}
 use Rattle.utf8.specs.Byte.{isAscii}
 use Rattle.utf8.specs.Lists.{yes-true, no-false, all, nonempty}
@@ -17,155 +15,76 @@ use Rattle.utf8.specs.Run.{run}
 use Rattle.header.specs.Lines.{blank}
 use Rattle.address.specs.Address.{isAtext, isAtomByte}
 use Rattle.address.specs.AddressLaws.{front-byte}
-use Rattle.address.specs.GrammarLaws.{Closed, nothing-closed}
+use Rattle.address.specs.GrammarLaws.{Closed}
 use Rattle.address_list.specs.Words.{addressLen}
-use Rattle.address_list.specs.Parts.{Part, front, angledAt, alternativeAt, namedAt, partAt, partsFrom, partsOf}
-use Rattle.address_list.specs.PartsLaws.{partIn, parts-front, parts-end, named-address, named-phrase, angled-there, angled-more, alternative-there}
-use Rattle.address_list.specs.Grammar.{Items, kindsOf}
+use Rattle.address_list.specs.Parts.{Part, front, angledAt, namedAt, partAt, partsFrom, partsOf}
+use Rattle.address_list.specs.PartsLaws.{parts-front, parts-end, named-address, named-phrase, angled-there, angled-more, alternative-there}
+use Rattle.address_list.specs.Grammar.{unlessBlank, kindsOf}
 use Rattle.address_list.specs.Table.{after, complete, fits, examined}
 use Rattle.address_list.specs.TableLaws.{complete-unfit}
 use Rattle.address_list.specs.declared.Kind.{Kind}
 use Rattle.address_list.specs.declared.Kind.the-variants.{Blank, Comma, Colon, Semicolon, Phrase, Address, Angled, Alternative, Stray}
 use Rattle.address_list.specs.declared.Place.{Place}
 use Rattle.address_list.specs.declared.Place.the-variants.{ItemDue, ItemNamed, ItemDone, GroupOpen, MemberDue, MemberNamed, MemberDone, Unfit}
-use Rattle.address_list.specs.declared.Front.{Front}
-use Rattle.address_list.specs.declared.Examined.{Examined}
 use Rattle.address_list.specs.declared.Examined.the-variants.{DoesNotFit}
-use Rattle.address_grammar.specs.PartGrammar.{WordText, AddressText, Blanks, SomeBlanks, PhraseText, AngledText, AlternativeText, OneByte, IsPart, EachIsPart, joinedParts, AddressList}
+use Rattle.address_grammar.specs.PartGrammar.{AddressText, Blanks, SomeBlanks, PhraseText, AngledText, AlternativeText, IsPart, EachIsPart, joinedParts, AddressList}
 use Rattle.address_grammar.specs.PartGrammarLaws.{parts-made, parts-joined}
-use Rattle.address_grammar.specs.GrammarLaws.{false-true, fits-made, made-complete, made-fits, examined-unfit, unfit-examined}
-use Rattle.address_grammar.specs.FoundLaws.{starting, Starts, starts, stopping, stops, stops-blanks, apart-closed, run-whole, Apart, AfterPhrase, phrase-starts, phrase-no-address, phrase-found, phrase-some, address-starts, address-some, address-found}
+use Rattle.address_grammar.specs.GrammarLaws.{false-true, isMark, opensWithMark, markBetween, items-marked, fits-made, made-complete, made-fits, examined-unfit, unfit-examined}
+use Rattle.address_grammar.specs.FoundLaws.{starting, starts, ending, Ended, ended-apart, stops-blanks, apart-closed, run-whole, phrase-starts, phrase-no-address, phrase-found, phrase-some, address-starts, address-some, address-found}
 
 -- a text that fits is such a list
 pub fitting-text : (text : List ℕ) → fits text ≡ true → AddressList text
 fitting-text text h = record { parts = partsOf text; kinds = fits-made text h; each = parts-made text; joined = parts-joined text }
 
--- ---- what follows a part, where the parts go on to a place where a text may end
+-- ---- what follows a phrase or a bare address
 
-unfit : {A : Type 0} (ps : List Part) → complete Unfit ps ≡ true → A
-unfit ps h = false-true (sym (complete-unfit ps) ∙ h)
-
-blank-apart : {t : List ℕ} → IsPart Blank t → (y : List ℕ) → Apart (t ++ y)
-unfolding stopping
-blank-apart {t} p y = rw (p .made) (stops (p .byte) y (rw (yes-true (blank (p .byte)) (p .is)) tt))
-
-mark-closed : (b : ℕ) (y : List ℕ) → isAtomByte b ≡ false → eqb b 46 ≡ false → Closed (b ∷ y)
-mark-closed b y a d = record { atom = a; dot = d }
-
-comma-closed : {t : List ℕ} → t ≡ 44 ∷ [] → (y : List ℕ) → Closed (t ++ y)
-unfolding isAtomByte isAtext
-comma-closed p y = rw p (mark-closed 44 y refl refl)
-
-semicolon-closed : {t : List ℕ} → t ≡ 59 ∷ [] → (y : List ℕ) → Closed (t ++ y)
-unfolding isAtomByte isAtext
-semicolon-closed p y = rw p (mark-closed 59 y refl refl)
-
-close-closed : (y : List ℕ) → Closed (62 ∷ y)
-unfolding isAtomByte isAtext
-close-closed y = mark-closed 62 y refl refl
-
-item-next : (k : Kind) (t : List ℕ) (ps : List Part) → complete (after ItemDone k) ps ≡ true → IsPart k t → Closed (t ++ joinedParts ps)
-unfolding after
-item-next Blank t ps h p = apart-closed (blank-apart p (joinedParts ps))
-item-next Comma t ps h p = comma-closed p (joinedParts ps)
-item-next Colon t ps h p = unfit ps h
-item-next Semicolon t ps h p = unfit ps h
-item-next Phrase t ps h p = unfit ps h
-item-next Address t ps h p = unfit ps h
-item-next (Angled start size) t ps h p = unfit ps h
-item-next (Alternative start size) t ps h p = unfit ps h
-item-next Stray t ps h p = unfit ps h
-
-member-next : (k : Kind) (t : List ℕ) (ps : List Part) → complete (after MemberDone k) ps ≡ true → IsPart k t → Closed (t ++ joinedParts ps)
-unfolding after
-member-next Blank t ps h p = apart-closed (blank-apart p (joinedParts ps))
-member-next Comma t ps h p = comma-closed p (joinedParts ps)
-member-next Colon t ps h p = unfit ps h
-member-next Semicolon t ps h p = semicolon-closed p (joinedParts ps)
-member-next Phrase t ps h p = unfit ps h
-member-next Address t ps h p = unfit ps h
-member-next (Angled start size) t ps h p = unfit ps h
-member-next (Alternative start size) t ps h p = unfit ps h
-member-next Stray t ps h p = unfit ps h
-
-item-rest : (ps : List Part) → complete ItemDone ps ≡ true → EachIsPart ps → Closed (joinedParts ps)
-unfolding complete
-item-rest [] h e = nothing-closed
-item-rest (p ∷ ps) h e = item-next (p .kind) (p .text) ps h (e .0)
-
-member-rest : (ps : List Part) → complete MemberDone ps ≡ true → EachIsPart ps → Closed (joinedParts ps)
-unfolding complete
-member-rest [] h e = nothing-closed
-member-rest (p ∷ ps) h e = member-next (p .kind) (p .text) ps h (e .0)
-
-address-rest : (place : Place) (ps : List Part) → complete (after place Address) ps ≡ true → EachIsPart ps → Closed (joinedParts ps)
-unfolding after
-address-rest ItemDue ps h e = item-rest ps h e
-address-rest ItemNamed ps h e = unfit ps h
-address-rest ItemDone ps h e = unfit ps h
-address-rest GroupOpen ps h e = member-rest ps h e
-address-rest MemberDue ps h e = member-rest ps h e
-address-rest MemberNamed ps h e = unfit ps h
-address-rest MemberDone ps h e = unfit ps h
-address-rest Unfit ps h e = unfit ps h
-
-after-blank : {t y : List ℕ} → IsPart Blank t → AfterPhrase y → AfterPhrase (t ++ y)
+after-blank : {t y : List ℕ} → IsPart Blank t → Ended y → Ended (t ++ y)
 after-blank {t} {y} p r = record {
   gap = p .byte ∷ r .gap;
-  byte = r .byte;
-  more = r .more;
+  tail = r .tail;
   made = rw (p .made, r .made);
   blanks = yes-and (blank (p .byte)) (all blank (r .gap)) (p .is) (r .blanks);
-  mark = r .mark;
+  ends = r .ends;
 }
 
-after-mark : {t : List ℕ} (b : ℕ) (more y : List ℕ) → T (eqb b 58 || eqb b 60) → t ≡ b ∷ more → AfterPhrase (t ++ y)
-after-mark b more y m e = record { gap = []; byte = b; more = more ++ y; made = rw e; blanks = tt; mark = m }
+after-mark : {t : List ℕ} (b : ℕ) (more y : List ℕ) → T (ending b) → t ≡ b ∷ more → Ended (t ++ y)
+after-mark {t} b more y m e = record { gap = []; tail = t ++ y; made = refl; blanks = tt; ends = rw e m }
 
-item-named-next : (k : Kind) (t : List ℕ) (ps : List Part) → complete (after ItemNamed k) ps ≡ true → IsPart k t → (complete ItemNamed ps ≡ true → AfterPhrase (joinedParts ps)) → AfterPhrase (t ++ joinedParts ps)
-unfolding after
-item-named-next Blank t ps h p more = after-blank p (more h)
-item-named-next Comma t ps h p more = unfit ps h
-item-named-next Colon t ps h p more = after-mark 58 [] (joinedParts ps) tt p
-item-named-next Semicolon t ps h p more = unfit ps h
-item-named-next Phrase t ps h p more = unfit ps h
-item-named-next Address t ps h p more = unfit ps h
-item-named-next (Angled start size) t ps h p more = after-mark 60 _ (joinedParts ps) tt (p .made)
-item-named-next (Alternative start size) t ps h p more = after-mark 60 _ (joinedParts ps) tt (p .made)
-item-named-next Stray t ps h p more = unfit ps h
+-- the next part that is not blank opens with a mark
+ended-next : (k l : Kind) (t : List ℕ) (ps : List Part) → isMark k ≡ false → T (markBetween (k ∷ unlessBlank l (kindsOf ps))) → IsPart l t
+    → (T (markBetween (k ∷ kindsOf ps)) → Ended (joinedParts ps)) → Ended (t ++ joinedParts ps)
+unfolding unlessBlank ending
+ended-next k Blank t ps n m p more = after-blank p (more m)
+ended-next k Comma t ps n m p more = after-mark 44 [] (joinedParts ps) tt p
+ended-next k Colon t ps n m p more = after-mark 58 [] (joinedParts ps) tt p
+ended-next k Semicolon t ps n m p more = after-mark 59 [] (joinedParts ps) tt p
+ended-next k (Angled start size) t ps n m p more = after-mark 60 _ (joinedParts ps) tt (p .made)
+ended-next k (Alternative start size) t ps n m p more = after-mark 60 _ (joinedParts ps) tt (p .made)
+ended-next k Phrase t ps n m p more = absurd (rw n at m)
+ended-next k Address t ps n m p more = absurd (rw n at m)
+ended-next k Stray t ps n m p more = absurd (rw n at m)
 
-item-named : (ps : List Part) → complete ItemNamed ps ≡ true → EachIsPart ps → AfterPhrase (joinedParts ps)
-unfolding complete
-item-named [] h e = false-true h
-item-named (p ∷ ps) h e = item-named-next (p .kind) (p .text) ps h (e .0) (λ k. item-named ps k (e .1))
+ended-rest : (k : Kind) (ps : List Part) → isMark k ≡ false → T (markBetween (k ∷ kindsOf ps)) → EachIsPart ps → Ended (joinedParts ps)
+unfolding kindsOf ending
+ended-rest k [] n m e = record { gap = []; tail = []; made = refl; blanks = tt; ends = tt }
+ended-rest k (p ∷ ps) n m e = ended-next k (p .kind) (p .text) ps n m (e .0) (λ h. ended-rest k ps n h (e .1))
 
-member-named-next : (k : Kind) (t : List ℕ) (ps : List Part) → complete (after MemberNamed k) ps ≡ true → IsPart k t → (complete MemberNamed ps ≡ true → AfterPhrase (joinedParts ps)) → AfterPhrase (t ++ joinedParts ps)
-unfolding after
-member-named-next Blank t ps h p more = after-blank p (more h)
-member-named-next Comma t ps h p more = unfit ps h
-member-named-next Colon t ps h p more = unfit ps h
-member-named-next Semicolon t ps h p more = unfit ps h
-member-named-next Phrase t ps h p more = unfit ps h
-member-named-next Address t ps h p more = unfit ps h
-member-named-next (Angled start size) t ps h p more = after-mark 60 _ (joinedParts ps) tt (p .made)
-member-named-next (Alternative start size) t ps h p more = after-mark 60 _ (joinedParts ps) tt (p .made)
-member-named-next Stray t ps h p more = unfit ps h
+-- between the parts after the first
+marked-more : (k : Kind) (ks : List Kind) → T (markBetween (k ∷ ks)) → T (markBetween ks)
+marked-more k [] m = tt
+marked-more k (l ∷ ks) m = and-yes (isMark k || opensWithMark l) (markBetween (l ∷ ks)) m .1
 
-member-named : (ps : List Part) → complete MemberNamed ps ≡ true → EachIsPart ps → AfterPhrase (joinedParts ps)
-unfolding complete
-member-named [] h e = false-true h
-member-named (p ∷ ps) h e = member-named-next (p .kind) (p .text) ps h (e .0) (λ k. member-named ps k (e .1))
-
-phrase-rest : (place : Place) (ps : List Part) → complete (after place Phrase) ps ≡ true → EachIsPart ps → AfterPhrase (joinedParts ps)
-unfolding after
-phrase-rest ItemDue ps h e = item-named ps h e
-phrase-rest ItemNamed ps h e = unfit ps h
-phrase-rest ItemDone ps h e = unfit ps h
-phrase-rest GroupOpen ps h e = member-named ps h e
-phrase-rest MemberDue ps h e = member-named ps h e
-phrase-rest MemberNamed ps h e = unfit ps h
-phrase-rest MemberDone ps h e = unfit ps h
-phrase-rest Unfit ps h e = unfit ps h
+marked-rest : (k : Kind) (ks : List Kind) → T (markBetween (unlessBlank k ks)) → T (markBetween ks)
+unfolding unlessBlank
+marked-rest Blank ks m = m
+marked-rest Comma ks m = marked-more Comma ks m
+marked-rest Colon ks m = marked-more Colon ks m
+marked-rest Semicolon ks m = marked-more Semicolon ks m
+marked-rest Phrase ks m = marked-more Phrase ks m
+marked-rest Address ks m = marked-more Address ks m
+marked-rest (Angled start size) ks m = marked-more (Angled start size) ks m
+marked-rest (Alternative start size) ks m = marked-more (Alternative start size) ks m
+marked-rest Stray ks m = marked-more Stray ks m
 
 after-stray : (place : Place) → after place Stray ≡ Unfit
 unfolding after
@@ -191,29 +110,20 @@ blank-found : {t : List ℕ} → IsPart Blank t → (y : List ℕ) → Found (t 
 unfolding partAt
 blank-found p y = rw (p .made) (whole-found Blank 1 (rw (yes-true (blank (p .byte)) (p .is))) (omega arith))
 
-comma-found : {t : List ℕ} → t ≡ 44 ∷ [] → (y : List ℕ) → Found (t ++ y) Comma (length t)
-unfolding partAt blank
-comma-found p y = rw p (whole-found Comma 1 refl (omega arith))
-
-colon-found : {t : List ℕ} → t ≡ 58 ∷ [] → (y : List ℕ) → Found (t ++ y) Colon (length t)
-unfolding partAt blank
-colon-found p y = rw p (whole-found Colon 1 refl (omega arith))
-
-semicolon-found : {t : List ℕ} → t ≡ 59 ∷ [] → (y : List ℕ) → Found (t ++ y) Semicolon (length t)
-unfolding partAt blank
-semicolon-found p y = rw p (whole-found Semicolon 1 refl (omega arith))
+mark-found : {t : List ℕ} (k : Kind) (b : ℕ) → t ≡ b ∷ [] → (y : List ℕ) → front k 1 ≡ partAt (b ∷ y) → Found (t ++ y) k (length t)
+mark-found k b p y e = rw p (whole-found k 1 e (omega arith))
 
 named-part : (s : List ℕ) → T (starting (getD s 0 0)) → namedAt s ≡ partAt s
 unfolding partAt
 named-part s t = let n = starts (getD s 0 0) t in rw (n .no-blank, n .no-comma, n .no-colon, n .no-semicolon, n .no-bracket)
 
-bare-found : {t : List ℕ} → AddressText t → (y : List ℕ) → Closed y → Found (t ++ y) Address (length t)
-bare-found {t} p y c =
+bare-found : {t : List ℕ} → AddressText t → (y : List ℕ) → Ended y → Found (t ++ y) Address (length t)
+bare-found {t} p y r =
     whole-found Address (length t)
-    (named-address (t ++ y) (length t) (sym (address-found p y c)) (λ z. not-suc-le-zero {n = 0} (omega (arith, address-some p))) ∙ named-part (t ++ y) (address-starts p y))
+    (named-address (t ++ y) (length t) (sym (address-found p y (apart-closed (ended-apart r)))) (λ z. not-suc-le-zero {n = 0} (omega (arith, address-some p))) ∙ named-part (t ++ y) (address-starts p y))
     (address-some p)
 
-phrase-part : {t : List ℕ} → PhraseText t → (y : List ℕ) → AfterPhrase y → Found (t ++ y) Phrase (length t)
+phrase-part : {t : List ℕ} → PhraseText t → (y : List ℕ) → Ended y → Found (t ++ y) Phrase (length t)
 phrase-part {t} p y r =
     whole-found Phrase (length t)
     (named-phrase (t ++ y) 0 (sym (phrase-no-address p y r)) refl (length t) (sym (phrase-found p y r)) (λ z. not-suc-le-zero {n = 0} (omega (arith, phrase-some p))) ∙ named-part (t ++ y) (phrase-starts p y r))
@@ -222,6 +132,10 @@ phrase-part {t} p y r =
 bracket-part : (y : List ℕ) → angledAt (60 ∷ y) ≡ partAt (60 ∷ y)
 unfolding partAt blank
 bracket-part y = refl
+
+close-closed : (y : List ℕ) → Closed (62 ∷ y)
+unfolding isAtomByte isAtext
+close-closed y = record { atom = refl; dot = refl }
 
 -- blanks before an address
 gap-run : (gap : List ℕ) {a : List ℕ} → Blanks gap → AddressText a → (y : List ℕ) → run blank (gap ++ (a ++ y)) ≡ length gap
@@ -334,37 +248,38 @@ alternative-found {start} {size} {t} p y =
     ∙ angled-more s a n qs qn (no-address (p .first-is)) apart ∙ bracket-part (gap ++ (first ++ y₁)))
     (omega arith))
 
-part-found : (k : Kind) (t : List ℕ) (place : Place) (ps : List Part) → complete (after place k) ps ≡ true → IsPart k t → EachIsPart ps
-    → Found (t ++ joinedParts ps) k (length t)
-part-found Blank t place ps h p e = blank-found p (joinedParts ps)
-part-found Comma t place ps h p e = comma-found p (joinedParts ps)
-part-found Colon t place ps h p e = colon-found p (joinedParts ps)
-part-found Semicolon t place ps h p e = semicolon-found p (joinedParts ps)
-part-found Phrase t place ps h p e = phrase-part p (joinedParts ps) (phrase-rest place ps h e)
-part-found Address t place ps h p e = bare-found p (joinedParts ps) (address-rest place ps h e)
-part-found (Angled start size) t place ps h p e = angled-found p (joinedParts ps)
-part-found (Alternative start size) t place ps h p e = alternative-found p (joinedParts ps)
-part-found Stray t place ps h p e = unfit ps (rw (after-stray place) at h)
+part-found : (k : Kind) (t : List ℕ) (place : Place) (ps : List Part) → complete (after place k) ps ≡ true → T (markBetween (unlessBlank k (kindsOf ps)))
+    → IsPart k t → EachIsPart ps → Found (t ++ joinedParts ps) k (length t)
+unfolding unlessBlank partAt blank
+part-found Blank t place ps h m p e = blank-found p (joinedParts ps)
+part-found Comma t place ps h m p e = mark-found Comma 44 p (joinedParts ps) refl
+part-found Colon t place ps h m p e = mark-found Colon 58 p (joinedParts ps) refl
+part-found Semicolon t place ps h m p e = mark-found Semicolon 59 p (joinedParts ps) refl
+part-found Phrase t place ps h m p e = phrase-part p (joinedParts ps) (ended-rest Phrase ps refl m e)
+part-found Address t place ps h m p e = bare-found p (joinedParts ps) (ended-rest Address ps refl m e)
+part-found (Angled start size) t place ps h m p e = angled-found p (joinedParts ps)
+part-found (Alternative start size) t place ps h m p e = alternative-found p (joinedParts ps)
+part-found Stray t place ps h m p e = false-true (sym (complete-unfit ps) ∙ (rw (after-stray place) at h))
 
 -- ---- a list that the grammar makes fits
 
-joined-parts : (place : Place) (ps : List Part) → complete place ps ≡ true → EachIsPart ps → partsFrom 0 (joinedParts ps) ≡ ps
-unfolding complete
-joined-parts place [] h e = parts-end [] 0 (omega arith)
-joined-parts place (p ∷ ps) h e =
+joined-parts : (place : Place) (ps : List Part) → complete place ps ≡ true → T (markBetween (kindsOf ps)) → EachIsPart ps → partsFrom 0 (joinedParts ps) ≡ ps
+unfolding complete kindsOf
+joined-parts place [] h m e = parts-end [] 0 (omega arith)
+joined-parts place (p ∷ ps) h m e =
     let text = p .text in
     let rest = joinedParts ps in
     let s = text ++ rest in
     let n = length text in
-    let f = part-found (p .kind) text place ps h (e .0) (e .1) in
+    let f = part-found (p .kind) text place ps h m (e .0) (e .1) in
     let long : 0 < length s = omega (arith, f .some, length-append text rest) in
-    parts-front (front (p .kind) n) s (f .is) (f .some) long
-    ∙ rw (take-append-seam text rest, drop-append-seam text rest, joined-parts (after place (p .kind)) ps h (e .1))
+    let more = joined-parts (after place (p .kind)) ps h (marked-rest (p .kind) (kindsOf ps) m) (e .1) in
+    parts-front (front (p .kind) n) s (f .is) (f .some) long ∙ rw (take-append-seam text rest, drop-append-seam text rest, more)
 
 -- a text is such a list in one way only
 pub one-reading : (text : List ℕ) (l : AddressList text) → partsOf text ≡ l .parts
 unfolding partsOf
-one-reading text l = rw (l .joined) at (joined-parts ItemDue (l .parts) (made-complete (l .parts) (l .kinds)) (l .each))
+one-reading text l = rw (l .joined) at (joined-parts ItemDue (l .parts) (made-complete (l .parts) (l .kinds)) (items-marked (l .kinds)) (l .each))
 
 -- such a list fits
 pub listed-fits : (text : List ℕ) → AddressList text → fits text ≡ true

@@ -1,22 +1,22 @@
 -- Words, phrases and addresses that the grammar makes are found in a text, where what follows does not go on with them. Assumes
 -- nothing.
-use mathlib.Core.Path.{_≡_, refl, ap, sym, _∙_}
-use mathlib.Core.Bool.{Bool, true, false, cond, not, _&&_, _||_, and-false}
+use mathlib.Core.Path.{_≡_, refl, sym, _∙_}
+use mathlib.Core.Bool.{Bool, true, false, not, _&&_, _||_, and-false}
 use mathlib.Core.List.{List, [], _∷_, _++_, append-assoc}
-use Prim.Native.Nat.{ℕ, zero, suc, _+_, _≤_, _<_}
+use Prim.Native.Nat.{ℕ, suc, _+_, _≤_, _<_}
 use native.Mathlib.Nat.{add-zero}
 use native.Mathlib.Omega.{arith}
-use lib.Dec.{T, ltb, leb, eqb, eqb→eq}
-use borrow.Author.Tests.{lt-ltb, eq-eqb, ne-eqb}
-use lib.ListN.{length, take, drop, getD, length-append}
+use lib.Dec.{T, eqb}
+use borrow.Author.Tests.{lt-ltb, ne-eqb}
+use lib.ListN.{length, drop, getD, length-append}
 use lib.Seq.{drop-append-seam, drop-at}
-use mir.Facts.{and-yes, or-no, eqb-no}
+use mir.Facts.{and-yes, or-no}
 use Rattle.utf8.specs.Lists.{cond-has, by-test, yes-true, no-false, all, nonempty}
 use Rattle.utf8.specs.Run.{run, run-past}
 use Rattle.header.specs.Lines.{blank}
 use Rattle.address.specs.declared.Scan.{Scan}
 use Rattle.address.specs.declared.Scan.the-variants.{To, Stop}
-use Rattle.address.specs.Address.{later, byteThen, scanThen, isAtext, isAtomByte, dotAtomEnd, dotAtomFrom, dotAtomScan, quotedScan, domainScan, localScan, addressScan}
+use Rattle.address.specs.Address.{later, byteThen, scanThen, isAtext, isAtomByte, dotAtomEnd, dotAtomFrom, dotAtomScan, domainScan, localScan, addressScan}
 use Rattle.address.specs.Grammar.{Atom, DotAtom, QuotedString, LocalPart, Address as AddressForm}
 use Rattle.address.specs.GrammarLaws.{Closed, quoted-string-complete, address-complete}
 use Rattle.address_list.specs.Words.{found, capped, isWordByte, addressLen, wordLen, nextWordLen, nextWordsLen, phraseLen}
@@ -29,9 +29,10 @@ use Rattle.address_grammar.specs.PartGrammar.{WordForm, WordText, Addres
 unfoldable pub starting : ℕ → Bool
 starting b = isWordByte b || eqb b 34
 
--- no other part does
+-- no other part does, and no text ends there (0 is read past its end)
 pub record Starts (b : ℕ) : Type 0 where
   pub no-blank : blank b ≡ false
+  pub no-end : eqb b 0 ≡ false
   pub no-comma : eqb b 44 ≡ false
   pub no-colon : eqb b 58 ≡ false
   pub no-semicolon : eqb b 59 ≡ false
@@ -41,35 +42,40 @@ pub starts : (b : ℕ) → T (starting b) → Starts b
 unfolding starting isWordByte isAtomByte isAtext blank
 starts b t = record {
   no-blank = rw (ne-eqb b 32 (λ e. rw e at t), ne-eqb b 9 (λ e. rw e at t));
+  no-end = ne-eqb b 0 (λ e. rw e at t);
   no-comma = ne-eqb b 44 (λ e. rw e at t);
   no-colon = ne-eqb b 58 (λ e. rw e at t);
   no-semicolon = ne-eqb b 59 (λ e. rw e at t);
   no-bracket = ne-eqb b 60 (λ e. rw e at t);
 }
 
--- a byte that stands after a word: a blank, a colon or `<`
-unfoldable pub stopping : ℕ → Bool
-stopping b = blank b || eqb b 58 || eqb b 60
+-- a byte that ends a mailbox or a phrase, blanks before it left out: the end, or `, : ; <`
+unfoldable pub ending : ℕ → Bool
+ending b = eqb b 0 || eqb b 44 || eqb b 58 || eqb b 59 || eqb b 60
 
 -- what follows a word does not go on with it, and does not make it an address
 pub record Apart (y : List ℕ) : Type 0 where
   pub word : isWordByte (getD y 0 0) ≡ false
   pub sign : eqb (getD y 0 0) 64 ≡ false
 
-pub stops : (b : ℕ) (y : List ℕ) → T (stopping b) → Apart (b ∷ y)
-unfolding stopping starting blank
-stops b y t = record { word = by-test (isWordByte b) (λ w. absurd (no w)) (λ n. no-false (isWordByte b) n); sign = ne-eqb b 64 (λ e. rw e at t) }
+pub stops : (y : List ℕ) → T (blank (getD y 0 0) || ending (getD y 0 0)) → Apart y
+unfolding ending starting blank
+stops y t = record { word = by-test (isWordByte b) (λ w. absurd (other w)) (λ n. no-false (isWordByte b) n); sign = ne-eqb b 64 (λ e. rw e at t) }
   where
-    no : T (isWordByte b) → ⊥
-    no w = let s = starts b (rw (yes-true (isWordByte b) w) tt) in rw (s .no-blank, s .no-colon, s .no-bracket) at t
+    b : ℕ
+    b = getD y 0 0
+
+    other : T (isWordByte b) → ⊥
+    other w =
+        let s = starts b (rw (yes-true (isWordByte b) w) tt) in
+        rw (s .no-blank, s .no-end, s .no-comma, s .no-colon, s .no-semicolon, s .no-bracket) at t
 
 pub stops-blanks : {gap : List ℕ} → SomeBlanks gap → (y : List ℕ) → Apart (gap ++ y)
-unfolding stopping
 stops-blanks {gap} g y = go gap (g .some) (g .blanks)
   where
     go : (gap : List ℕ) → T (nonempty gap) → Blanks gap → Apart (gap ++ y)
     go [] s t = absurd s
-    go (b ∷ gap) s t = stops b (gap ++ y) (rw (yes-true (blank b) (and-yes (blank b) (all blank gap) t .0)) tt)
+    go (b ∷ gap) s t = stops (b ∷ (gap ++ y)) (rw (yes-true (blank b) (and-yes (blank b) (all blank gap) t .0)) tt)
 
 pub apart-closed : {y : List ℕ} → Apart y → Closed y
 unfolding isWordByte
@@ -183,46 +189,40 @@ word-no-address {w} h y a = rw (no-sign w y a (localScan (w ++ y)) (local-ends (
 
 -- ---- phrases
 
--- what follows a phrase: blanks, perhaps none, and a colon or `<`
-pub record AfterPhrase (rest : List ℕ) : Type 0 where
+-- what follows a phrase or a bare address: blanks, perhaps none, and then the end or `, : ; <`
+pub record Ended (rest : List ℕ) : Type 0 where
   pub gap : List ℕ
-  pub byte : ℕ
-  pub more : List ℕ
-  pub made : rest ≡ gap ++ (byte ∷ more)
+  pub tail : List ℕ
+  pub made : rest ≡ gap ++ tail
   pub blanks : Blanks gap
-  pub mark : T (eqb byte 58 || eqb byte 60)
+  pub ends : T (ending (getD tail 0 0))
 
-mark-stops : (b : ℕ) → T (eqb b 58 || eqb b 60) → T (stopping b)
-unfolding stopping
-mark-stops b t = go (blank b) (eqb b 58) (eqb b 60) t
+pub ended-apart : {rest : List ℕ} → Ended rest → Apart rest
+ended-apart {rest} r = rw (r .made) (go (r .gap) (r .blanks))
   where
-    go : (x y z : Bool) → T (y || z) → T (x || y || z)
-    go true y z t = tt
-    go false y z t = t
+    or-right : (a b : Bool) → T b → T (a || b)
+    or-right true b t = tt
+    or-right false b t = t
 
-pub after-apart : {rest : List ℕ} → AfterPhrase rest → Apart rest
-unfolding stopping
-after-apart {rest} r = rw (r .made) (go (r .gap) (r .blanks))
-  where
-    go : (gap : List ℕ) → Blanks gap → Apart (gap ++ (r .byte ∷ r .more))
-    go [] h = stops (r .byte) (r .more) (mark-stops (r .byte) (r .mark))
-    go (b ∷ gap) h = stops-blanks {gap = b ∷ gap} (record { some = tt; blanks = h }) (r .byte ∷ r .more)
+    go : (gap : List ℕ) → Blanks gap → Apart (gap ++ r .tail)
+    go [] h = stops (r .tail) (or-right (blank (getD (r .tail) 0 0)) (ending (getD (r .tail) 0 0)) (r .ends))
+    go (b ∷ gap) h = stops-blanks {gap = b ∷ gap} (record { some = tt; blanks = h }) (r .tail)
 
--- such a mark is no blank and starts no word
-mark-alone : (b : ℕ) (y : List ℕ) → T (eqb b 58 || eqb b 60) → (blank b ≡ false) × (wordLen (b ∷ y) ≡ 0)
-unfolding wordLen capped blank
-mark-alone b y t = (
-  rw (ne-eqb b 32 (λ e. rw e at t), ne-eqb b 9 (λ e. rw e at t)),
-  rw (ne-eqb b 34 (λ e. rw e at t), run-none isWordByte (b ∷ y) (stops b y (mark-stops b t) .word)),
-)
+-- there is no blank and no word
+no-word : (y : List ℕ) → T (ending (getD y 0 0)) → (blank (getD y 0 0) ≡ false) × (wordLen y ≡ 0)
+unfolding wordLen capped blank ending
+no-word y t =
+    let b = getD y 0 0 in
+    let apart = ended-apart (record { gap = []; tail = y; made = refl; blanks = tt; ends = t }) in
+    (rw (ne-eqb b 32 (λ e. rw e at t), ne-eqb b 9 (λ e. rw e at t)), rw (ne-eqb b 34 (λ e. rw e at t), run-none isWordByte y (apart .word)))
 
-no-next : {rest : List ℕ} → AfterPhrase rest → nextWordLen rest ≡ 0
+no-next : {rest : List ℕ} → Ended rest → nextWordLen rest ≡ 0
 unfolding nextWordLen
 no-next {rest} r =
-    let alone = mark-alone (r .byte) (r .more) (r .mark) in
-    rw (r .made, run-whole blank (r .gap) (r .byte ∷ r .more) (r .blanks) (alone .0), drop-append-seam (r .gap) (r .byte ∷ r .more), alone .1, and-false)
+    let none = no-word (r .tail) (r .ends) in
+    rw (r .made, run-whole blank (r .gap) (r .tail) (r .blanks) (none .0), drop-append-seam (r .gap) (r .tail), none .1, and-false)
 
-no-more : {rest : List ℕ} → AfterPhrase rest → nextWordsLen 0 rest ≡ 0
+no-more : {rest : List ℕ} → Ended rest → nextWordsLen 0 rest ≡ 0
 no-more {rest} r = omega (arith, words-stop rest 0 0 (sym (no-next r)) refl)
 
 next-found : {w gap : List ℕ} → WordText w → SomeBlanks gap → (y : List ℕ) → Apart y → nextWordLen (gap ++ (w ++ y)) ≡ length gap + length w
@@ -251,8 +251,8 @@ words-next {w} {gap} h g y a =
     let fact = words-front n s (sym (next-found h g y a)) (omega (arith, word-some h)) (omega (arith, length-append gap (w ++ y), length-append w y)) in
     rw past at fact
 
-words-found : {p before : List ℕ} → PhraseText p → SomeBlanks before → (rest : List ℕ) → AfterPhrase rest → nextWordsLen 0 (before ++ (p ++ rest)) ≡ length before + length p
-words-found (PhraseText.one h) b rest r = words-next h b rest (after-apart r) ∙ rw (no-more r, add-zero)
+words-found : {p before : List ℕ} → PhraseText p → SomeBlanks before → (rest : List ℕ) → Ended rest → nextWordsLen 0 (before ++ (p ++ rest)) ≡ length before + length p
+words-found (PhraseText.one h) b rest r = words-next h b rest (ended-apart r) ∙ rw (no-more r, add-zero)
 words-found (PhraseText.then {w} {gap} {more} h g m) b rest r =
     rw (append-assoc w (gap ++ more) rest, append-assoc gap more rest)
     (omega (arith, words-next h b (gap ++ (more ++ rest)) (stops-blanks g (more ++ rest)), words-found m g rest r, length-append w (gap ++ more), length-append gap more))
@@ -270,12 +270,12 @@ record FirstWord (s : List ℕ) : Type 0 where
   is : WordText w
   apart : Apart y
 
-first-word : {p : List ℕ} → PhraseText p → (rest : List ℕ) → AfterPhrase rest → FirstWord (p ++ rest)
-first-word (PhraseText.one {w} h) rest r = record { w = w; y = rest; made = refl; is = h; apart = after-apart r }
+first-word : {p : List ℕ} → PhraseText p → (rest : List ℕ) → Ended rest → FirstWord (p ++ rest)
+first-word (PhraseText.one {w} h) rest r = record { w = w; y = rest; made = refl; is = h; apart = ended-apart r }
 first-word (PhraseText.then {w} {gap} {more} h g m) rest r =
     record { w = w; y = gap ++ (more ++ rest); made = rw (append-assoc w (gap ++ more) rest, append-assoc gap more rest); is = h; apart = stops-blanks g (more ++ rest) }
 
-module _ {p : List ℕ} (h : PhraseText p) (rest : List ℕ) (r : AfterPhrase rest) where
+module _ {p : List ℕ} (h : PhraseText p) (rest : List ℕ) (r : Ended rest) where
   pub phrase-starts : T (starting (getD (p ++ rest) 0 0))
   phrase-starts = let f = first-word h rest r in rw (f .made) (word-starts (f .is) (f .y))
 
@@ -286,7 +286,7 @@ module _ {p : List ℕ} (h : PhraseText p) (rest : List ℕ) (r : AfterPhrase re
   phrase-found = go h
     where
       go : {p : List ℕ} → PhraseText p → phraseLen (p ++ rest) ≡ length p
-      go (PhraseText.one h) = phrase-front h rest (after-apart r) ∙ rw (no-more r, add-zero)
+      go (PhraseText.one h) = phrase-front h rest (ended-apart r) ∙ rw (no-more r, add-zero)
       go (PhraseText.then {w} {gap} {more} h g m) =
           rw (append-assoc w (gap ++ more) rest, append-assoc gap more rest)
           (omega (arith, phrase-front h (gap ++ (more ++ rest)) (stops-blanks g (more ++ rest)), words-found m g rest r, length-append w (gap ++ more), length-append gap more))

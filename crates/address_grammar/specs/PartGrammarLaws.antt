@@ -1,6 +1,6 @@
 -- The parts of every text are what their kinds say, and joined they are the text. Assumes nothing.
 use mathlib.Core.Path.{_≡_, refl, ap, sym, _∙_}
-use mathlib.Core.Bool.{Bool, true, false, cond, not, _&&_}
+use mathlib.Core.Bool.{Bool, cond, not, _&&_}
 use mathlib.Core.List.{List, [], _∷_, _++_, append-assoc, append-nil}
 use Prim.Native.Nat.{ℕ, zero, suc, pred, _+_, _-_, _≤_, _<_}
 use native.Mathlib.Nat.{not-suc-le-zero}
@@ -9,9 +9,9 @@ use native.Mathlib.Omega.{arith}
 use lib.Dec.{T, ltb, leb, eqb, eqb→eq}
 use lib.ListN.{length, take, drop, getD, length-append, length-drop, take-append-drop}
 use lib.Seq.{drop-cons, drop-drop, drop-append-seam, drop-at, take-add, take-nil, take-append-seam, length-take-le}
-use mir.Facts.{and-yes, ltb-yes, ltb-no, leb-yes, eqb-no}
+use mir.Facts.{and-yes, ltb-yes, leb-yes, eqb-no}
 use Rattle.utf8.specs.Byte.{isAscii}
-use Rattle.utf8.specs.Lists.{cond-has, by-test, yes-true, no-false, all, nonempty}
+use Rattle.utf8.specs.Lists.{cond-has, all, nonempty}
 use Rattle.utf8.specs.Run.{run, run-le, run-all}
 use Rattle.header.specs.Lines.{blank}
 use Rattle.address.specs.declared.Scan.{Scan}
@@ -20,11 +20,10 @@ use Rattle.address.specs.Address.{quotedScan, addressScan}
 use Rattle.address.specs.AddressLaws.{byte-within}
 use Rattle.address.specs.GrammarLaws.{quoted-string-sound, address-sound}
 use Rattle.address_list.specs.Words.{found, capped, isWordByte, addressLen, wordLen, nextWordLen, nextWordsLen, phraseLen}
-use Rattle.address_list.specs.Parts.{Part, front, stray, alternativeAt, angledAt, namedAt, partAt, partsFrom, partsOf}
-use Rattle.address_list.specs.declared.Kind.{Kind}
-use Rattle.address_list.specs.declared.Kind.the-variants.{Blank, Comma, Colon, Semicolon, Phrase, Address, Angled, Alternative, Stray}
+use Rattle.address_list.specs.Parts.{front, stray, alternativeAt, angledAt, namedAt, partAt, partsFrom, partsOf}
+use Rattle.address_list.specs.declared.Kind.the-variants.{Blank, Comma, Colon, Semicolon, Phrase, Address, Angled, Alternative}
 use Rattle.address_list.specs.declared.Front.{Front}
-use Rattle.address_grammar.specs.PartGrammar.{WordForm, WordText, AddressText, SomeBlanks, PhraseText, AngledText, AlternativeText, OneByte, IsPart, EachIsPart, joinedParts}
+use Rattle.address_grammar.specs.PartGrammar.{WordForm, WordText, AddressText, SomeBlanks, PhraseText, AngledText, AlternativeText, IsPart, EachIsPart, joinedParts}
 
 -- ---- words and addresses
 
