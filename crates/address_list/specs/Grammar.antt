@@ -1,5 +1,6 @@
 -- "The text must be a comma list of mailboxes or groups": the grammar, as rules that make rows of parts. Blanks between parts are
--- left out first. GrammarLaws.antt proves that a text fits exactly if its parts are such a row. Assumes nothing.
+-- left out first. Crate address_grammar says what the bytes of each part are, and proves that a text fits exactly if it is such a
+-- row. Assumes nothing.
 use mathlib.Core.List.{List, [], _∷_, _++_}
 use Prim.Native.Nat.{ℕ}
 use Rattle.address_list.specs.Parts.{Part}
@@ -33,8 +34,8 @@ pub data Items : List Kind → Type 0 where
   one : {i : List Kind} → Item i → Items i
   then : {i is : List Kind} → Item i → Items is → Items (i ++ (Comma ∷ is))
 
--- "runs of spaces and TABs allowed around `, : ; <` and at the end": of two parts without blanks between them that may follow each
--- other one is such a mark, so blanks may stand between any two
+-- "runs of spaces and TABs allowed around `, : ; <` and at the end": such a mark stands between any two parts of a list
+-- (items-marked in address_grammar), so blanks may stand between any two. A field's text starts with none.
 unfoldable pub unlessBlank : Kind → List Kind → List Kind
 unlessBlank Blank ks = ks
 unlessBlank Comma ks = Comma ∷ ks

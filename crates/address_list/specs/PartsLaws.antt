@@ -196,7 +196,7 @@ parts-skip zero s = refl
 parts-skip (suc k) [] = refl
 parts-skip (suc k) (b ∷ s) = parts-skip k s
 
-parts-front : (f : Front) (s : List ℕ) → f ≡ partAt s → 0 < f .size → 0 < length s → partsFrom 0 s ≡ partIn f s ∷ partsFrom 0 (drop (f .size) s)
+pub parts-front : (f : Front) (s : List ℕ) → f ≡ partAt s → 0 < f .size → 0 < length s → partsFrom 0 s ≡ partIn f s ∷ partsFrom 0 (drop (f .size) s)
 unfolding partsFrom
 parts-front f [] e p h = absurd (not-suc-le-zero {n = 0} (omega arith))
 parts-front f (b ∷ s) e p h =

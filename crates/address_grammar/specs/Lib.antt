@@ -1,0 +1,6 @@
+pub mod PartGrammar
+pub mod GrammarLaws
+pub mod PartGrammarLaws
+pub mod FoundLaws
+pub mod FittingLaws
+pub mod ListCases

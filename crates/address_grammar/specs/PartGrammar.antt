@@ -1,0 +1,108 @@
+-- What the bytes of each part of an address field's text are, in the paper's words, as rules that make texts. FittingLaws.antt
+-- proves that a text fits exactly if it is made so. Assumes nothing.
+use mathlib.Core.Path.{_≡_}
+use mathlib.Core.Bool.{not}
+use mathlib.Core.List.{List, [], _∷_, _++_}
+use Prim.Native.Nat.{ℕ, _+_, _≤_}
+use lib.Dec.{T}
+use lib.ListN.{length}
+use Rattle.utf8.specs.Lists.{all, nonempty}
+use Rattle.utf8.specs.Byte.{isAscii}
+use Rattle.header.specs.Lines.{blank}
+use Rattle.address.specs.Grammar.{QuotedString, Address as AddressForm}
+use Rattle.address_list.specs.Words.{isWordByte}
+use Rattle.address_list.specs.Parts.{Part}
+use Rattle.address_list.specs.Grammar.{Items, kindsOf}
+use Rattle.address_list.specs.declared.Kind.{Kind}
+use Rattle.address_list.specs.declared.Kind.the-variants.{Blank, Comma, Colon, Semicolon, Phrase, Address, Angled, Alternative, Stray}
+
+-- "a word is a quoted string or a run of atext, dots and non-ASCII characters"
+pub data WordForm : List ℕ → Type 0 where
+  string : {w : List ℕ} → QuotedString w → WordForm w
+  run : {w : List ℕ} → T (nonempty w) → T (all isWordByte w) → WordForm w
+
+-- "No word or address exceeds 900 bytes."
+pub record WordText (w : List ℕ) : Type 0 where
+  pub form : WordForm w
+  pub size : length w ≤ 900
+
+pub record AddressText (a : List ℕ) : Type 0 where
+  pub form : AddressForm a
+  pub size : length a ≤ 900
+
+-- "runs of spaces and TABs", perhaps none
+abbrev pub Blanks : List ℕ → Type 0
+Blanks gap = T (all blank gap)
+
+-- "one or more spaces or TABs"
+pub record SomeBlanks (gap : List ℕ) : Type 0 where
+  pub some : T (nonempty gap)
+  pub blanks : Blanks gap
+
+-- "A phrase is words parted by one or more spaces or TABs"
+pub data PhraseText : List ℕ → Type 0 where
+  one : {w : List ℕ} → WordText w → PhraseText w
+  then : {w gap more : List ℕ} → WordText w → SomeBlanks gap → PhraseText more → PhraseText (w ++ (gap ++ more))
+
+-- "`<address>`": `<` is 60, `>` is 62. "runs of spaces and TABs allowed around .. `<`". The kind tells where the address is.
+pub record AngledText (start size : ℕ) (text : List ℕ) : Type 0 where
+  pub gap : List ℕ
+  pub address : List ℕ
+  pub made : text ≡ 60 ∷ (gap ++ (address ++ (62 ∷ [])))
+  pub blanks : Blanks gap
+  pub is : AddressText address
+  pub start-is : start ≡ 1 + length gap
+  pub size-is : size ≡ length address
+
+-- "with an alternative `<address <ASCII address>>`, the first non-ASCII, at least one space or TAB between". The kind tells where
+-- the alternative is.
+pub record AlternativeText (start size : ℕ) (text : List ℕ) : Type 0 where
+  pub gap : List ℕ
+  pub first : List ℕ
+  pub between : List ℕ
+  pub gap₂ : List ℕ
+  pub alternative : List ℕ
+  pub made : text ≡ 60 ∷ (gap ++ (first ++ (between ++ (60 ∷ (gap₂ ++ (alternative ++ (62 ∷ 62 ∷ [])))))))
+  pub blanks : Blanks gap
+  pub first-is : AddressText first
+  pub first-high : T (not (all isAscii first))
+  pub apart : SomeBlanks between
+  pub blanks₂ : Blanks gap₂
+  pub alternative-is : AddressText alternative
+  pub alternative-ascii : T (all isAscii alternative)
+  pub start-is : start ≡ 1 + length gap + length first + length between + 1 + length gap₂
+  pub size-is : size ≡ length alternative
+
+-- a text of one byte that passes a test
+pub record OneByte (f : ℕ → Type 0) (text : List ℕ) : Type 0 where
+  pub byte : ℕ
+  pub made : text ≡ byte ∷ []
+  pub is : f byte
+
+-- what the bytes of a part of each kind are: `,` is 44, `:` is 58, `;` is 59; of a stray byte nothing is said
+abbrev pub IsPart : Kind → List ℕ → Type 0
+IsPart Blank text = OneByte (λ b. T (blank b)) text
+IsPart Comma text = text ≡ 44 ∷ []
+IsPart Colon text = text ≡ 58 ∷ []
+IsPart Semicolon text = text ≡ 59 ∷ []
+IsPart Phrase text = PhraseText text
+IsPart Address text = AddressText text
+IsPart (Angled start size) text = AngledText start size text
+IsPart (Alternative start size) text = AlternativeText start size text
+IsPart Stray text = OneByte (λ b. Unit {0}) text
+
+abbrev pub EachIsPart : List Part → Type 0
+EachIsPart [] = Unit {0}
+EachIsPart (p ∷ ps) = IsPart (p .kind) (p .text) × EachIsPart ps
+
+-- the texts of the parts, one after another
+abbrev pub joinedParts : List Part → List ℕ
+joinedParts [] = []
+joinedParts (p ∷ ps) = p .text ++ joinedParts ps
+
+-- "The text must be a comma list of mailboxes or groups": parts whose kinds are such a list, each what its kind says
+pub record AddressList (text : List ℕ) : Type 0 where
+  pub parts : List Part
+  pub kinds : Items (kindsOf parts)
+  pub each : EachIsPart parts
+  pub joined : joinedParts parts ≡ text
