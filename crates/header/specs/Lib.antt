@@ -6,3 +6,4 @@ pub mod FieldShape
 pub mod FieldShapeLaws
 pub mod LineNumber
 pub mod HeaderCases
+pub mod AsciiFields

@@ -7,6 +7,7 @@ ghost use Rattle.utf8.specs.Byte.{isAscii};
 ghost use Rattle.utf8.specs.Run.{run};
 ghost use Rattle.header.specs.Fields.{fieldLen, valueOf, lineCount, isHeld, refused};
 ghost use Rattle.header.specs.FieldLaws.{ends};
+ghost use Rattle.header.specs.AsciiFields.{AsciiFields};
 use crate::checking::crlf_at;
 use crate::checking::is_blank;
 use crate::checking::name_len;
@@ -33,6 +34,26 @@ pub fn field_end(h: &[u8], at: usize) -> usize
             return i + 2;
         }
         i = line::next_cr(h, i + 1);
+    }
+    i
+}
+
+// The place after the fields from `at` on that are wholly ASCII, up to the first one that is not. They are passed over without a
+// look at their names or values.
+pub fn ascii_fields_end(h: &[u8], at: usize) -> usize
+    ensures { λ r. ⌜ AsciiFields (now (h .entry)) at r ⌝ }
+{
+    let high = utf8::ascii_end(h, at);
+    if h.len() <= high {
+        return high;
+    }
+    let mut i = at;
+    while i < high {
+        let to = field_end(h, i);
+        if high < to {
+            return i;
+        }
+        i = to;
     }
     i
 }

@@ -41,9 +41,13 @@ pub fn held_field(h: &[u8]) -> HeldField
 {
     let mut at: usize = 0;
     while at < h.len() {
-        let to = field::field_end(h, at);
-        if field::is_refused(&h[at..to]) {
-            return HeldField::At(field::line_count(&h[0..at]), at);
+        let start = field::ascii_fields_end(h, at);
+        if h.len() <= start {
+            return HeldField::Absent;
+        }
+        let to = field::field_end(h, start);
+        if field::is_refused(&h[start..to]) {
+            return HeldField::At(field::line_count(&h[0..start]), start);
         }
         at = to;
     }

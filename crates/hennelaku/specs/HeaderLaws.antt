@@ -1,10 +1,12 @@
 -- Laws of the outgoing header: the length of what is written for a field, and its writing field by field. Assumes nothing.
-use mathlib.Core.Path.{_≡_, ap}
+use mathlib.Core.Path.{_≡_, refl, sym, ap, _∙_}
 use mathlib.Core.Bool.{Bool, true, false}
-use mathlib.Core.List.{List, [], _∷_, _++_, append-nil, map}
+use mathlib.Core.List.{List, [], _∷_, _++_, append-nil, append-assoc, map}
 use Prim.Native.Nat.{ℕ, zero, suc, pred, _+_, _-_, _*_, _≤_, _<_}
 use native.Mathlib.Omega.{arith}
 use lib.ListN.{length, take, drop, length-append, length-take, drop-of-length-le}
+use lib.Dec.{T}
+use mir.Facts.{and-yes}
 use Rattle.buffer.specs.Buffer.{Wrote, Appended, AppendedCapped, Reached, greatest}
 use Rattle.buffer.specs.BufferLaws.{wrote-nothing, appended-of, reached-start, reached-then, reached-end, length-reached, reached-within}
 use Rattle.utf8.specs.Byte.{isAscii}
@@ -16,6 +18,7 @@ use Rattle.encoded_word.specs.SegmentsLaws.{rendered-append}
 use Rattle.header.specs.Lines.{nameLen}
 use Rattle.header.specs.Fields.{fieldLen, fieldsAfter, fieldsOf, nameOf, valueOf, textOf}
 use Rattle.header.specs.FieldLaws.{fields-nil, fields-next, fields-joined}
+use Rattle.header.specs.AsciiFields.{AsciiFields, value-ascii}
 use Rattle.header_name.specs.declared.Kind.{Kind}
 use Rattle.header_name.specs.declared.Kind.the-variants.{Address, PlainText, Held, Other}
 use Rattle.header_name.specs.Names.{kindOf}
@@ -114,6 +117,21 @@ header-next h i to k e =
     rw (fields-next h i to k e)
     (rendered-append (fieldSegments addressField (take (to - i) (drop i h))) (joined (map (fieldSegments addressField) (fieldsOf (drop to h)))))
 
+rendered-passed : (passed more : List (List ℕ)) → T (all (all isAscii) passed)
+    → rendered (joined (map (fieldSegments addressField) (passed ++ more))) ≡ joined passed ++ rendered (joined (map (fieldSegments addressField) more))
+rendered-passed [] more t = refl
+rendered-passed (field ∷ passed) more t =
+    let both = and-yes (all isAscii field) (all (all isAscii) passed) t in
+    let rest = joined (map (fieldSegments addressField) (passed ++ more)) in
+    rendered-append (fieldSegments addressField field) rest
+    ∙ rw (field-copied addressField field (value-ascii field (both .0)), rendered-passed passed more (both .1))
+    (sym (append-assoc field (joined passed) (rendered (joined (map (fieldSegments addressField) more)))))
+
+header-passed : (h : List ℕ) (i r : ℕ) → AsciiFields h i r
+    → rendered (headerSegments addressField (drop i h)) ≡ take (r - i) (drop i h) ++ rendered (headerSegments addressField (drop r h))
+unfolding headerSegments
+header-passed h i r p = rw (p .fields, ← p .bytes) (rendered-passed (p .passed) (fieldsOf (drop r h)) (p .ascii))
+
 -- where a loop that writes the fields of a header stands
 pub record Fielding (h : List ℕ) (i at : ℕ) (before after : List ℕ) (n : ℕ) : Type 0 where
   pub reached : Reached (rendered (headerSegments addressField h)) (rendered (headerSegments addressField (drop i h))) at before after n
@@ -137,3 +155,14 @@ module _ {h before mid : List ℕ} {i at n : ℕ} (g : Fielding h i at before mi
       let fits : n + length part ≤ greatest =
       omega (arith, reached-within (g .reached), ap length (header-next h i to k e), length-append part more, length-header h) in
       record { reached = reached-then part more (g .reached) (header-next h i to k e) (appended-of a fits) }
+
+  -- fields that are wholly ASCII are copied together
+  pub fielding-skip : {after : List ℕ} {r m : ℕ} → length h ≤ 32768 → at ≤ 1048576 → AsciiFields h i r
+      → AppendedCapped (take (r - i) (drop i h)) n mid after m → Fielding h r at before after m
+  fielding-skip {after} {r} {m} short low p a =
+      let part = take (r - i) (drop i h) in
+      let more = rendered (headerSegments addressField (drop r h)) in
+      let cut = header-passed h i r p in
+      let fits : n + length part ≤ greatest =
+      omega (arith, reached-within (g .reached), ap length cut, length-append part more, length-header h) in
+      record { reached = reached-then part more (g .reached) cut (appended-of a fits) }

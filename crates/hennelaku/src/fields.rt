@@ -41,7 +41,8 @@ fn add_field(out: &mut [u8], at: usize, field: &[u8]) -> usize
     buffer::place_after(at, put_field(&mut out[start..], field))
 }
 
-// Writes what becomes of the fields of a header from a place on, as far as it fits; answers the place after all of it.
+// Writes what becomes of the fields of a header from a place on, as far as it fits; answers the place after all of it. Fields that
+// are wholly ASCII are copied together.
 pub(crate) fn add_fields(out: &mut [u8], at: usize, header: &[u8]) -> usize
     requires { ⌜ (length (now header) ≤ 32768) × (at ≤ 1048576) ⌝ }
     ensures { λ r. ⌜ Appended (rendered (headerSegments addressField (now (header .entry)))) at (now (out .entry)) (now (out .exit)) r ⌝ }
@@ -49,8 +50,13 @@ pub(crate) fn add_fields(out: &mut [u8], at: usize, header: &[u8]) -> usize
     let mut next = at;
     let mut i: usize = 0;
     while i < header.len() {
-        let to = header::field::field_end(header, i);
-        next = add_field(out, next, &header[i..to]);
+        let start = header::field::ascii_fields_end(header, i);
+        next = buffer::add_slice(out, next, &header[i..start]);
+        if header.len() <= start {
+            return next;
+        }
+        let to = header::field::field_end(header, start);
+        next = add_field(out, next, &header[start..to]);
         i = to;
     }
     next
