@@ -42,7 +42,7 @@ extern "C" {
  * TO-MEASURE: the number below is a placeholder and was not measured;
  * `make -C relay stack` measures it.
  */
-#define HENNELAKU_STACK 262144
+#define HENNELAKU_STACK 131072
 
 /*
  * The numbers of the answers. Where two conditions hold, the one that is
