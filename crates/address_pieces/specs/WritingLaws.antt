@@ -12,7 +12,7 @@ use Rattle.header.specs.Fields.{nameOf, textOf}
 use Rattle.encoded_word.specs.Row.{row}
 use Rattle.encoded_word.specs.Segments.{rendered, bytesOf}
 use Rattle.field.specs.Field.{encodedField, boundedField}
-use Rattle.field.specs.FieldLaws.{bounded-field, name-part, length-encoded}
+use Rattle.field.specs.FieldLaws.{bounded-field, name-part, length-name, length-encoded}
 use Rattle.field.specs.TextLaws.{length-text, wrote-front}
 use Rattle.address_list.specs.Parts.{partsOf}
 use Rattle.address_list.specs.Table.{examined}
@@ -82,7 +82,7 @@ rewritten-wrote field {text} {before} {named} {marked} {valued} {after} {m} {n} 
     let name = capped-then (rw (name-part field m q) at a) b k in
     let value = capped-then name (rw e at d) k in
     let whole = capped-then value f k in
-    wrote-of (rw (rewritten-bytes field) whole) (omega (arith, rewritten-le field))
+    wrote-of (rw (rewritten-bytes field) whole) (omega (arith, rewritten-le field, length-name field, length-text field))
 
 pub with-copy : (field : List ℕ) {before mid after : List ℕ} {n s : ℕ} → length field ≤ 32768 → length before ≤ greatest → Wrote (rendered (rewrittenField field)) before mid n
     → AppendedCapped (rendered (encodedField true (boundedField field))) n mid after s → Wrote (rendered (fieldBy Changed field)) before after s
@@ -93,7 +93,7 @@ with-copy field {before} {mid} {after} {n} {s} h k w a =
     rw (rendered-append (rewrittenField field) (encodedField true field)) (wrote-from (appended-then first second))
   where
     whole : length (rendered (rewrittenField field)) + length (rendered (encodedField true field)) ≤ greatest
-    whole = omega (arith, rewritten-le field, length-encoded true field)
+    whole = omega (arith, rewritten-le field, length-encoded true field, length-name field, length-text field)
 
 pub by-examined : (field : List ℕ) {text : List ℕ} {e d : Examined} {before after : List ℕ} {n : ℕ} → text ≡ textOf field → d ≡ e → d ≡ examined text
     → Wrote (rendered (fieldBy e field)) before after n → Wrote (rendered (addressField field)) before after n

@@ -11,7 +11,7 @@ use lib.Seq.{drop-cons}
 use lib.Dec.{T, leb, ltb, eqb, eqb→eq, leb→le, le→leb, lit≤, lt→ltb}
 use mir.Facts.{and-yes, yes-and, leb-yes, leb-no, ltb-yes, ltb-no}
 use borrow.Author.Tests.{le-leb, lt-leb, leb-true, ltb-true, eqb-true, eqb-false, not-true}
-use Rattle.utf8.specs.Lists.{by-test, cond-yes, cond-no, all, joined, joined-append, nonempty}
+use Rattle.utf8.specs.Lists.{by-test, cond-yes, cond-no, all, all-weaken, joined, joined-append, nonempty}
 use Rattle.utf8.specs.Byte.{to-within}
 use Rattle.utf8.specs.Utf8.{charLen, charsAfter, chars}
 use Rattle.buffer.specs.Buffer.{Wrote, Appended, AppendedCapped, Reached, greatest}
@@ -119,21 +119,26 @@ module _ (room : ℕ) where
 
 -- ---- the row of every text, UTF-8 or not
 
--- a character by its first byte has at most 8 bytes, so every character fits a word
-after-fit : (k : ℕ) (text : List ℕ) → T (all (λ c. leb (cost c) 63) (charsAfter k text))
+-- a character by its first byte has at most 8 bytes
+after-fit : (k : ℕ) (text : List ℕ) → T (all (λ c. leb (cost c) 24) (charsAfter k text))
 unfolding charsAfter
 after-fit zero [] = tt
 after-fit (suc k) [] = tt
 after-fit (suc k) (b ∷ text) = after-fit k text
 after-fit zero (b ∷ text) =
     let c = take (charLen b) (b ∷ text) in
-    yes-and (leb (cost c) 63) (all (λ c. leb (cost c) 63) (charsAfter (pred (charLen b)) text))
-    (le→leb (cost c) 63 (omega (arith, length-spell c, length-take (charLen b) (b ∷ text), char-len-le b)))
+    yes-and (leb (cost c) 24) (all (λ c. leb (cost c) 24) (charsAfter (pred (charLen b)) text))
+    (le→leb (cost c) 24 (omega (arith, length-spell c, length-take (charLen b) (b ∷ text), char-len-le b)))
     (after-fit (pred (charLen b)) text)
 
-pub chars-fit : (text : List ℕ) → T (all (λ c. leb (cost c) 63) (chars text))
+chars-small : (text : List ℕ) → T (all (λ c. leb (cost c) 24) (chars text))
 unfolding chars
-chars-fit text = after-fit 0 text
+chars-small text = after-fit 0 text
+
+-- so every character fits a word
+pub chars-fit : (text : List ℕ) → T (all (λ c. leb (cost c) 63) (chars text))
+chars-fit text =
+    all-weaken (λ c. leb (cost c) 24) (λ c. leb (cost c) 63) (λ c t. le→leb (cost c) 63 (omega (arith, leb-yes {a = cost c} {b = 24} t))) (chars text) (chars-small text)
 
 pub row-nil : (text : List ℕ) → length text ≡ 0 → rowIn 63 text ≡ []
 unfolding rowIn runs lines
@@ -162,32 +167,31 @@ pub length-row : (text : List ℕ) → 0 < length text → length (rowIn 63 text
 unfolding start
 length-row text h = ap length (row-start text h) ∙ length-append start (onwardsAt text 0 63)
 
-length-onwards : (left : ℕ) (cs : List (List ℕ)) → T (all nonempty cs) → length (onwards 63 left cs) ≤ 2 + 18 * length (joined cs)
+-- Three times what is left to write, where a word is open with room for `left`. A new word is opened only where the open one has at
+-- least 40 characters, and a character takes 3 for each byte at most.
+length-onwards : (left : ℕ) (cs : List (List ℕ)) → left ≤ 63 → T (all (λ c. leb (cost c) 24) cs)
+    → 3 * length (onwards 63 left cs) ≤ 15 * length (joined cs) + 2 * (63 - left) + 6
 unfolding onwards
-length-onwards left [] h = lit≤ tt
-length-onwards left (c ∷ cs) h =
-    let both = and-yes (nonempty c) (all nonempty cs) h in
-    let more = onwards 63 (leftAfter 63 left (cost c)) cs in
-    omega (
-      arith,
-      some c (both .0),
-      length-append (gap left (cost c) ++ spell c) more,
-      length-append (gap left (cost c)) (spell c),
-      length-gap left (cost c),
-      length-spell c,
-      length-append c (joined cs),
-      length-onwards (leftAfter 63 left (cost c)) cs (both .1),
-    )
-  where
-    some : (c : List ℕ) → T (nonempty c) → 0 < length c
-    some [] t = absurd t
-    some (b ∷ c) t = omega arith
+length-onwards left [] l h = omega arith
+length-onwards left (c ∷ cs) l h =
+    let both = and-yes (leb (cost c) 24) (all (λ c. leb (cost c) 24) cs) h in
+    let small : cost c ≤ 24 = leb-yes (both .0) in
+    let next = leftAfter 63 left (cost c) in
+    let more = length-onwards next cs (left-le 63 left (cost c) l) (both .1) in
+    let size = length-append (gap left (cost c) ++ spell c) (onwards 63 next cs) in
+    by-test (leb (cost c) left)
+    (λ t.
+        let fits : cost c ≤ left = leb-yes t in
+        omega (arith, more, size, length-append (gap left (cost c)) (spell c), length-gap-here left (cost c) fits, left-here left (cost c) 63 fits, length-spell c, length-append c (joined cs)))
+    (λ t.
+        let full : left < cost c = leb-no t in
+        omega (arith, more, size, small, length-append (gap left (cost c)) (spell c), length-gap-next left (cost c) full, left-next left (cost c) 63 full, length-spell c, length-append c (joined cs)))
 
--- a row takes at most 18 bytes for each byte of its text, and 15 more
-pub length-row-le : (text : List ℕ) → length (rowIn 63 text) ≤ 15 + 18 * length text
+-- a row takes at most 5 bytes for each byte of its text, and 15 more
+pub length-row-le : (text : List ℕ) → length (rowIn 63 text) ≤ 15 + 5 * length text
 length-row-le text =
     by-test (leb 1 (length text))
-    (λ t. omega (arith, length-row text (leb-yes t), length-onwards 63 (chars text) (chars-some text), ap length (chars-joined text)))
+    (λ t. omega (arith, length-row text (leb-yes t), length-onwards 63 (chars text) (omega arith) (chars-small text), ap length (chars-joined text)))
     (λ t. let none : length text ≡ 0 = omega (arith, leb-no {a = 1} {b = length text} t) in omega (arith, ap length (row-nil text none)))
 
 pub onwards-end : (s : List ℕ) (i left : ℕ) → length s ≤ i → onwardsAt s i left ≡ closing

@@ -1,7 +1,7 @@
 -- Laws of written fields: their length, and their writing part by part. Assumes nothing.
-use mathlib.Core.Path.{_≡_, refl, sym}
+use mathlib.Core.Path.{_≡_, refl, ap, sym}
 use mathlib.Core.Bool.{Bool, true, false, cond}
-use mathlib.Core.List.{List, [], _∷_}
+use mathlib.Core.List.{List, [], _∷_, _++_}
 use Prim.Native.Nat.{ℕ, _+_, _*_, _≤_}
 use native.Mathlib.Omega.{arith}
 use lib.Dec.{leb, lit≤}
@@ -16,11 +16,12 @@ use Rattle.encoded_word.specs.Row.{row}
 use Rattle.encoded_word.specs.StreamLaws.{length-row-le}
 use Rattle.encoded_word.specs.Segments.{rendered}
 use Rattle.header.specs.Lines.{nameLen}
-use Rattle.header.specs.Fields.{nameOf, textOf}
+use Rattle.header.specs.Fields.{nameOf, valueOf, textOf}
 use Rattle.header.specs.FieldLaws.{name-le}
 use Rattle.letter_case.specs.LetterCase.{bytes}
 use Rattle.field.specs.Field.{prefix, encodedField, boundedField}
-use Rattle.field.specs.TextLaws.{length-text}
+use Rattle.field.specs.TextLaws.{length-text, length-text-value}
+use Rattle.header.specs.FieldShape.{Shaped}
 
 -- ---- the fields that are written
 
@@ -64,10 +65,16 @@ pub length-name : (field : List ℕ) → length (nameOf field) ≤ length field
 unfolding nameOf
 length-name field = omega (arith, length-take (nameLen field) field)
 
-pub length-encoded : (downgraded : Bool) (field : List ℕ) → length (rendered (encodedField downgraded field)) ≤ 29 + 19 * length field
+pub length-encoded : (downgraded : Bool) (field : List ℕ) → length (rendered (encodedField downgraded field)) ≤ 29 + length (nameOf field) + 5 * length (textOf field)
 unfolding encodedField rendered
-length-encoded downgraded field =
-    simp length-append (omega (arith, length-prefix downgraded, length-row-le (textOf field), length-text field, length-name field))
+length-encoded downgraded field = simp length-append (omega (arith, length-prefix downgraded, length-row-le (textOf field)))
+
+-- what stands in a field besides its name and its text: a colon and CRLF at least
+pub length-shaped : {field : List ℕ} → Shaped field → length (nameOf field) + length (textOf field) + 3 ≤ length field
+length-shaped {field} s =
+    let value = valueOf field in
+    let tail : List ℕ = 58 ∷ (value ++ (13 ∷ 10 ∷ [])) in
+    omega (arith, ap length (s .parts), length-append (nameOf field) tail, length-append value (13 ∷ 10 ∷ []), length-text-value field)
 
 -- ---- the writing of a field, part by part
 

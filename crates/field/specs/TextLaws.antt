@@ -265,12 +265,16 @@ pub text-of-value : (field : List ℕ) → trimmed (unfoldedAfter 0 (valueOf fie
 unfolding textOf
 text-of-value field = refl
 
+pub length-text-value : (field : List ℕ) → length (textOf field) ≤ length (valueOf field)
+unfolding textOf trimmed
+length-text-value field =
+    let text = unfoldedAfter 0 (valueOf field) in
+    omega (arith, length-drop (run blank text) text, length-unfolded 0 (valueOf field))
+
 pub length-text : (field : List ℕ) → length (textOf field) ≤ length field
-unfolding textOf valueOf trimmed
+unfolding valueOf
 length-text field =
-    let value = drop (nameLen field + 1) (take (length field - 2) field) in
-    let text = unfoldedAfter 0 value in
-    omega (arith, length-drop (run blank text) text, length-unfolded 0 value, length-drop (nameLen field + 1) (take (length field - 2) field), length-take (length field - 2) field)
+    omega (arith, length-text-value field, length-drop (nameLen field + 1) (take (length field - 2) field), length-take (length field - 2) field)
 
 -- ---- the words of a text, as they are written
 
