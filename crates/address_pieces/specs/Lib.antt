@@ -1,2 +1,3 @@
 pub mod AddressField
+pub mod LengthLaws
 pub mod AddressFieldLaws

@@ -27,7 +27,7 @@ use Rattle.field.specs.FieldLaws.{bounded-field, name-part}
 use Rattle.field.specs.FieldSound.{field-copied}
 use Rattle.field.specs.TextLaws.{length-text}
 use Rattle.address_pieces.specs.AddressField.{addressField}
-use Rattle.address_pieces.specs.AddressFieldLaws.{length-address-field}
+use Rattle.address_pieces.specs.LengthLaws.{length-address-field}
 
 -- ---- how long what is written for a field can be
 
