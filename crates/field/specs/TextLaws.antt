@@ -7,11 +7,11 @@ use native.Mathlib.Nat.{add-zero}
 use native.Mathlib.Numerals.{add-one}
 use native.Mathlib.Omega.{arith}
 use lib.Dec.{T, eqb, eqb→eq}
-use lib.ListN.{length, take, drop, getD, length-append, length-take, length-drop, drop-of-length-le, List·getD-eq-default}
-use lib.Seq.{drop-cons, drop-drop, getD-drop, take-suc, take-all}
+use lib.ListN.{length, take, drop, getD, length-append, length-take, length-drop, take-append-drop, drop-of-length-le, List·getD-eq-default}
+use lib.Seq.{drop-cons, drop-drop, getD-drop, take-suc, take-all, take-add}
 use mir.Facts.{and-yes}
 use Rattle.utf8.specs.Lists.{by-test, cond-has, yes-true, true-yes, no-false, all}
-use Rattle.utf8.specs.Run.{run}
+use Rattle.utf8.specs.Run.{run, run-le, run-all}
 use Rattle.buffer.specs.Buffer.{Wrote, AppendedCapped, Reached, greatest}
 use Rattle.buffer.specs.BufferLaws.{overlay-front, length-wrote, appended-of, reached-start, reached-then, reached-within, reached-end, length-reached, wrote-from, wrote-nothing}
 use Rattle.encoded_word.specs.Row.{row, bounded}
@@ -21,7 +21,7 @@ use Rattle.line.specs.Line.{crlf}
 use Rattle.header.specs.LineLaws.{crlf-inside}
 use Rattle.header.specs.Fields.{fold, valueOf, unfoldedAfter, trimmed, textOf}
 use Rattle.header.specs.FieldLaws.{drop-take}
-use Rattle.line.specs.LineLaws.{notCr}
+use Rattle.line.specs.LineLaws.{notCr, crRun}
 
 -- ---- a fold at a place
 
@@ -73,6 +73,12 @@ unfold-none [] h = unfold-nil
 unfold-none (b ∷ rest) h =
     let both = and-yes (notCr b) (all notCr rest) h in
     cons-byte b rest (no-cr-fold b rest (both .0)) ∙ ap (λ (l : List ℕ). b ∷ l) (unfold-none rest (both .1))
+
+unfold-past : (a b : List ℕ) → T (all notCr a) → unfoldedAfter 0 (a ++ b) ≡ a ++ unfoldedAfter 0 b
+unfold-past [] b h = refl
+unfold-past (x ∷ a) b h =
+    let both = and-yes (notCr x) (all notCr a) h in
+    cons-byte x (a ++ b) (no-cr-fold x (a ++ b) (both .0)) ∙ ap (λ (l : List ℕ). x ∷ l) (unfold-past a b (both .1))
 
 module _ (s : List ℕ) (i : ℕ) where
   pub unfold-fold : fold (drop i s) ≡ true → unfoldedAfter 0 (drop i s) ≡ unfoldedAfter 0 (drop (i + 2) s)
@@ -192,6 +198,21 @@ unbroken-more {s} {at} {e} u k f =
       up = omega (arith, u .up);
       inside = omega arith;
       joins = u .joins ∙ rw (n, take-suc (drop at s) (e - at) 0 fits, getD-drop at s (e - at) 0, there, unfold-byte s e k f, append-assoc);
+    }
+
+-- and none stands before the next CR
+pub unbroken-run : {s : List ℕ} {at e next : ℕ} → Unbroken s at e → next ≡ e + crRun (drop e s) → Unbroken s at next
+unbroken-run {s} {at} {e} {next} u q =
+    let k = crRun (drop e s) in
+    let n : next - at ≡ e - at + k = omega (arith, u .up) in
+    let there : at + (e - at) ≡ e = omega (arith, u .up) in
+    let part = take k (drop e s) in
+    let both : part ++ drop next s ≡ drop e s = rw (q, ← drop-drop k e s) (take-append-drop k (drop e s)) in
+    let past : unfoldedAfter 0 (drop e s) ≡ part ++ unfoldedAfter 0 (drop next s) = ap (unfoldedAfter 0) (sym both) ∙ unfold-past part (drop next s) (run-all notCr (drop e s)) in
+    record {
+      up = omega (arith, u .up);
+      inside = omega (arith, u .inside, run-le notCr (drop e s), length-drop e s);
+      joins = u .joins ∙ rw (past, n, take-add (e - at) k (drop at s), drop-drop, there, append-assoc);
     }
 
 -- The piece from `at` to the next fold, at e, or to the end.

@@ -68,12 +68,12 @@ fn next_fold(s: &[u8], at: usize) -> usize
     requires { ⌜ at ≤ length (now s) ⌝ }
     ensures { λ r. ⌜ PieceEnd (now (s .entry)) at r ⌝ }
 {
-    let mut i = at;
+    let mut i = line::next_cr(s, at);
     while i < s.len() {
         if fold_at(s, i) {
             return i;
         }
-        i += 1;
+        i = line::next_cr(s, i + 1);
     }
     i
 }

@@ -85,7 +85,7 @@ field-le (b ∷ rest) =
     (λ t. ends-crlf (b ∷ rest) (yes-true (ends (b ∷ rest)) t))
     (λ t. omega arith))
 
-field-some : (b : ℕ) (rest : List ℕ) → 0 < fieldLen (b ∷ rest)
+pub field-some : (b : ℕ) (rest : List ℕ) → 0 < fieldLen (b ∷ rest)
 field-some b rest = rw (len-cons b rest) (cond-has (λ n. 0 < n) (ends (b ∷ rest)) 2 (suc (fieldLen rest)) (λ t. omega arith) (λ t. omega arith))
 
 -- the place after the field at `at`

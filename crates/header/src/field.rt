@@ -7,7 +7,7 @@ ghost use Rattle.utf8.specs.Byte.{isAscii};
 ghost use Rattle.utf8.specs.Run.{run};
 ghost use Rattle.header.specs.Fields.{fieldLen, valueOf, lineCount, isHeld, refused};
 ghost use Rattle.header.specs.FieldLaws.{ends};
-ghost use Rattle.header.specs.AsciiFields.{AsciiFields};
+ghost use Rattle.header.specs.AsciiFields.{Boundary, AsciiFields};
 use crate::checking::crlf_at;
 use crate::checking::is_blank;
 use crate::checking::name_len;
@@ -38,6 +38,21 @@ pub fn field_end(h: &[u8], at: usize) -> usize
     i
 }
 
+// The last place from `at` up to `to` where a field ends; `at` where there is none. From the end, since it is mostly near.
+fn last_field_end(h: &[u8], at: usize, to: usize) -> usize
+    requires { ⌜ (at ≤ to) × (to ≤ length (now h)) ⌝ }
+    ensures { λ r. ⌜ (at ≤ r) × (r ≤ to) × Boundary (now (h .entry)) at r ⌝ }
+{
+    let mut i = to;
+    while 2 <= i - at {
+        if ends_at(h, i - 2) {
+            return i;
+        }
+        i -= 1;
+    }
+    at
+}
+
 // The place after the fields from `at` on that are wholly ASCII, up to the first one that is not. They are passed over without a
 // look at their names or values.
 pub fn ascii_fields_end(h: &[u8], at: usize) -> usize
@@ -47,15 +62,7 @@ pub fn ascii_fields_end(h: &[u8], at: usize) -> usize
     if h.len() <= high {
         return high;
     }
-    let mut i = at;
-    while i < high {
-        let to = field_end(h, i);
-        if high < to {
-            return i;
-        }
-        i = to;
-    }
-    i
+    last_field_end(h, at, high)
 }
 
 // Whether every byte is ASCII. Without an early exit: a value is mostly ASCII to its end.

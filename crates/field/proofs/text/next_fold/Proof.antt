@@ -1,9 +1,9 @@
-use Rattle.field.specs.TextLaws.{Unbroken, unbroken-none, unbroken-more, piece-fold, piece-end}
-use lib.ListN.{length}
-use borrow.Author.Needs.{needs}
-use native.Mathlib.Omega.{arith}
-use Prim.Native.Nat.{_-_}
 use mathlib.Core.Path.{sym, _∙_}
+use Prim.Native.Nat.{_-_}
+use native.Mathlib.Omega.{arith}
+use borrow.Author.Needs.{needs}
+use lib.ListN.{length}
+use Rattle.field.specs.TextLaws.{Unbroken, unbroken-none, unbroken-more, unbroken-run, piece-fold, piece-end}
 use Rattle.field.proofs.text.next_fold.Statement.{statement}
 use Rattle.field.proofs.text.next_fold.Tie as tie
 
@@ -13,8 +13,11 @@ Inv-loop s at i₀ i = Unbroken s at i
 abbrev μ-loop : tie.MeasureT-loop
 μ-loop s at i₀ i = length s - i
 
+next-cr-requires : tie.Need-next-cr-requires Inv-loop μ-loop
+next-cr-requires c κs = search needs
+
 loop-holds : tie.Need-loop-holds Inv-loop μ-loop
-loop-holds c = unbroken-none (c .before .pre)
+loop-holds c = unbroken-run (unbroken-none (c .before .before .pre)) (c .next-cr .ensures)
 
 fold-at-requires : tie.Need-fold-at-requires Inv-loop μ-loop
 fold-at-requires c κs = search needs
@@ -22,14 +25,17 @@ fold-at-requires c κs = search needs
 returns : tie.Need-returns Inv-loop μ-loop
 returns c = piece-fold (c .before .before .before .loop .inv) (sym (c .before .fold-at .ensures) ∙ c .if1 .taken)
 
-add-i : tie.Need-add-i Inv-loop μ-loop
-add-i c = omega arith
+add-next-cr : tie.Need-add-next-cr Inv-loop μ-loop
+add-next-cr c = omega arith
+
+next-cr-requires-2 : tie.Need-next-cr-requires-2 Inv-loop μ-loop
+next-cr-requires-2 c κs = search needs
 
 loop-less : tie.Need-loop-less Inv-loop μ-loop
-loop-less c = omega arith
+loop-less c = omega (arith, c .next-cr2 .ensures)
 
 loop-again : tie.Need-loop-again Inv-loop μ-loop
-loop-again c = unbroken-more (c .before .before .before .loop .inv) (c .before .before .loop-test .taken) (sym (c .before .fold-at .ensures) ∙ c .if1 .left)
+loop-again c = unbroken-run (unbroken-more (c .before .before .before .before .loop .inv) (c .before .before .before .loop-test .taken) (sym (c .before .before .fold-at .ensures) ∙ c .before .if1 .left)) (c .next-cr2 .ensures)
 
 returns-2 : tie.Need-returns-2 Inv-loop μ-loop
 returns-2 c = piece-end (c .before .loop .inv) (c .loop-test .left)
@@ -40,10 +46,12 @@ next-fold-spec =
     (tie.spec
     Inv-loop
     μ-loop
+    next-cr-requires
     loop-holds
     fold-at-requires
     returns
-    add-i
+    add-next-cr
+    next-cr-requires-2
     loop-less
     loop-again
     returns-2)
