@@ -15,6 +15,7 @@ use Rattle.header.specs.Lines.{blank}
 use Rattle.header.specs.Fields.{nameOf, textOf}
 use Rattle.letter_case.specs.LetterCase.{bytes}
 use Rattle.encoded_word.specs.StreamLaws.{length-row-le}
+use Rattle.encoded_word.specs.SegmentsLaws.{rendered-append}
 use Rattle.encoded_word.specs.Segments.{Segment, bytesOf, rendered}
 use Rattle.encoded_word.specs.Segments.Segment.{raw, words}
 use Rattle.header.specs.FieldShape.{Shaped}
@@ -34,7 +35,7 @@ use Rattle.address_list.specs.declared.Examined.the-variants.{DoesNotFit, Kept,
 use Rattle.address_list.specs.declared.Kind.{Kind}
 use Rattle.address_list.specs.declared.Kind.the-variants.{Blank, Comma, Colon, Semicolon, Phrase, Address, Angled, Alternative, Stray}
 use Rattle.address_pieces.specs.Pieces.{piece, wordSize, wordsFrom, wordsOf, phraseText, phrasePieces, removed, inAngles, addressPieces, pieces, piecesOf}
-use Rattle.address_pieces.specs.PiecesLaws.{rendered-append, rendered-one, word-size-some, length-phrase-text}
+use Rattle.address_pieces.specs.PiecesLaws.{rendered-one, word-size-some, length-phrase-text}
 use Rattle.address_pieces.specs.AddressField.{rewrittenField, fieldBy, addressField}
 
 either-le : (b : Bool) (x y : List Segment) (n : ℕ) → length (rendered x) ≤ n → length (rendered y) ≤ n → length (rendered (cond b x y)) ≤ n
@@ -138,9 +139,9 @@ named-enough s h =
     cond-has (Enough s) (ltb 0 address) (front Address address) (cond (ltb 0 phrase) (front Phrase phrase) stray)
     (λ t. let a = address-least s (ltb-yes t) in record { some = ltb-yes t; bytes = front-length address 3 s (a .0) (omega (arith, a .0, a .1)) })
     (λ t.
-        cond-has (Enough s) (ltb 0 phrase) (front Phrase phrase) stray
-        (λ u. record { some = ltb-yes u; bytes = front-length phrase 1 s (ltb-yes u) h })
-        (λ u. stray-enough s h))
+    cond-has (Enough s) (ltb 0 phrase) (front Phrase phrase) stray
+    (λ u. record { some = ltb-yes u; bytes = front-length phrase 1 s (ltb-yes u) h })
+    (λ u. stray-enough s h))
 
 alternative-enough : (s : List ℕ) (a b : ℕ) → 0 < length s → Enough s (alternativeAt s a b)
 unfolding alternativeAt
@@ -164,12 +165,12 @@ angled-enough s h =
     cond-has (Enough s) (eqb size 0) stray (cond (eqb (getD s end 0) 62) (front (Angled start size) (end + 1)) (alternativeAt s start end))
     (λ t. stray-enough s h)
     (λ t.
-        cond-has (Enough s) (eqb (getD s end 0) 62) (front (Angled start size) (end + 1)) (alternativeAt s start end)
-        (λ u.
-            let three = address-least (drop start s) (omega (arith, eqb-no {a = size} {b = 0} t)) in
-            let inside : end < length s = byte-there s end 61 (eqb→eq (getD s end 0) 62 u) in
-            record { some = omega arith; bytes = front-length (end + 1) 5 s (omega (arith, three .0)) (omega (arith, three .0)) })
-        (λ u. alternative-enough s start end h))
+    cond-has (Enough s) (eqb (getD s end 0) 62) (front (Angled start size) (end + 1)) (alternativeAt s start end)
+    (λ u.
+    let three = address-least (drop start s) (omega (arith, eqb-no {a = size} {b = 0} t)) in
+    let inside : end < length s = byte-there s end 61 (eqb→eq (getD s end 0) 62 u) in
+    record { some = omega arith; bytes = front-length (end + 1) 5 s (omega (arith, three .0)) (omega (arith, three .0)) })
+    (λ u. alternative-enough s start end h))
 
 part-enough : (s : List ℕ) → 0 < length s → Enough s (partAt s)
 unfolding partAt

@@ -19,6 +19,7 @@ use Rattle.encoded_word.specs.Row.{row, bounded}
 use Rattle.encoded_word.specs.StreamLaws.{bounded-short}
 use Rattle.encoded_word.specs.Segments.{Segment, bytesOf, rendered}
 use Rattle.encoded_word.specs.Segments.Segment.{raw, words}
+use Rattle.encoded_word.specs.SegmentsLaws.{rendered-append}
 use Rattle.address_list.specs.Words.{wordLen}
 use Rattle.address_list.specs.Parts.{Part, partsFrom, partsOf}
 use Rattle.address_list.specs.PartsLaws.{TookFrom, innerEnd, parts-step, parts-end}
@@ -28,11 +29,6 @@ use Rattle.address_list.specs.declared.Kind.the-variants.{Blank, Comma, Colon, 
 use Rattle.address_pieces.specs.Pieces.{piece, wordSize, wordsFrom, wordsOf, kept, escapes, unquotedFrom, unquoted, afterSpaces, joinedBySpaces, phraseText, phrasePieces, removed, inAngles, addressPieces, pieces, piecesOf}
 
 -- ---- rendered segments
-
-pub rendered-append : (a b : List Segment) → rendered (a ++ b) ≡ rendered a ++ rendered b
-unfolding rendered
-rendered-append [] b = refl
-rendered-append (s ∷ a) b = rw (rendered-append a b, append-assoc)
 
 pub rendered-one : (s : Segment) → rendered (s ∷ []) ≡ bytesOf s
 unfolding rendered

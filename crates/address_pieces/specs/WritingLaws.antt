@@ -10,6 +10,7 @@ use Rattle.buffer.specs.BufferLaws.{appended-from, appended-of, appended-then, 
 use Rattle.header.specs.Lines.{nameLen}
 use Rattle.header.specs.Fields.{nameOf, textOf}
 use Rattle.encoded_word.specs.Row.{row}
+use Rattle.encoded_word.specs.SegmentsLaws.{rendered-append}
 use Rattle.encoded_word.specs.Segments.{rendered, bytesOf}
 use Rattle.field.specs.Field.{encodedField, boundedField}
 use Rattle.field.specs.FieldLaws.{bounded-field, name-part, length-name, length-encoded}
@@ -19,7 +20,7 @@ use Rattle.address_list.specs.Table.{examined}
 use Rattle.address_list.specs.declared.Examined.{Examined}
 use Rattle.address_list.specs.declared.Examined.the-variants.{DoesNotFit, Kept, Changed}
 use Rattle.address_pieces.specs.Pieces.{piecesOf, phraseText}
-use Rattle.address_pieces.specs.PiecesLaws.{rendered-append, rendered-one, length-phrase-text}
+use Rattle.address_pieces.specs.PiecesLaws.{rendered-one, length-phrase-text}
 use Rattle.address_pieces.specs.AddressField.{rewrittenField, fieldBy, addressField}
 use Rattle.address_pieces.specs.LengthLaws.{rewritten-le}
 

@@ -181,11 +181,11 @@ length-onwards left (c ∷ cs) l h =
     let size = length-append (gap left (cost c) ++ spell c) (onwards 63 next cs) in
     by-test (leb (cost c) left)
     (λ t.
-        let fits : cost c ≤ left = leb-yes t in
-        omega (arith, more, size, length-append (gap left (cost c)) (spell c), length-gap-here left (cost c) fits, left-here left (cost c) 63 fits, length-spell c, length-append c (joined cs)))
+    let fits : cost c ≤ left = leb-yes t in
+    omega (arith, more, size, length-append (gap left (cost c)) (spell c), length-gap-here left (cost c) fits, left-here left (cost c) 63 fits, length-spell c, length-append c (joined cs)))
     (λ t.
-        let full : left < cost c = leb-no t in
-        omega (arith, more, size, small, length-append (gap left (cost c)) (spell c), length-gap-next left (cost c) full, left-next left (cost c) 63 full, length-spell c, length-append c (joined cs)))
+    let full : left < cost c = leb-no t in
+    omega (arith, more, size, small, length-append (gap left (cost c)) (spell c), length-gap-next left (cost c) full, left-next left (cost c) 63 full, length-spell c, length-append c (joined cs)))
 
 -- a row takes at most 5 bytes for each byte of its text, and 15 more
 pub length-row-le : (text : List ℕ) → length (rowIn 63 text) ≤ 15 + 5 * length text

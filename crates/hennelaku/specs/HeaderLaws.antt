@@ -12,42 +12,33 @@ use Rattle.buffer.specs.BufferLaws.{wrote-nothing, appended-of, reached-start, 
 use Rattle.utf8.specs.Byte.{isAscii}
 use Rattle.utf8.specs.Lists.{all, joined, cond-has, true-yes}
 use Rattle.letter_case.specs.LetterCase.{bytes}
-use Rattle.encoded_word.specs.StreamLaws.{length-row-le}
 use Rattle.encoded_word.specs.Segments.{Segment, rendered}
 use Rattle.encoded_word.specs.SegmentsLaws.{rendered-append}
-use Rattle.header.specs.Lines.{nameLen}
+use Rattle.header.specs.declared.Lines.the-variants.{WellFormed}
+use Rattle.header.specs.Lines.{nameLen, linesOf}
+use Rattle.header.specs.FieldShape.{Shaped, Each}
+use Rattle.header.specs.FieldShapeLaws.{fields-shaped}
 use Rattle.header.specs.Fields.{fieldLen, fieldsAfter, fieldsOf, nameOf, valueOf, textOf}
 use Rattle.header.specs.FieldLaws.{fields-nil, fields-next, fields-joined}
 use Rattle.header.specs.AsciiFields.{AsciiFields, value-ascii}
 use Rattle.header_name.specs.declared.Kind.{Kind}
 use Rattle.header_name.specs.declared.Kind.the-variants.{Address, PlainText, Held, Other}
 use Rattle.header_name.specs.Names.{kindOf}
-use Rattle.field.specs.Field.{prefix, encodedField, kindSegments, fieldSegments, headerSegments, boundedField}
-use Rattle.field.specs.FieldLaws.{bounded-field, name-part}
+use Rattle.field.specs.Field.{encodedField, kindSegments, fieldSegments, headerSegments, boundedField}
+use Rattle.field.specs.FieldLaws.{bounded-field, name-part, length-name, length-encoded, length-shaped}
 use Rattle.field.specs.FieldSound.{field-copied}
 use Rattle.field.specs.TextLaws.{length-text}
 use Rattle.address_pieces.specs.AddressField.{addressField}
-use Rattle.address_pieces.specs.LengthLaws.{length-address-field}
+use Rattle.address_pieces.specs.LengthLaws.{length-address-field, shaped-address-field}
 
 -- ---- how long what is written for a field can be
-
-length-prefix : (downgraded : Bool) → length (prefix downgraded) ≤ 11
-unfolding prefix bytes
-length-prefix true = omega arith
-length-prefix false = omega arith
-
-length-encoded : (downgraded : Bool) (field : List ℕ) → length (rendered (encodedField downgraded field)) ≤ 128 * length field + 128
-unfolding encodedField rendered nameOf
-length-encoded downgraded field =
-    simp length-append
-    (omega (arith, length-prefix downgraded, length-row-le (textOf field), length-text field, length-take (nameLen field) field))
 
 length-kind : (kind : Kind) (field : List ℕ) → length (rendered (kindSegments addressField kind field)) ≤ 128 * length field + 128
 unfolding rendered
 length-kind Address field = length-address-field field
-length-kind PlainText field = length-encoded false field
+length-kind PlainText field = omega (arith, length-encoded false field, length-name field, length-text field)
 length-kind Held field = omega arith
-length-kind Other field = length-encoded true field
+length-kind Other field = omega (arith, length-encoded true field, length-name field, length-text field)
 
 length-field : (field : List ℕ) → length (rendered (fieldSegments addressField field)) ≤ 128 * length field + 128
 unfolding fieldSegments rendered
@@ -79,6 +70,40 @@ length-fields (field ∷ fields) =
 pub length-header : (h : List ℕ) → length (rendered (headerSegments addressField h)) ≤ 256 * length h
 unfolding headerSegments fieldsOf
 length-header h = omega (arith, length-fields (fieldsOf h), fields-few 0 h, ap length (fields-joined h))
+
+-- ---- the same of a well-formed header
+
+shaped-kind : (kind : Kind) {field : List ℕ} → Shaped field → length (rendered (kindSegments addressField kind field)) ≤ 30 * length field
+unfolding rendered
+shaped-kind Address s = shaped-address-field s
+shaped-kind PlainText {field} s = omega (arith, length-encoded false field, length-shaped s)
+shaped-kind Held s = omega arith
+shaped-kind Other {field} s = omega (arith, length-encoded true field, length-shaped s)
+
+shaped-field : {field : List ℕ} → Shaped field → length (rendered (fieldSegments addressField field)) ≤ 30 * length field
+unfolding fieldSegments rendered
+shaped-field {field} s =
+    cond-has (λ (ss : List Segment). length (rendered ss) ≤ 30 * length field) (all isAscii (valueOf field)) (raw-field field)
+    (kindSegments addressField (kindOf (nameOf field)) field)
+    (λ t. rw append-nil (omega arith))
+    (λ t. shaped-kind (kindOf (nameOf field)) s)
+  where
+    raw-field : List ℕ → List Segment
+    raw-field f = Segment.raw f ∷ []
+
+shaped-fields : (fields : List (List ℕ)) → Each Shaped fields → length (rendered (joined (map (fieldSegments addressField) fields))) ≤ 30 * length (joined fields)
+unfolding rendered
+shaped-fields [] s = omega arith
+shaped-fields (field ∷ fields) s =
+    let one = rendered (fieldSegments addressField field) in
+    let more = rendered (joined (map (fieldSegments addressField) fields)) in
+    rw (rendered-append (fieldSegments addressField field) (joined (map (fieldSegments addressField) fields)), length-append one more, length-append field (joined fields))
+    (omega (arith, shaped-field (s .0), shaped-fields fields (s .1)))
+
+-- no more than 30 bytes for one
+pub header-le : (h : List ℕ) → linesOf h ≡ WellFormed → length (rendered (headerSegments addressField h)) ≤ 30 * length h
+unfolding headerSegments
+header-le h w = omega (arith, shaped-fields (fieldsOf h) (fields-shaped h w), ap length (fields-joined h))
 
 -- ---- the writing of a field
 

@@ -12,7 +12,7 @@ use Rattle.encoded_word.specs.Segments.{rendered}
 use Rattle.envelope.specs.LengthLaws.{wrote-of}
 use Rattle.hennelaku.specs.OutgoingHeader.{newField}
 
-pub length-new-field : (name text : List ℕ) → length (rendered (newField name text)) ≤ length name + 18 * length text + 17
+pub length-new-field : (name text : List ℕ) → length (rendered (newField name text)) ≤ length name + 5 * length text + 17
 unfolding newField rendered
 length-new-field name [] = omega arith
 length-new-field name (b ∷ text) = simp length-append (omega (arith, length-row-le (b ∷ text)))

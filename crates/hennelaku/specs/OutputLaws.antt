@@ -1,9 +1,10 @@
 -- Laws of the outcome where the input is accepted: measured, then written. Assumes nothing.
 use mathlib.Core.Path.{_≡_, refl, sym, ap, _∙_}
 use mathlib.Core.List.{List, [], _∷_, _++_}
-use Prim.Native.Nat.{ℕ, _≤_, _<_, min}
+use Prim.Native.Nat.{ℕ, _+_, _*_, _≤_, _<_, min}
 use native.Mathlib.Omega.{arith}
-use lib.ListN.{length}
+use native.Mathlib.Nat.{not-suc-le-zero}
+use lib.ListN.{length, length-append}
 use borrow.Author.Tests.{lt-ltb, le-ltb}
 use Rattle.buffer.specs.Buffer.{Wrote, Appended, AppendedCapped}
 use Rattle.buffer.specs.BufferLaws.{appended-of, appended-then, wrote-from}
@@ -17,6 +18,8 @@ use Rattle.envelope.specs.Envelope.{EnvelopeChecked, checked, entries, rcptStar
 use Rattle.envelope.specs.WrittenLaws.{stored}
 use Rattle.envelope.specs.LengthLaws.{written-fits, wrote-of}
 use Rattle.envelope.specs.ReplacementLaws.{mail-replacement-short, rcpt-replacement-short}
+use Rattle.header.specs.declared.Lines.{Lines}
+use Rattle.header.specs.declared.Lines.the-variants.{WellFormed, Malformed}
 use Rattle.header.specs.Lines.{linesOf}
 use Rattle.header.specs.Fields.{heldOf}
 use Rattle.field.specs.Field.{headerSegments}
@@ -29,6 +32,7 @@ use Rattle.hennelaku.specs.declared.Answer.{Answer}
 use Rattle.hennelaku.specs.OutgoingHeader.{newField, newFields, outgoingSegments, outgoingHeader}
 use Rattle.hennelaku.specs.Outcome.{over, ofEnvelope, ofLines, ofOrcpt, ofHeld, firstOf, verdict, outcomeOf, outcome, left}
 use Rattle.hennelaku.specs.OutcomeLaws.{RefusedBy}
+use Rattle.hennelaku.specs.HeaderLaws.{header-le}
 use Rattle.hennelaku.specs.NewFieldLaws.{length-new-field}
 
 -- ---- refusals
@@ -90,6 +94,14 @@ first-accepted (Refuse r ∷ a) b k = absurd (let z : _≡_ {A = ℕ} 0 1 = cc i
 pub record Accepted (e h : List ℕ) : Type 0 where
   pub content : firstOf (ofLines (linesOf h) ∷ ofOrcpt (orcptLine e) ∷ ofHeld (heldOf h) ∷ []) ≡ Accept
 
+pub accepted-lines : {e h : List ℕ} → Accepted e h → linesOf h ≡ WellFormed
+unfolding firstOf ofLines
+accepted-lines {e} {h} ok = go (linesOf h) refl (ok .content)
+  where
+    go : (l : Lines) → linesOf h ≡ l → firstOf (ofLines l ∷ ofOrcpt (orcptLine e) ∷ ofHeld (heldOf h) ∷ []) ≡ Accept → linesOf h ≡ WellFormed
+    go WellFormed q k = q
+    go (Malformed line at) q k = absurd (let z : _≡_ {A = ℕ} 0 1 = cc in omega arith)
+
 -- ---- the header, by the texts of its new first fields
 
 unfoldable pub headerOf : List ℕ → List ℕ → List ℕ → List ℕ
@@ -101,6 +113,24 @@ pub record Short (mail rcpt h : List ℕ) : Type 0 where
   pub of-mail : length mail ≤ 2048
   pub of-rcpt : length rcpt ≤ 2048
   pub of-header : length h ≤ 32768
+
+header-of-le : {mail rcpt h : List ℕ} → Short mail rcpt h → linesOf h ≡ WellFormed → length (headerOf mail rcpt h) ≤ 30 * length h + 20600
+unfolding headerOf bytes
+header-of-le {mail} {rcpt} {h} s w =
+    let first = newField (bytes "Downgraded-Mail-From:") mail in
+    let second = newField (bytes "Downgraded-Rcpt-To:") rcpt in
+    omega (
+      arith,
+      ap length (rendered-append (first ++ second) (headerSegments addressField h)),
+      length-append (rendered (first ++ second)) (rendered (headerSegments addressField h)),
+      ap length (rendered-append first second),
+      length-append (rendered first) (rendered second),
+      length-new-field (bytes "Downgraded-Mail-From:") mail,
+      length-new-field (bytes "Downgraded-Rcpt-To:") rcpt,
+      header-le h w,
+      s .of-mail,
+      s .of-rcpt,
+    )
 
 module _ {mail rcpt h : List ℕ} (s : Short mail rcpt h) {before mid rest : List ℕ} {n m : ℕ}
     (a : AppendedCapped (rendered (newField (bytes "Downgraded-Mail-From:") mail)) 0 before mid n)
@@ -129,6 +159,23 @@ module _ {mail rcpt h : List ℕ} (s : Short mail rcpt h) {before mid rest : Lis
       wrote-from
       (rw (rendered-append (newField (bytes "Downgraded-Mail-From:") mail ++ newField (bytes "Downgraded-Rcpt-To:") rcpt) (headerSegments addressField h), rendered-append (newField (bytes "Downgraded-Mail-From:") mail) (newField (bytes "Downgraded-Rcpt-To:") rcpt))
       all)
+
+-- ---- room
+
+-- r tells whether so many bytes fit a room: where r fits it they do, else r is how many they are.
+pub record Needed (size room r : ℕ) : Type 0 where
+  pub enough : r ≤ room → size ≤ room
+  pub exact : room < r → r ≡ size
+
+pub needed-size : {size room r : ℕ} → r ≡ size → Needed size room r
+needed-size e = record { enough = λ k. rw e at k; exact = λ k. e }
+
+-- a room that holds every outgoing header of a well-formed header of this length
+pub ample : {mail rcpt h : List ℕ} {room : ℕ} → Short mail rcpt h → linesOf h ≡ WellFormed → 30 * length h + 20600 ≤ room → Needed (length (headerOf mail rcpt h)) room 0
+ample {mail} {rcpt} {h} {room} s w k = record { enough = λ z. fits; exact = λ z. absurd (not-suc-le-zero z) }
+  where
+    fits : length (headerOf mail rcpt h) ≤ room
+    fits = omega (arith, header-of-le s w)
 
 -- these are the texts of the new first fields
 pub record Texts (e mail rcpt : List ℕ) : Type 0 where
@@ -198,25 +245,25 @@ module _ {e h array : List ℕ} {count : ℕ} (r : Ready e h array count) where
     envelope-needs {n} {a} q k f =
         refused-left e h b c (past-content ∙ rw (over-yes (length b) (length (written e)) (EnvelopeNeeds (length (written e))) (rw q at k))) (rw q at f)
 
-    pub header-needs : {mail rcpt : List ℕ} {n m : ℕ} {a : Answer} → Texts e mail rcpt → n ≡ length (written e) → n ≤ length b → m ≡ length (headerOf mail rcpt h) → length c < m
+    pub header-needs : {mail rcpt : List ℕ} {n m : ℕ} {a : Answer} → Texts e mail rcpt → n ≡ length (written e) → n ≤ length b → Needed (length (headerOf mail rcpt h)) (length c) m → length c < m
         → RefusedBy (HeaderNeeds m) a → left a b c ≡ outcome e h b c
     unfolding firstOf
     header-needs {mail} {rcpt} {n} {m} {a} t q k d l f =
-        let p : m ≡ length (outgoingHeader e h) = d ∙ ap length (header-of t h) in
+        let p : m ≡ length (outgoingHeader e h) = d .exact l ∙ ap length (header-of t h) in
         refused-left e h b c
         (past-content
         ∙ rw (over-no (length b) (length (written e)) (EnvelopeNeeds (length (written e))) (rw q at k), over-yes (length c) (length (outgoingHeader e h)) (HeaderNeeds (length (outgoingHeader e h))) (rw p at l)))
         (rw p at f)
 
     -- both fit
-    pub downgraded : {mail rcpt : List ℕ} {n m : ℕ} {b′ c′ : List ℕ} {a : Answer} → Texts e mail rcpt → n ≡ length (written e) → n ≤ length b → m ≡ length (headerOf mail rcpt h) → m ≤ length c
+    pub downgraded : {mail rcpt : List ℕ} {n m : ℕ} {b′ c′ : List ℕ} {a : Answer} → Texts e mail rcpt → n ≡ length (written e) → n ≤ length b → Needed (length (headerOf mail rcpt h)) (length c) m → m ≤ length c
         → a .number ≡ 0 → a .place ≡ 0 → Wrote (written e) b b′ (a .«envelope_len») → Wrote (headerOf mail rcpt h) c c′ (a .«header_len»)
         → left a b′ c′ ≡ outcome e h b c
     unfolding firstOf outcome outcomeOf
     downgraded {mail} {rcpt} {n} {m} {b′} {c′} {a} t q k d l x y v u =
-        let p : m ≡ length (outgoingHeader e h) = d ∙ ap length (header-of t h) in
+        let p : length (outgoingHeader e h) ≤ length c = rw (header-of t h) at (d .enough l) in
         let w : Wrote (outgoingHeader e h) c c′ (a .«header_len») = rw (header-of t h) at u in
         let fine : verdict e h (length b) (length c) ≡ Accept =
         past-content
-        ∙ rw (over-no (length b) (length (written e)) (EnvelopeNeeds (length (written e))) (rw q at k), over-no (length c) (length (outgoingHeader e h)) (HeaderNeeds (length (outgoingHeader e h))) (rw p at l)) in
+        ∙ rw (over-no (length b) (length (written e)) (EnvelopeNeeds (length (written e))) (rw q at k), over-no (length c) (length (outgoingHeader e h)) (HeaderNeeds (length (outgoingHeader e h))) p) in
         rw (fine, x, y, v .size, w .size, v .bytes, w .bytes)

@@ -4,7 +4,9 @@ ghost use lib.ListN.{length};
 ghost use Rattle.buffer.specs.Buffer.{Wrote};
 ghost use Rattle.envelope.specs.Envelope.{written};
 ghost use Rattle.hennelaku.specs.Outcome.{left, outcome};
-ghost use Rattle.hennelaku.specs.OutputLaws.{Short, headerOf, Ready, Accepted, Texts};
+ghost use Rattle.header.specs.declared.Lines.the-variants.{WellFormed};
+ghost use Rattle.header.specs.Lines.{linesOf};
+ghost use Rattle.hennelaku.specs.OutputLaws.{Short, headerOf, Needed, Ready, Accepted, Texts};
 use crate::Answer;
 use crate::Refusal;
 use crate::fields::add_fields;
@@ -33,6 +35,18 @@ fn header_len(mail: &[u8], rcpt: &[u8], header: &[u8]) -> usize
     put_header(&mut none, mail, rcpt, header)
 }
 
+// The length of the outgoing header; or 0 where the room holds every outgoing header of a header of this length, which then need
+// not be measured.
+fn header_needs(mail: &[u8], rcpt: &[u8], header: &[u8], room: usize) -> usize
+    requires { ⌜ Short (now mail) (now rcpt) (now header) × (linesOf (now header) ≡ WellFormed) ⌝ }
+    ensures { λ r. ⌜ Needed (length (headerOf (now (mail .entry)) (now (rcpt .entry)) (now (header .entry)))) room r ⌝ }
+{
+    if 30 * header.len() + 20600 <= room {
+        return 0;
+    }
+    header_len(mail, rcpt, header)
+}
+
 fn envelope_len(envelope: &[u8], header: &[u8], starts: &[usize; 100], count: usize) -> usize
     requires { ⌜ Ready (now envelope) (now header) (now starts) count ⌝ }
     ensures { λ r. ⌜ r ≡ length (written (now (envelope .entry))) ⌝ }
@@ -41,7 +55,7 @@ fn envelope_len(envelope: &[u8], header: &[u8], starts: &[usize; 100], count: us
     envelope::put(&mut none, envelope, starts, count)
 }
 
-// Writes both, or refuses where one does not fit. Nothing is written before both are measured.
+// Writes both, or refuses where one does not fit. Nothing is written before both are known to fit.
 fn fill_with(
     envelope: &[u8],
     header: &[u8],
@@ -59,7 +73,7 @@ fn fill_with(
     if envelope_buffer.len() < n {
         return refused(Refusal::EnvelopeNeeds(n));
     }
-    let m = header_len(mail, rcpt, header);
+    let m = header_needs(mail, rcpt, header, header_buffer.len());
     if header_buffer.len() < m {
         return refused(Refusal::HeaderNeeds(m));
     }
