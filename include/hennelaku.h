@@ -21,21 +21,23 @@ extern "C" {
 #define HENNELAKU_MAX_LINE 998         /* bytes of a line before its CRLF */
 
 /*
- * Buffers that always suffice (docs/BOUNDS.md has the reasoning).
+ * Buffers that always suffice.
  *
- * The outgoing envelope is never longer than the envelope. The outgoing header
- * has at most 18 bytes for each byte of the header, and 7,568 for the two
- * fields that may be put before it. So with
+ * The outgoing header has at most 30 bytes for each byte of the header, and
+ * 20,600 for the two fields that may be put before it; this is proved. The
+ * outgoing envelope is never longer than the envelope; this is worked out in
+ * docs/BOUNDS.md and tested. So with
  *
  *     envelope_room >= envelope_len   (or HENNELAKU_ENVELOPE_ROOM_MAX), and
  *     header_room >= HENNELAKU_HEADER_ROOM_FOR(header_len)
  *                                     (or HENNELAKU_HEADER_ROOM_MAX)
  *
- * the answers 7 and 8 are never given.
+ * the answers 7 and 8 are never given. A call with such a header buffer is also
+ * the fastest: the outgoing header is then not measured before it is written.
  */
 #define HENNELAKU_ENVELOPE_ROOM_MAX HENNELAKU_MAX_ENVELOPE
-#define HENNELAKU_HEADER_ROOM_FOR(header_len) (18 * (header_len) + 7568)
-#define HENNELAKU_HEADER_ROOM_MAX 600000
+#define HENNELAKU_HEADER_ROOM_FOR(header_len) (30 * (header_len) + 20600)
+#define HENNELAKU_HEADER_ROOM_MAX 1048576
 
 /*
  * Stack that one call uses at most, in bytes, whatever its input: no function

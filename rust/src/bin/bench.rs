@@ -97,8 +97,8 @@ fn compare(label: &str, header: &[u8]) {
     if !label.contains(&std::env::args().nth(1).unwrap_or_default()) {
         return;
     }
-    let mut buffers = Buffers { envelope: vec![0; 1000], header: vec![0; 600_000] };
-    let mut again = Buffers { envelope: vec![0; 1000], header: vec![0; 600_000] };
+    let mut buffers = Buffers { envelope: vec![0; 1000], header: vec![0; 1_048_576] };
+    let mut again = Buffers { envelope: vec![0; 1000], header: vec![0; 1_048_576] };
     let model = downgrade(ENVELOPE.as_bytes(), header, &mut buffers.envelope, &mut buffers.header);
     let other = proved::downgrade(ENVELOPE.as_bytes(), header, &mut again.envelope, &mut again.header);
     assert_eq!((model, model.number), (other, 0));
