@@ -121,14 +121,20 @@ fn whole_case(label: &[u8], n: usize, m: usize) {
 }
 
 // The envelope needs 54 bytes, the header 135.
-fn buffer_lengths() {
+fn long_enough_buffers() {
     whole_case(b"large buffers", 256, 1024);
     whole_case(b"exact buffers", 54, 135);
     whole_case(b"header buffer of 135", 256, 135);
-    whole_case(b"header buffer of 134", 256, 134);
     whole_case(b"envelope buffer of 54", 54, 1024);
+}
+
+fn short_buffers() {
+    whole_case(b"header buffer of 134", 256, 134);
     whole_case(b"envelope buffer of 53", 53, 1024);
     whole_case(b"both one byte short", 53, 134);
+}
+
+fn empty_buffers() {
     whole_case(b"both buffers empty", 0, 0);
     whole_case(b"header buffer empty", 54, 0);
     whole_case(b"envelope buffer empty", 0, 135);
@@ -166,9 +172,12 @@ fn show_envelope(label: &[u8], envelope: &[u8]) {
     show(label, envelope, b"X-Note: ok\r\n");
 }
 
-fn envelope_refusals() {
+fn missing_lines() {
     show_envelope(b"empty envelope", b"");
     show_envelope(b"no RCPT", b"MAIL FROM:<a@x>\r\n");
+}
+
+fn paths_alone() {
     show_envelope(
         b"non-ASCII path of MAIL alone",
         b"MAIL FROM:<\xC3\xA9@x>\r\nRCPT TO:<b@x>\r\n",
@@ -177,6 +186,9 @@ fn envelope_refusals() {
         b"non-ASCII path of RCPT alone",
         b"MAIL FROM:<a@x>\r\nRCPT TO:<\xC3\xA9@x>\r\n",
     );
+}
+
+fn bad_alternatives() {
     show_envelope(
         b"alternative beside an ASCII path of MAIL",
         b"MAIL FROM:<a@x> ALT-ADDRESS=e@x\r\nRCPT TO:<b@x>\r\n",
@@ -196,13 +208,16 @@ fn show_header(label: &[u8], header: &[u8]) {
     show(label, b"MAIL FROM:<a@x>\r\nRCPT TO:<b@x>\r\n", header);
 }
 
-fn header_refusals() {
+fn malformed_headers() {
     show_header(
         b"header line without a colon",
         b"X-Note: a\r\n b\r\nSubject\r\n",
     );
     show_header(b"header with an empty line", b"X-Note: a\r\n\r\n");
     show_header(b"header without CRLF", b"X-Note: a");
+}
+
+fn held_fields() {
     show_header(
         b"held field",
         b"X-Note: a\r\n b\r\nDate: c\r\n \xC3\xA9\r\n",
@@ -211,6 +226,9 @@ fn header_refusals() {
         b"two held fields",
         b"DATE: \xC3\xA9\r\nKeywords: \xC3\xA9\r\n",
     );
+}
+
+fn orcpts() {
     show_envelope(
         b"ORCPT with e acute",
         b"MAIL FROM:<a@x>\r\nRCPT TO:<b@x> ORCPT=utf-8;\xC3\xA9@x\r\n",
@@ -221,8 +239,8 @@ fn header_refusals() {
     );
 }
 
-// Two refusals each: the first of the paper's order is given, though its line or the other's field comes later.
-fn orders() {
+// A fault of the envelope comes before one of the header.
+fn envelope_first() {
     show(b"2 at 1 and 5 at 0", b"MAIL FROM:<a@x>\r\n", b"Subject\r\n");
     show(
         b"3 at 1 and 5 at 0",
@@ -234,6 +252,10 @@ fn orders() {
         b"MAIL FROM:<a@x> ALT-ADDRESS=e@x\r\nRCPT\r\n",
         b"Subject\r\n",
     );
+}
+
+// Then a malformed header line, then an ORCPT, then a held field.
+fn header_lines_next() {
     show(
         b"5 at 2 and ORCPT at 1",
         b"MAIL FROM:<a@x>\r\nRCPT TO:<b@x> ORCPT=\xC3\xA9\r\n",
@@ -250,8 +272,8 @@ fn orders() {
     );
 }
 
-// Refusals that come before that of a short buffer.
-fn orders_with_empty_buffers() {
+// All these come before a buffer that is too short.
+fn six_before_short_buffers() {
     show_lent(
         b"ORCPT at 1 and both buffers empty",
         b"MAIL FROM:<a@x>\r\nRCPT TO:<b@x> ORCPT=\xC3\xA9\r\n",
@@ -266,6 +288,9 @@ fn orders_with_empty_buffers() {
         0,
         0,
     );
+}
+
+fn five_and_two_before_short_buffers() {
     show_lent(
         b"5 at 1 and both buffers empty",
         b"MAIL FROM:<a@x>\r\nRCPT TO:<b@x>\r\n",
@@ -282,7 +307,7 @@ fn orders_with_empty_buffers() {
     );
 }
 
-fn recipients() {
+fn one_recipient() {
     show_envelope(
         b"one recipient replaced",
         b"MAIL FROM:<a@x>\r\nRCPT TO:<\xC3\xA9@y> NOTIFY=NEVER ALT-ADDRESS=e@y\r\n",
@@ -291,6 +316,9 @@ fn recipients() {
         b"sender and one recipient replaced",
         b"MAIL FROM:<\xC3\xA9@x> ALT-ADDRESS=e@x\r\nRCPT TO:<\xC3\xA9@y> ALT-ADDRESS=e@y\r\n",
     );
+}
+
+fn two_recipients() {
     show_envelope(
         b"two recipients replaced",
         b"MAIL FROM:<a@x>\r\nRCPT TO:<\xC3\xA9@y> ALT-ADDRESS=e@y\r\nRCPT TO:<\xC3\xA9@z> ALT-ADDRESS=e@z\r\n",
@@ -305,7 +333,7 @@ fn recipients() {
     );
 }
 
-fn headers() {
+fn empty_headers() {
     show_header(b"empty header", b"");
     show_lent(
         b"empty header, header buffer empty",
@@ -319,6 +347,9 @@ fn headers() {
         b"MAIL FROM:<\xC3\xA9@x> ALT-ADDRESS=e@x\r\nRCPT TO:<b@x>\r\n",
         b"",
     );
+}
+
+fn address_fields() {
     show_header(b"address removed", b"To: \xC3\xA9@example.org\r\n");
     show_header(
         b"address replaced",
@@ -327,12 +358,22 @@ fn headers() {
 }
 
 fn main() {
-    buffer_lengths();
+    long_enough_buffers();
+    short_buffers();
+    empty_buffers();
     sizes();
-    envelope_refusals();
-    header_refusals();
-    orders();
-    orders_with_empty_buffers();
-    recipients();
-    headers();
+    missing_lines();
+    paths_alone();
+    bad_alternatives();
+    malformed_headers();
+    held_fields();
+    orcpts();
+    envelope_first();
+    header_lines_next();
+    six_before_short_buffers();
+    five_and_two_before_short_buffers();
+    one_recipient();
+    two_recipients();
+    empty_headers();
+    address_fields();
 }
