@@ -1,5 +1,7 @@
 // Prints what the downgrade call answers: for each case a label, number, place and both lengths, whether the buffers are as they
 // were (after a refusal) or are so past the lengths (after 0), and what was written.
+ghost use Prim.Native.Nat.{_≤_};
+ghost use lib.ListN.{length};
 use libc::STDOUT_FILENO;
 
 fn say(words: &[u8]) {
@@ -82,7 +84,7 @@ fn call(
 }
 
 // A case with buffers of n and m bytes.
-fn show_lent(label: &[u8], envelope: &[u8], header: &[u8], n: usize, m: usize) {
+fn show(label: &[u8], envelope: &[u8], header: &[u8], n: usize, m: usize) {
     let mut envelope_space = [b'#'; 256];
     let mut header_space = [b'#'; 1024];
     let answer = call(
@@ -104,14 +106,9 @@ fn show_lent(label: &[u8], envelope: &[u8], header: &[u8], n: usize, m: usize) {
     }
 }
 
-// A case with buffers that are large enough.
-fn show(label: &[u8], envelope: &[u8], header: &[u8]) {
-    show_lent(label, envelope, header, 256, 1024);
-}
-
 // The paper's whole case, with buffers of n and m bytes.
 fn whole_case(label: &[u8], n: usize, m: usize) {
-    show_lent(
+    show(
         label,
         b"MAIL FROM:<\xC3\xA9@example.org> ALT-ADDRESS=e+2Bx@example.org\r\nRCPT TO:<b@example.net>\r\n",
         b"Subject: \xC3\xA9\r\nX-Note: ok\r\n",
@@ -121,14 +118,20 @@ fn whole_case(label: &[u8], n: usize, m: usize) {
 }
 
 // The envelope needs 54 bytes, the header 135.
-fn buffer_lengths() {
+fn long_enough_buffers() {
     whole_case(b"large buffers", 256, 1024);
     whole_case(b"exact buffers", 54, 135);
     whole_case(b"header buffer of 135", 256, 135);
-    whole_case(b"header buffer of 134", 256, 134);
     whole_case(b"envelope buffer of 54", 54, 1024);
+}
+
+fn short_buffers() {
+    whole_case(b"header buffer of 134", 256, 134);
     whole_case(b"envelope buffer of 53", 53, 1024);
     whole_case(b"both one byte short", 53, 134);
+}
+
+fn empty_buffers() {
     whole_case(b"both buffers empty", 0, 0);
     whole_case(b"header buffer empty", 54, 0);
     whole_case(b"envelope buffer empty", 0, 135);
@@ -142,6 +145,8 @@ fn letters(label: &[u8], n: usize, m: usize) {
         label,
         line::part(&envelope, 0, n),
         line::part(&header, 0, m),
+        256,
+        1024,
     );
 }
 
@@ -161,173 +166,207 @@ fn sizes() {
     letters(b"header of 32,769 bytes, empty envelope", 0, 32769);
 }
 
-// A case of an envelope, with a header of one ASCII field.
-fn show_envelope(label: &[u8], envelope: &[u8]) {
-    show(label, envelope, b"X-Note: ok\r\n");
+// Where the next byte FE from `at` stands; the end where there is none.
+fn next_mark(s: &[u8], at: usize) -> usize
+    requires { ⌜ at ≤ length (now s) ⌝ }
+    ensures { λ r. ⌜ (at ≤ r) × (r ≤ length (now (s .entry))) ⌝ }
+{
+    let mut i = at;
+    while i < s.len() {
+        if s[i] == 254 {
+            return i;
+        }
+        i += 1;
+    }
+    i
+}
+
+// Cases one after another, with buffers of n and m bytes: of each the label, the envelope and the header, and after each of these
+// the byte FE, which no UTF-8 holds.
+fn show_all(n: usize, m: usize, cases: &[u8]) {
+    let mut at = 0;
+    while at < cases.len() {
+        let label_end = next_mark(cases, at);
+        let envelope = buffer::clip(label_end + 1, cases.len());
+        let envelope_end = next_mark(cases, envelope);
+        let header = buffer::clip(envelope_end + 1, cases.len());
+        let end = next_mark(cases, header);
+        show(
+            line::part(cases, at, label_end),
+            line::part(cases, envelope, envelope_end),
+            line::part(cases, header, end),
+            n,
+            m,
+        );
+        at = end + 1;
+    }
 }
 
 fn envelope_refusals() {
-    show_envelope(b"empty envelope", b"");
-    show_envelope(b"no RCPT", b"MAIL FROM:<a@x>\r\n");
-    show_envelope(
-        b"non-ASCII path of MAIL alone",
-        b"MAIL FROM:<\xC3\xA9@x>\r\nRCPT TO:<b@x>\r\n",
+    show_all(
+        256,
+        1024,
+        b"\
+        empty envelope\xFE\
+        \xFE\
+        X-Note: ok\r\n\xFE\
+        no RCPT\xFE\
+        MAIL FROM:<a@x>\r\n\xFE\
+        X-Note: ok\r\n\xFE\
+        non-ASCII path of MAIL alone\xFE\
+        MAIL FROM:<\xC3\xA9@x>\r\nRCPT TO:<b@x>\r\n\xFE\
+        X-Note: ok\r\n\xFE\
+        non-ASCII path of RCPT alone\xFE\
+        MAIL FROM:<a@x>\r\nRCPT TO:<\xC3\xA9@x>\r\n\xFE\
+        X-Note: ok\r\n\xFE\
+        alternative beside an ASCII path of MAIL\xFE\
+        MAIL FROM:<a@x> ALT-ADDRESS=e@x\r\nRCPT TO:<b@x>\r\n\xFE\
+        X-Note: ok\r\n\xFE\
+        alternative beside an ASCII path of RCPT\xFE\
+        MAIL FROM:<a@x>\r\nRCPT TO:<b@x> ALT-ADDRESS=e@x\r\n\xFE\
+        X-Note: ok\r\n\xFE\
+        alternative with a line break\xFE\
+        MAIL FROM:<\xC3\xA9@x> ALT-ADDRESS=a+0D+0Ab@x\r\nRCPT TO:<b@x>\r\n\xFE\
+        X-Note: ok\r\n\xFE",
     );
-    show_envelope(
-        b"non-ASCII path of RCPT alone",
-        b"MAIL FROM:<a@x>\r\nRCPT TO:<\xC3\xA9@x>\r\n",
-    );
-    show_envelope(
-        b"alternative beside an ASCII path of MAIL",
-        b"MAIL FROM:<a@x> ALT-ADDRESS=e@x\r\nRCPT TO:<b@x>\r\n",
-    );
-    show_envelope(
-        b"alternative beside an ASCII path of RCPT",
-        b"MAIL FROM:<a@x>\r\nRCPT TO:<b@x> ALT-ADDRESS=e@x\r\n",
-    );
-    show_envelope(
-        b"alternative with a line break",
-        b"MAIL FROM:<\xC3\xA9@x> ALT-ADDRESS=a+0D+0Ab@x\r\nRCPT TO:<b@x>\r\n",
-    );
-}
-
-// A case of a header, with an ASCII envelope.
-fn show_header(label: &[u8], header: &[u8]) {
-    show(label, b"MAIL FROM:<a@x>\r\nRCPT TO:<b@x>\r\n", header);
 }
 
 fn header_refusals() {
-    show_header(
-        b"header line without a colon",
-        b"X-Note: a\r\n b\r\nSubject\r\n",
-    );
-    show_header(b"header with an empty line", b"X-Note: a\r\n\r\n");
-    show_header(b"header without CRLF", b"X-Note: a");
-    show_header(
-        b"held field",
-        b"X-Note: a\r\n b\r\nDate: c\r\n \xC3\xA9\r\n",
-    );
-    show_header(
-        b"two held fields",
-        b"DATE: \xC3\xA9\r\nKeywords: \xC3\xA9\r\n",
-    );
-    show_envelope(
-        b"ORCPT with e acute",
-        b"MAIL FROM:<a@x>\r\nRCPT TO:<b@x> ORCPT=utf-8;\xC3\xA9@x\r\n",
-    );
-    show_envelope(
-        b"ORCPT of the second RCPT",
-        b"MAIL FROM:<a@x>\r\nRCPT TO:<b@x>\r\nRCPT TO:<c@x> ORCPT=\xC3\xA9\r\n",
+    show_all(
+        256,
+        1024,
+        b"\
+        header line without a colon\xFE\
+        MAIL FROM:<a@x>\r\nRCPT TO:<b@x>\r\n\xFE\
+        X-Note: a\r\n b\r\nSubject\r\n\xFE\
+        header with an empty line\xFE\
+        MAIL FROM:<a@x>\r\nRCPT TO:<b@x>\r\n\xFE\
+        X-Note: a\r\n\r\n\xFE\
+        header without CRLF\xFE\
+        MAIL FROM:<a@x>\r\nRCPT TO:<b@x>\r\n\xFE\
+        X-Note: a\xFE\
+        held field\xFE\
+        MAIL FROM:<a@x>\r\nRCPT TO:<b@x>\r\n\xFE\
+        X-Note: a\r\n b\r\nDate: c\r\n \xC3\xA9\r\n\xFE\
+        two held fields\xFE\
+        MAIL FROM:<a@x>\r\nRCPT TO:<b@x>\r\n\xFE\
+        DATE: \xC3\xA9\r\nKeywords: \xC3\xA9\r\n\xFE\
+        ORCPT with e acute\xFE\
+        MAIL FROM:<a@x>\r\nRCPT TO:<b@x> ORCPT=utf-8;\xC3\xA9@x\r\n\xFE\
+        X-Note: ok\r\n\xFE\
+        ORCPT of the second RCPT\xFE\
+        MAIL FROM:<a@x>\r\nRCPT TO:<b@x>\r\nRCPT TO:<c@x> ORCPT=\xC3\xA9\r\n\xFE\
+        X-Note: ok\r\n\xFE",
     );
 }
 
-// Two refusals each: the first of the paper's order is given, though its line or the other's field comes later.
+// Two refusals each. One of the envelope comes first, then a malformed header line, then an ORCPT, then a held field.
 fn orders() {
-    show(b"2 at 1 and 5 at 0", b"MAIL FROM:<a@x>\r\n", b"Subject\r\n");
-    show(
-        b"3 at 1 and 5 at 0",
-        b"MAIL FROM:<a@x>\r\nRCPT TO:<\xC3\xA9@x>\r\n",
-        b"Subject\r\n",
-    );
-    show(
-        b"4 at 0, 2 at 1 and 5 at 0",
-        b"MAIL FROM:<a@x> ALT-ADDRESS=e@x\r\nRCPT\r\n",
-        b"Subject\r\n",
-    );
-    show(
-        b"5 at 2 and ORCPT at 1",
-        b"MAIL FROM:<a@x>\r\nRCPT TO:<b@x> ORCPT=\xC3\xA9\r\n",
-        b"X-Note: a\r\n b\r\nSubject\r\n",
-    );
-    show_header(
-        b"5 at 1 and held field at 0",
-        b"Date: \xC3\xA9\r\nSubject\r\n",
-    );
-    show(
-        b"ORCPT at 2 and held field at 0",
-        b"MAIL FROM:<a@x>\r\nRCPT TO:<b@x>\r\nRCPT TO:<c@x> ORCPT=\xC3\xA9\r\n",
-        b"Date: \xC3\xA9\r\n",
+    show_all(
+        256,
+        1024,
+        b"\
+        2 at 1 and 5 at 0\xFE\
+        MAIL FROM:<a@x>\r\n\xFE\
+        Subject\r\n\xFE\
+        3 at 1 and 5 at 0\xFE\
+        MAIL FROM:<a@x>\r\nRCPT TO:<\xC3\xA9@x>\r\n\xFE\
+        Subject\r\n\xFE\
+        4 at 0, 2 at 1 and 5 at 0\xFE\
+        MAIL FROM:<a@x> ALT-ADDRESS=e@x\r\nRCPT\r\n\xFE\
+        Subject\r\n\xFE\
+        5 at 2 and ORCPT at 1\xFE\
+        MAIL FROM:<a@x>\r\nRCPT TO:<b@x> ORCPT=\xC3\xA9\r\n\xFE\
+        X-Note: a\r\n b\r\nSubject\r\n\xFE\
+        5 at 1 and held field at 0\xFE\
+        MAIL FROM:<a@x>\r\nRCPT TO:<b@x>\r\n\xFE\
+        Date: \xC3\xA9\r\nSubject\r\n\xFE\
+        ORCPT at 2 and held field at 0\xFE\
+        MAIL FROM:<a@x>\r\nRCPT TO:<b@x>\r\nRCPT TO:<c@x> ORCPT=\xC3\xA9\r\n\xFE\
+        Date: \xC3\xA9\r\n\xFE",
     );
 }
 
-// Refusals that come before that of a short buffer.
+// All these come before a buffer that is too short.
 fn orders_with_empty_buffers() {
-    show_lent(
-        b"ORCPT at 1 and both buffers empty",
-        b"MAIL FROM:<a@x>\r\nRCPT TO:<b@x> ORCPT=\xC3\xA9\r\n",
-        b"X-Note: ok\r\n",
+    show_all(
         0,
         0,
-    );
-    show_lent(
-        b"held field at 1 and both buffers empty",
-        b"MAIL FROM:<a@x>\r\nRCPT TO:<b@x>\r\n",
-        b"X-Note: ok\r\nDate: \xC3\xA9\r\n",
-        0,
-        0,
-    );
-    show_lent(
-        b"5 at 1 and both buffers empty",
-        b"MAIL FROM:<a@x>\r\nRCPT TO:<b@x>\r\n",
-        b"X-Note: ok\r\nSubject\r\n",
-        0,
-        0,
-    );
-    show_lent(
-        b"2 at 0 and both buffers empty",
-        b"",
-        b"X-Note: ok\r\n",
-        0,
-        0,
+        b"\
+        ORCPT at 1 and both buffers empty\xFE\
+        MAIL FROM:<a@x>\r\nRCPT TO:<b@x> ORCPT=\xC3\xA9\r\n\xFE\
+        X-Note: ok\r\n\xFE\
+        held field at 1 and both buffers empty\xFE\
+        MAIL FROM:<a@x>\r\nRCPT TO:<b@x>\r\n\xFE\
+        X-Note: ok\r\nDate: \xC3\xA9\r\n\xFE\
+        5 at 1 and both buffers empty\xFE\
+        MAIL FROM:<a@x>\r\nRCPT TO:<b@x>\r\n\xFE\
+        X-Note: ok\r\nSubject\r\n\xFE\
+        2 at 0 and both buffers empty\xFE\
+        \xFE\
+        X-Note: ok\r\n\xFE",
     );
 }
 
 fn recipients() {
-    show_envelope(
-        b"one recipient replaced",
-        b"MAIL FROM:<a@x>\r\nRCPT TO:<\xC3\xA9@y> NOTIFY=NEVER ALT-ADDRESS=e@y\r\n",
-    );
-    show_envelope(
-        b"sender and one recipient replaced",
-        b"MAIL FROM:<\xC3\xA9@x> ALT-ADDRESS=e@x\r\nRCPT TO:<\xC3\xA9@y> ALT-ADDRESS=e@y\r\n",
-    );
-    show_envelope(
-        b"two recipients replaced",
-        b"MAIL FROM:<a@x>\r\nRCPT TO:<\xC3\xA9@y> ALT-ADDRESS=e@y\r\nRCPT TO:<\xC3\xA9@z> ALT-ADDRESS=e@z\r\n",
-    );
-    show_envelope(
-        b"sender and the same recipient twice replaced",
-        b"MAIL FROM:<\xC3\xA9@x> ALT-ADDRESS=e@x\r\nRCPT TO:<\xC3\xA9@y> ALT-ADDRESS=e@y\r\nRCPT TO:<\xC3\xA9@y> ALT-ADDRESS=e@y\r\n",
-    );
-    show_envelope(
-        b"first of two recipients replaced",
-        b"MAIL FROM:<>\r\nRCPT TO:<\xC3\xA9@y> ALT-ADDRESS=e@y\r\nRCPT TO:<Postmaster>\r\n",
+    show_all(
+        256,
+        1024,
+        b"\
+        one recipient replaced\xFE\
+        MAIL FROM:<a@x>\r\nRCPT TO:<\xC3\xA9@y> NOTIFY=NEVER ALT-ADDRESS=e@y\r\n\xFE\
+        X-Note: ok\r\n\xFE\
+        sender and one recipient replaced\xFE\
+        MAIL FROM:<\xC3\xA9@x> ALT-ADDRESS=e@x\r\nRCPT TO:<\xC3\xA9@y> ALT-ADDRESS=e@y\r\n\xFE\
+        X-Note: ok\r\n\xFE\
+        two recipients replaced\xFE\
+        MAIL FROM:<a@x>\r\nRCPT TO:<\xC3\xA9@y> ALT-ADDRESS=e@y\r\nRCPT TO:<\xC3\xA9@z> ALT-ADDRESS=e@z\r\n\xFE\
+        X-Note: ok\r\n\xFE\
+        sender and the same recipient twice replaced\xFE\
+        MAIL FROM:<\xC3\xA9@x> ALT-ADDRESS=e@x\r\nRCPT TO:<\xC3\xA9@y> ALT-ADDRESS=e@y\r\nRCPT TO:<\xC3\xA9@y> ALT-ADDRESS=e@y\r\n\xFE\
+        X-Note: ok\r\n\xFE\
+        first of two recipients replaced\xFE\
+        MAIL FROM:<>\r\nRCPT TO:<\xC3\xA9@y> ALT-ADDRESS=e@y\r\nRCPT TO:<Postmaster>\r\n\xFE\
+        X-Note: ok\r\n\xFE",
     );
 }
 
 fn headers() {
-    show_header(b"empty header", b"");
-    show_lent(
-        b"empty header, header buffer empty",
-        b"MAIL FROM:<a@x>\r\nRCPT TO:<b@x>\r\n",
-        b"",
+    show_all(
+        256,
+        1024,
+        b"\
+        empty header\xFE\
+        MAIL FROM:<a@x>\r\nRCPT TO:<b@x>\r\n\xFE\
+        \xFE\
+        empty header, sender replaced\xFE\
+        MAIL FROM:<\xC3\xA9@x> ALT-ADDRESS=e@x\r\nRCPT TO:<b@x>\r\n\xFE\
+        \xFE\
+        address removed\xFE\
+        MAIL FROM:<a@x>\r\nRCPT TO:<b@x>\r\n\xFE\
+        To: \xC3\xA9@example.org\r\n\xFE\
+        address replaced\xFE\
+        MAIL FROM:<a@x>\r\nRCPT TO:<b@x>\r\n\xFE\
+        Cc: a@x, \xC3\xA9 <\xC3\xA9@x <e@x>>\r\nDate: c\r\n\xFE",
+    );
+}
+
+// An empty header needs no buffer.
+fn empty_header_buffer() {
+    show_all(
         32,
         0,
-    );
-    show(
-        b"empty header, sender replaced",
-        b"MAIL FROM:<\xC3\xA9@x> ALT-ADDRESS=e@x\r\nRCPT TO:<b@x>\r\n",
-        b"",
-    );
-    show_header(b"address removed", b"To: \xC3\xA9@example.org\r\n");
-    show_header(
-        b"address replaced",
-        b"Cc: a@x, \xC3\xA9 <\xC3\xA9@x <e@x>>\r\nDate: c\r\n",
+        b"\
+        empty header, header buffer empty\xFE\
+        MAIL FROM:<a@x>\r\nRCPT TO:<b@x>\r\n\xFE\
+        \xFE",
     );
 }
 
 fn main() {
-    buffer_lengths();
+    long_enough_buffers();
+    short_buffers();
+    empty_buffers();
     sizes();
     envelope_refusals();
     header_refusals();
@@ -335,4 +374,5 @@ fn main() {
     orders_with_empty_buffers();
     recipients();
     headers();
+    empty_header_buffer();
 }
