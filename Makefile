@@ -35,7 +35,7 @@ run:
 lib: dist/libhennelaku.a dist/hennelaku.h
 
 # rt staticlib proves `hennelaku` and the crates under it, then compiles them to
-# one archive, which needs no other library.
+# one archive, which needs nothing but memcpy and memset.
 dist/libhennelaku.a: $(CODE)
 	@mkdir -p target dist
 	@rt staticlib hennelaku >target/lib.log 2>&1 || { cat target/lib.log; exit 1; }

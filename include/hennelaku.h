@@ -2,7 +2,7 @@
  * hennelaku.h - downgrade a mail envelope and header to ASCII by RFC 5504
  *
  * C99 or later, and C++. Link with libhennelaku.a (x86-64 Linux); it needs
- * nothing else.
+ * nothing but memcpy and memset of the C library.
  */
 #ifndef HENNELAKU_H
 #define HENNELAKU_H
@@ -40,9 +40,9 @@ extern "C" {
 #define HENNELAKU_HEADER_ROOM_MAX 1048576
 
 /*
- * Stack that one call uses at most, in bytes, whatever its input: no function
- * calls itself, and frames have a fixed size. `make -C relay stack` measures
- * it (about 105,000 bytes).
+ * Stack that one call uses at most, in bytes: no function calls itself, and
+ * frames have a fixed size. This is measured, not proved: about 105,000 bytes
+ * (`make -C relay stack`).
  */
 #define HENNELAKU_STACK 131072
 
@@ -74,7 +74,8 @@ enum hennelaku_number {
     /* A header line is malformed. place is the line of the header. */
     HENNELAKU_HEADER_LINE = 5,
     /* An ORCPT value holds non-ASCII: place is the line of the envelope. Or no
-     * ORCPT does, and a header field that must not be rewritten does: place is
+     * ORCPT does, and a held header field (Received, Date, Message-ID, ..;
+     * README.md, Limits) does: place is
      * the first line of that field in the header. Which of the two it is shows
      * in the envelope: its lines hold non-ASCII after the path only in an
      * ORCPT value. */
@@ -168,7 +169,7 @@ static inline const char *hennelaku_number_text(uint32_t number)
     case HENNELAKU_HEADER_LINE:
         return "a header line is malformed";
     case HENNELAKU_HELD:
-        return "an ORCPT or a field that must not be rewritten holds "
+        return "an ORCPT or a held header field holds "
                "non-ASCII";
     case HENNELAKU_ENVELOPE_ROOM:
         return "the outgoing envelope is longer than its buffer";

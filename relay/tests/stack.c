@@ -2,7 +2,7 @@
  * Measures the stack that calls use. Each input is run on a thread whose stack
  * was filled with a known value; what a thread that calls nothing uses is
  * taken off. Frames have a fixed size, so that the deepest chain of calls
- * counts and not the length of an input; the inputs reach every kind of field.
+ * counts; the inputs reach every kind of field, short and long.
  */
 #define _DEFAULT_SOURCE
 #include <pthread.h>
@@ -72,9 +72,26 @@ static size_t used_by(job *j)
     return STACK - unused;
 }
 
+/* A folded field of more than 1,024 bytes: NAME, two words of 800 bytes and an
+ * end. Long fields and phrases take larger buffers than short ones. */
+static const char *long_field(char *at, const char *name, const char *end)
+{
+    char *to = at + sprintf(at, "%s: " E_ACUTE, name);
+
+    memset(to, 'a', 800);
+    to += 800 + sprintf(to + 800, "\r\n ");
+    memset(to, 'a', 800);
+    sprintf(to + 800, "%s\r\n", end);
+    return at;
+}
+
 int main(void)
 {
-    static const char *const headers[] = {
+    static char to[2048], subject[2048], unfit[2048];
+    const char *const headers[] = {
+        long_field(to, "To", " <" E_ACUTE "@x>"),
+        long_field(subject, "Subject", ""),
+        long_field(unfit, "Cc", " <"),
         "To: " E_ACUTE "@x,\r\n \"" E_ACUTE "\" <" E_ACUTE "@x\r\n <a@x>>\r\n",
         "To: g:\r\n " E_ACUTE "@x, a <b@x>;, <c@x>\r\n",
         "Subject: " E_ACUTE "\r\n " E_ACUTE "\r\n",

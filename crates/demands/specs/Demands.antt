@@ -2,15 +2,14 @@
 -- DemandsLaws.antt says that they hold of `outcome e h b c`, which the exported call's contract equates with what the call answers
 -- and leaves. Assumes nothing.
 use mathlib.Core.Path.{_≡_}
-use mathlib.Core.List.{List, _++_, map, List·Memᴰ}
+use mathlib.Core.List.{List, _∷_, _++_, map}
 use Prim.Native.Nat.{ℕ, _≤_, _<_}
 use lib.Dec.{T}
 use lib.ListN.{length, take, drop}
 use Rattle.utf8.specs.Byte.{isAscii}
 use Rattle.utf8.specs.Lists.{all, joined}
-use Rattle.encoded_word.specs.Row.{row}
 use Rattle.encoded_word.specs.Demand3.{Demand3}
-use Rattle.encoded_word.specs.Segments.{rendered}
+use Rattle.encoded_word.specs.Segments.{Segment, rendered}
 use Rattle.encoded_word.specs.Segments.Segment.{words}
 use Rattle.envelope_line.specs.declared.Fault.the-variants.{Malformed, NoAlternative, BadAlternative}
 use Rattle.envelope.specs.declared.Checked.the-variants.{Passed, Refused}
@@ -111,14 +110,23 @@ pub record Demand2 (e h : List ℕ) (o : Outcome) : Type 0 where
   pub copied : (field : List ℕ) → T (all isAscii (valueOf field)) → became field ≡ field
 
 -- ---- demand 3: "Every row of encoded words reads back, by RFC 2047, as exactly its text; each word is at most 75 characters and
--- holds whole characters; no other row in our spelling that reads back as the same text has fewer words." Of each text that a rule
--- asks to encode: `outgoingHeader` has its row there.
-abbrev pub DemandThree : List ℕ → List ℕ → Type 0
-DemandThree e h = (text : List ℕ) → List·Memᴰ (words text) (outgoingSegments e h) → Demand3 text (row text)
+-- holds whole characters; no other row in our spelling that reads back as the same text has fewer words." "Wherever a rule asks for
+-- encoded words of something, that something .. is a text, and the bytes written there for it are its row. Each such occurrence
+-- counts by itself."
+
+-- where a rule asks for encoded words of a text, between these segments, the header in the buffer has bytes that are a row as
+-- demand 3 wants it
+pub record RowThere (o : Outcome) (before : List Segment) (text : List ℕ) (after : List Segment) : Type 0 where
+  pub row : List ℕ
+  pub there : take (o .headerLen) (o .headerBuffer) ≡ rendered before ++ (row ++ rendered after)
+  pub demand : Demand3 text row
+
+abbrev pub DemandThree : List ℕ → List ℕ → Outcome → Type 0
+DemandThree e h o = (before : List Segment) (text : List ℕ) (after : List Segment) → outgoingSegments e h ≡ before ++ (words text ∷ after) → RowThere o before text after
 
 -- ---- all three
 
 pub record Demands (e h b c : List ℕ) (o : Outcome) : Type 0 where
   pub demand-1 : Demand1 e h b c o
   pub demand-2 : o .number ≡ 0 → Demand2 e h o
-  pub demand-3 : o .number ≡ 0 → DemandThree e h
+  pub demand-3 : o .number ≡ 0 → DemandThree e h o

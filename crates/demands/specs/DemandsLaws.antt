@@ -1,7 +1,7 @@
 -- The three demands hold of the outcome. Assumes nothing.
 use mathlib.Core.Path.{_≡_, refl, ap, _∙_}
 use mathlib.Core.Bool.{true}
-use mathlib.Core.List.{List, [], _∷_, _++_, map}
+use mathlib.Core.List.{List, [], _∷_, _++_, map, List·Memᴰ, List·Memᴰ·head, List·Memᴰ·tail}
 use Prim.Native.Nat.{ℕ, zero, suc, _+_, _≤_}
 use native.Mathlib.Omega.{arith}
 use lib.Dec.{T, ltb}
@@ -12,7 +12,8 @@ use Rattle.utf8.specs.Utf8.{utf8}
 use Rattle.utf8.specs.Lists.{by-test, all, all-append, joined}
 use Rattle.buffer.specs.Buffer.{overlay}
 use Rattle.buffer.specs.BufferLaws.{length-overlay, overlay-front, overlay-past}
-use Rattle.encoded_word.specs.Segments.{rendered, sound}
+use Rattle.encoded_word.specs.Row.{row}
+use Rattle.encoded_word.specs.Segments.{Segment, rendered, sound}
 use Rattle.encoded_word.specs.Segments.Segment.{raw, words}
 use Rattle.encoded_word.specs.SegmentsLaws.{rendered-append, rendered-ascii, words-demand-3}
 use Rattle.letter_case.specs.LetterCase.{bytes}
@@ -43,7 +44,7 @@ use Rattle.hennelaku.specs.declared.Verdict.the-variants.{Accept, Refuse}
 use Rattle.hennelaku.specs.OutgoingHeader.{newField, newFields, outgoingSegments, outgoingHeader}
 use Rattle.hennelaku.specs.Outcome.{numberOf, placeOf, ofEnvelope, ofLines, ofOrcpt, ofHeld, firstOf, verdict, Outcome, outcomeOf, outcome}
 use Rattle.hennelaku.specs.OutputLaws.{over-yes, over-no}
-use Rattle.demands.specs.Demands.{InLimits, EnvelopePasses, HeaderPasses, OrcptPasses, Passes, Given, Untouched, KeptPast, Demand1, became, Demand2, DemandThree, Demands}
+use Rattle.demands.specs.Demands.{InLimits, EnvelopePasses, HeaderPasses, OrcptPasses, Passes, Given, Untouched, KeptPast, Demand1, became, Demand2, RowThere, DemandThree, Demands}
 use Rattle.demands.specs.Demands.Given.{envelope-over, header-over, envelope-malformed, no-alternative, bad-alternative, header-malformed, orcpt-non-ascii, held-non-ascii, envelope-longer, header-longer, none-holds}
 
 -- ---- a refused envelope has a line at fault
@@ -232,7 +233,21 @@ became-all [] = refl
 became-all (field ∷ fields) =
     rendered-append (fieldSegments addressField field) (joined (map (fieldSegments addressField) fields)) ∙ ap (λ (l : List ℕ). became field ++ l) (became-all fields)
 
+mem-at : (before : List Segment) (s : Segment) (after : List Segment) → List·Memᴰ s (before ++ (s ∷ after))
+mem-at [] s after = List·Memᴰ·head refl
+mem-at (x ∷ before) s after = List·Memᴰ·tail (mem-at before s after)
+
+rendered-words : (text : List ℕ) (after : List Segment) → rendered (words text ∷ after) ≡ row text ++ rendered after
+unfolding rendered
+rendered-words text after = refl
+
 module _ (e h : List ℕ) (p : Passes e h) where
+  rendered-at : (before : List Segment) (text : List ℕ) (after : List Segment) → outgoingSegments e h ≡ before ++ (words text ∷ after)
+      → outgoingHeader e h ≡ rendered before ++ (row text ++ rendered after)
+  unfolding outgoingHeader
+  rendered-at before text after q =
+      ap rendered q ∙ rendered-append before (words text ∷ after) ∙ ap (λ (l : List ℕ). rendered before ++ l) (rendered-words text after)
+
   segments-sound : T (all sound (outgoingSegments e h))
   unfolding outgoingSegments newFields bytes
   segments-sound =
@@ -243,9 +258,6 @@ module _ (e h : List ℕ) (p : Passes e h) where
       (new-field-sound (bytes "Downgraded-Mail-From:") (mailReplacement e) tt mail)
       (new-field-sound (bytes "Downgraded-Rcpt-To:") (rcptReplacement e) tt (rcpt-replacement-utf8 e)))
       (header-sound address-field-sound h (q .lines))
-
-  outcome-demand-3 : DemandThree e h
-  outcome-demand-3 text m = words-demand-3 (outgoingSegments e h) text segments-sound m
 
   field-after-field : outgoingHeader e h ≡ rendered (newFields e) ++ joined (map became (fieldsOf h))
   unfolding outgoingHeader outgoingSegments headerSegments
@@ -273,12 +285,19 @@ module _ (e h : List ℕ) (p : Passes e h) where
           copied = field-copied addressField;
         })
 
+    outcome-demand-3 : DemandThree e h (outcome e h b c)
+    outcome-demand-3 before text after q = record {
+      row = row text;
+      there = outcome-demand-2 .header ∙ rendered-at before text after q;
+      demand = words-demand-3 (outgoingSegments e h) text segments-sound (rw q (mem-at before (words text) after));
+    }
+
 -- All three, of every envelope, every header and every two buffers.
 pub demands : (e h b c : List ℕ) → Demands e h b c (outcome e h b c)
 demands e h b c = record {
   demand-1 = outcome-demand-1 e h b c;
   demand-2 = λ z. let t = after-zero z in outcome-demand-2 e h (t .passes) b c t;
-  demand-3 = λ z. outcome-demand-3 e h (after-zero z .passes);
+  demand-3 = λ z. let t = after-zero z in outcome-demand-3 e h (t .passes) b c t;
 }
   where
     after-zero : outcome e h b c .number ≡ 0 → Taken e h b c

@@ -1,2 +1,4 @@
 pub mod Demands
 pub mod DemandsLaws
+pub mod DeterminedLaws
+pub mod RoomLaws

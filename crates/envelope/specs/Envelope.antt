@@ -100,11 +100,6 @@ orcptFrom zero n (b ∷ e) =
 unfoldable pub orcptLine : List ℕ → Orcpt
 orcptLine e = orcptFrom 0 0 e
 
--- the paper's number and place: "6 | .. an ORCPT carries non-ASCII | line"; 0 at 0 where there is none
-unfoldable pub orcptAnswer : Orcpt → ℕ × ℕ
-orcptAnswer Clean = (0, 0)
-orcptAnswer (At n) = (6, n)
-
 -- ---- what is written
 
 -- the line that starts at a place

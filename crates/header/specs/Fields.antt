@@ -80,8 +80,3 @@ heldFrom h at (field ∷ fields) = cond (refused field) (At (lineCount (take at 
 -- the first such field of a header
 unfoldable pub heldOf : List ℕ → HeldField
 heldOf h = heldFrom h 0 (fieldsOf h)
-
--- the paper's number and place: "6 | a held name .. carries non-ASCII | line"; 0 at 0 where there is none
-unfoldable pub heldAnswer : HeldField → ℕ × ℕ
-heldAnswer Absent = (0, 0)
-heldAnswer (At n at) = (6, n)

@@ -186,6 +186,15 @@ pub header-of : {e mail rcpt : List ℕ} → Texts e mail rcpt → (h : List ℕ
 unfolding headerOf outgoingHeader outgoingSegments newFields
 header-of t h = rw (t .of-mail, t .of-rcpt)
 
+-- the outgoing header has at most 30 bytes for each byte of a well-formed header, and 20,600 for the new first fields
+pub outgoing-le : (e h : List ℕ) (count : ℕ) → checked e ≡ Passed count → length h ≤ 32768 → linesOf h ≡ WellFormed
+    → length (outgoingHeader e h) ≤ 30 * length h + 20600
+outgoing-le e h count p k w =
+    let t : Texts e (mailReplacement e) (rcptReplacement e) = record { of-mail = refl; of-rcpt = refl } in
+    let s : Short (mailReplacement e) (rcptReplacement e) h =
+    record { of-mail = omega (arith, mail-replacement-short e count p); of-rcpt = omega (arith, rcpt-replacement-short e); of-header = k } in
+    rw (header-of t h) at (header-of-le s w)
+
 -- ---- what the writers need
 
 -- An envelope and a header within their limits; the envelope passes the check, with so many RCPT lines whose starts are the first

@@ -13,7 +13,7 @@ use crate::fields::add_fields;
 use crate::new_fields::add_new_field;
 use crate::refusing::refused;
 
-// The longest text of a new first field has 2,001 bytes: two addresses of one line, in `< < >>`.
+// The text of a new first field has at most 2,001 bytes: two addresses of lines of 998, in `< < >>`.
 const ROOM: usize = 2048;
 
 // Writes the outgoing header to the front of out, as far as it fits; answers its whole length. `mail` and `rcpt` are the texts of
