@@ -314,19 +314,28 @@ static void test_word_lengths(void)
     report("address of 900 fits, of 901 does not");
 }
 
-/* A well-formed header of exactly so many bytes, at least 12. */
+/* Lines that begin so, until a text has exactly so many bytes; at least 20 are
+ * left. */
+static void text_lines(text *t, size_t len, const char *start)
+{
+    size_t taken = strlen(start) + 2;
+
+    while (t->len < len) {
+        size_t left = len - t->len;
+        size_t line = left > 1000 + 20 ? 1000 : left > 1000 ? 500 : left;
+
+        text_add(t, start);
+        text_fill(t, 'a', line - taken);
+        text_add(t, "\r\n");
+    }
+}
+
+/* A well-formed header of exactly so many bytes, at least 20. */
 static text header_of(size_t len)
 {
     text t = text_new(len);
 
-    while (t.len < len) {
-        size_t left = len - t.len;
-        size_t line = left > 1000 + 12 ? 1000 : left > 1000 ? 500 : left;
-
-        text_add(&t, "X:");
-        text_fill(&t, 'a', line - 4);
-        text_add(&t, "\r\n");
-    }
+    text_lines(&t, len, "X:");
     return t;
 }
 
@@ -336,14 +345,7 @@ static text envelope_of(size_t len)
     text t = text_new(len);
 
     text_add(&t, MAIL);
-    while (t.len < len) {
-        size_t left = len - t.len;
-        size_t line = left > 1000 + 20 ? 1000 : left > 1000 ? 500 : left;
-
-        text_add(&t, "RCPT TO:<b@x> A=");
-        text_fill(&t, 'a', line - 18);
-        text_add(&t, "\r\n");
-    }
+    text_lines(&t, len, "RCPT TO:<b@x> A=");
     return t;
 }
 

@@ -1,4 +1,5 @@
 -- Laws of the parts of a text, as code finds them by position. Assumes nothing.
+use Rattle.line.specs.LineLaws.{part-rest}
 use mathlib.Core.Path.{_≡_, refl, ap, sym, _∙_}
 use mathlib.Core.Bool.{Bool, true, false, cond, _&&_, not, and-false}
 use mathlib.Core.List.{List, [], _∷_}
@@ -8,7 +9,7 @@ use native.Mathlib.Omega.{arith}
 use lib.Dec.{ltb, eqb}
 use borrow.Author.Tests.{lt-ltb, le-ltb, eq-eqb, ne-eqb}
 use lib.ListN.{length, take, drop, getD, drop-of-length-le, length-drop}
-use lib.Seq.{drop-drop, take-all}
+use lib.Seq.{drop-drop}
 use Rattle.utf8.specs.Byte.{isAscii}
 use Rattle.utf8.specs.Lists.{all}
 use Rattle.utf8.specs.Run.{run}
@@ -46,13 +47,9 @@ pub record TookFrom (s : List ℕ) (at : ℕ) (r : Front) : Type 0 where
   pub within : at < length s → at + r .size ≤ length s
   pub inner : innerEnd (r .kind) ≤ r .size
 
--- a part to the end is the rest of the list
-rest-of : (s : List ℕ) (at : ℕ) → take (length s - at) (drop at s) ≡ drop at s
-rest-of s at = take-all (length s - at) (drop at s) (rw length-drop (omega arith))
-
 pub took-from : {s : List ℕ} {at : ℕ} {r : Front} → at < length s → Took (partAt (take (length s - at) (drop at s))) (take (length s - at) (drop at s)) r → TookFrom s at r
 took-from {s} {at} {r} h w =
-    let t : Took (partAt (drop at s)) (drop at s) r = rw (rest-of s at) at w in
+    let t : Took (partAt (drop at s)) (drop at s) r = rw (part-rest s at) at w in
     record { is = t .is; some = t .some; within = λ k. omega (arith, t .within, length-drop at s); inner = t .inner }
 
 pub took-past : {s : List ℕ} {at : ℕ} {r : Front} → length s ≤ at → r ≡ stray → TookFrom s at r
@@ -66,12 +63,6 @@ took-past {s} {at} {r} h q = record {
   where
     past-end : stray ≡ partAt []
     past-end = refl
-
--- a byte that is there
-pub byte-there : (s : List ℕ) (i b : ℕ) → getD s i 0 ≡ suc b → i < length s
-byte-there [] i b e = absurd (not-suc-le-zero {n = b} (omega arith))
-byte-there (x ∷ s) zero b e = omega arith
-byte-there (x ∷ s) (suc i) b e = omega (arith, byte-there s i b e)
 
 -- ---- an alternative, by the tests of code
 

@@ -1,4 +1,5 @@
 -- How long a rewritten address field can be. Assumes nothing.
+use Rattle.address.specs.AddressLaws.{byte-within}
 use mathlib.Core.Path.{_≡_, refl, ap, sym, _∙_}
 use mathlib.Core.Bool.{Bool, true, false, cond, not, _&&_}
 use mathlib.Core.List.{List, [], _∷_, _++_, map}
@@ -27,7 +28,6 @@ use Rattle.address.specs.Address.{addressScan}
 use Rattle.address.specs.TakenLaws.{Taken, AtLeast, taken-address}
 use Rattle.address_list.specs.Words.{found, capped, addressLen, phraseLen}
 use Rattle.address_list.specs.Parts.{front, stray, alternativeAt, angledAt, namedAt, Part, partAt, partsFrom, partsOf}
-use Rattle.address_list.specs.PartsLaws.{byte-there}
 use Rattle.address_list.specs.declared.Front.{Front}
 use Rattle.address_list.specs.Table.{examined}
 use Rattle.address_list.specs.declared.Examined.{Examined}
@@ -168,7 +168,7 @@ angled-enough s h =
     cond-has (Enough s) (eqb (getD s end 0) 62) (front (Angled start size) (end + 1)) (alternativeAt s start end)
     (λ u.
     let three = address-least (drop start s) (omega (arith, eqb-no {a = size} {b = 0} t)) in
-    let inside : end < length s = byte-there s end 61 (eqb→eq (getD s end 0) 62 u) in
+    let inside : end < length s = byte-within s end 61 (eqb→eq (getD s end 0) 62 u) in
     record { some = omega arith; bytes = front-length (end + 1) 5 s (omega (arith, three .0)) (omega (arith, three .0)) })
     (λ u. alternative-enough s start end h))
 

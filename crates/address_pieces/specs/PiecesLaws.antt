@@ -34,9 +34,6 @@ pub rendered-one : (s : Segment) → rendered (s ∷ []) ≡ bytesOf s
 unfolding rendered
 rendered-one s = append-nil (bytesOf s)
 
-pub capped-same : {x y : List ℕ} {at : ℕ} {before after : List ℕ} {r : ℕ} → x ≡ y → AppendedCapped x at before after r → AppendedCapped y at before after r
-capped-same e a = rw (← e) a
-
 pub words-short : (text : List ℕ) {at : ℕ} {before after : List ℕ} {r : ℕ} → length text ≤ 65536 → AppendedCapped (row (bounded text)) at before after r
     → AppendedCapped (row text) at before after r
 words-short text h a = rw (bounded-short text (omega arith)) at a

@@ -7,9 +7,8 @@ use native.Mathlib.Nat.{not-suc-le-zero}
 use native.Mathlib.Omega.{arith}
 use lib.Dec.{T, leb, ltb, eqb, eqb→eq, lt→ltb}
 use lib.ListN.{length, take, drop, getD, take-append-drop, length-drop, drop-of-length-le}
-use lib.Seq.{drop-drop, take-all}
+use lib.Seq.{drop-drop, take-all, take-add}
 use mir.Facts.{and-yes, yes-and, ltb-yes, ltb-no, leb-yes, leb-no}
-use native.Mathlib.Numerals.{unary-clauses}
 use borrow.Author.Tests.{ne-eqb}
 use Rattle.utf8.specs.Byte.{isAscii}
 use Rattle.utf8.specs.Lists.{by-test, yes-true, true-yes, no-false, cond-has, all, all-append, all-left, all-right, all-weaken, joined}
@@ -49,18 +48,9 @@ boundary-none : (s : List ℕ) → T (utf8 s) → Boundary s 0
 unfolding utf8 chars charsAfter
 boundary-none s h = record { before = tt; after = h }
 
-take-more : (k n : ℕ) (s : List ℕ) → take (k + n) s ≡ take k s ++ take n (drop k s)
-take-more zero n s = let k : 0 + n ≡ n = omega arith in rw k
-take-more (suc k) n [] = let e : suc k + n ≡ suc (k + n) = omega arith in rw e (nothing n)
-  where
-    nothing : (n : ℕ) → [] ≡ take {A = ℕ} n []
-    nothing zero = refl
-    nothing (suc n) = refl
-take-more (suc k) n (b ∷ s) = let e : suc k + n ≡ suc (k + n) = omega arith in rw e (ap (λ (l : List ℕ). b ∷ l) (take-more k n s))
-
 pub boundary-then : (s : List ℕ) (k n : ℕ) → Boundary s k → Boundary (drop k s) n → Boundary s (k + n)
 boundary-then s k n a b = record {
-  before = rw (take-more k n s) (utf8-append (take k s) (take n (drop k s)) (a .before) (b .before));
+  before = rw (take-add k n s) (utf8-append (take k s) (take n (drop k s)) (a .before) (b .before));
   after = rw (drop-drop n k s) at (b .after);
 }
 

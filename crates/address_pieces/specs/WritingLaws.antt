@@ -6,7 +6,7 @@ use Prim.Native.Nat.{ℕ, _+_, _-_, _*_, _≤_, _<_}
 use native.Mathlib.Omega.{arith}
 use lib.ListN.{length, take, drop, length-take}
 use Rattle.buffer.specs.Buffer.{Wrote, Appended, AppendedCapped, greatest}
-use Rattle.buffer.specs.BufferLaws.{appended-from, appended-of, appended-then, capped-then, length-wrote, length-added, wrote-from}
+use Rattle.buffer.specs.BufferLaws.{appended-from, appended-of, appended-then, capped-then, length-wrote, length-added, wrote-from, wrote-of}
 use Rattle.header.specs.Lines.{nameLen}
 use Rattle.header.specs.Fields.{nameOf, textOf}
 use Rattle.encoded_word.specs.Row.{row}
@@ -23,9 +23,6 @@ use Rattle.address_pieces.specs.Pieces.{piecesOf, phraseText}
 use Rattle.address_pieces.specs.PiecesLaws.{rendered-one, length-phrase-text}
 use Rattle.address_pieces.specs.AddressField.{rewrittenField, fieldBy, addressField}
 use Rattle.address_pieces.specs.LengthLaws.{rewritten-le}
-
-pub wrote-of : {text before after : List ℕ} {r : ℕ} → AppendedCapped text 0 before after r → length text ≤ greatest → Wrote text before after r
-wrote-of {text} a h = wrote-from (appended-of a (omega arith))
 
 -- ---- a phrase's text in a buffer that has room for it
 

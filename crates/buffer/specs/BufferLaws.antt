@@ -176,6 +176,14 @@ length-added {text} {before} {after} {at} {r} a = rw (a .bytes) (length-overlay-
 pub appended-of : {text before after : List ℕ} {at r : ℕ} → AppendedCapped text at before after r → at + length text ≤ greatest → Appended text at before after r
 appended-of {text} {before} {after} {at} {r} a h = record { place = omega (arith, a .place, h); bytes = a .bytes }
 
+-- the same for a text that is written otherwise
+pub capped-same : {x y before after : List ℕ} {at r : ℕ} → x ≡ y → AppendedCapped x at before after r → AppendedCapped y at before after r
+capped-same e a = rw (← e) a
+
+-- a writer's answer where the length fits
+pub wrote-of : {text before after : List ℕ} {r : ℕ} → AppendedCapped text 0 before after r → length text ≤ greatest → Wrote text before after r
+wrote-of {text} a h = wrote-from (appended-of a (omega arith))
+
 -- no text
 pub capped-none : (at : ℕ) (before : List ℕ) → at ≤ greatest → AppendedCapped [] at before before at
 capped-none at before h = record { place = omega arith; bytes = appended-none at before .bytes }

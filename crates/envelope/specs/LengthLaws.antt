@@ -40,7 +40,3 @@ module _ (e : List ℕ) (h : length e ≤ 16384) where
   rcpt-replacement-fits [] = omega arith
   rcpt-replacement-fits (at ∷ []) = omega (arith, replacement-le false (lineAt at e), line-le at)
   rcpt-replacement-fits (at ∷ next ∷ more) = omega arith
-
--- a writer's answer where the length fits
-pub wrote-of : {text before after : List ℕ} {r : ℕ} → AppendedCapped text 0 before after r → length text ≤ greatest → Wrote text before after r
-wrote-of {text} {before} {after} {r} a h = wrote-from (appended-of a (omega arith))

@@ -9,10 +9,9 @@ use lib.ListN.{length, take, drop, getD, length-append}
 use lib.Seq.{take-suc}
 use Rattle.utf8.specs.Lists.{joined, joined-append, by-test, yes-true, no-false}
 use Rattle.buffer.specs.Buffer.{overlay, AppendedCapped, greatest}
-use Rattle.buffer.specs.BufferLaws.{length-overlay, overlay-front, capped-none, capped-then}
+use Rattle.buffer.specs.BufferLaws.{length-overlay, overlay-front, capped-none, capped-then, capped-same}
 use Rattle.line.specs.Line.{lineLen}
 use Rattle.envelope_line.specs.EnvelopeLine.{writtenLine, replacement}
-use Rattle.envelope_line.specs.WriteLaws.{capped-same}
 use Rattle.envelope.specs.declared.Checked.the-variants.{Passed}
 use Rattle.envelope.specs.Envelope.{EnvelopeChecked, frontFault, rcptFault, rcptsFrom, checked, isFine, startsFrom, rcptStarts, lineAt, writtenAt, writtenBy, written, entries, mailReplacement, replacementBy, rcptReplacement}
 use Rattle.envelope.specs.CheckLaws.{fine-next, fault-next, fine-few}

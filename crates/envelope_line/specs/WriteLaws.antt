@@ -19,9 +19,6 @@ use Rattle.envelope_line.specs.ParameterLaws.{paramAt, length-param, Alt
 pub wrote-same : {x y before after : List ℕ} {r : ℕ} → x ≡ y → Wrote x before after r → Wrote y before after r
 wrote-same e w = rw e at w
 
-pub capped-same : {x y before after : List ℕ} {at r : ℕ} → x ≡ y → AppendedCapped x at before after r → AppendedCapped y at before after r
-capped-same e w = rw e at w
-
 -- ---- the decoded ALT-ADDRESS
 
 module _ {s : List ℕ} {from r : ℕ} (k : AltFrom s from r) where

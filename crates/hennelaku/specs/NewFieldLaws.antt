@@ -5,11 +5,10 @@ use Prim.Native.Nat.{ℕ, _+_, _*_, _≤_}
 use native.Mathlib.Omega.{arith}
 use lib.ListN.{length, take, length-append}
 use Rattle.buffer.specs.Buffer.{Wrote, AppendedCapped, greatest}
-use Rattle.buffer.specs.BufferLaws.{capped-none, capped-then, length-added, overlay-front, length-wrote}
+use Rattle.buffer.specs.BufferLaws.{capped-none, capped-then, length-added, overlay-front, length-wrote, wrote-of}
 use Rattle.encoded_word.specs.Row.{row, bounded}
 use Rattle.encoded_word.specs.StreamLaws.{bounded-short, length-row-le}
 use Rattle.encoded_word.specs.Segments.{rendered}
-use Rattle.envelope.specs.LengthLaws.{wrote-of}
 use Rattle.hennelaku.specs.OutgoingHeader.{newField}
 
 pub length-new-field : (name text : List ℕ) → length (rendered (newField name text)) ≤ length name + 5 * length text + 17

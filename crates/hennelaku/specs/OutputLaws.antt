@@ -7,7 +7,7 @@ use native.Mathlib.Nat.{not-suc-le-zero}
 use lib.ListN.{length, length-append}
 use borrow.Author.Tests.{lt-ltb, le-ltb}
 use Rattle.buffer.specs.Buffer.{Wrote, Appended, AppendedCapped}
-use Rattle.buffer.specs.BufferLaws.{appended-of, appended-then, wrote-from}
+use Rattle.buffer.specs.BufferLaws.{appended-of, appended-then, wrote-from, wrote-of}
 use Rattle.letter_case.specs.LetterCase.{bytes}
 use Rattle.encoded_word.specs.Segments.{rendered}
 use Rattle.encoded_word.specs.SegmentsLaws.{rendered-append}
@@ -16,7 +16,7 @@ use Rattle.envelope.specs.declared.Checked.{Checked}
 use Rattle.envelope.specs.declared.Checked.the-variants.{Passed, Refused}
 use Rattle.envelope.specs.Envelope.{EnvelopeChecked, checked, entries, rcptStarts, writtenBy, written, orcptLine, mailReplacement, replacementBy, rcptReplacement}
 use Rattle.envelope.specs.WrittenLaws.{stored}
-use Rattle.envelope.specs.LengthLaws.{written-fits, wrote-of}
+use Rattle.envelope.specs.LengthLaws.{written-fits}
 use Rattle.envelope.specs.ReplacementLaws.{mail-replacement-short, rcpt-replacement-short}
 use Rattle.header.specs.declared.Lines.{Lines}
 use Rattle.header.specs.declared.Lines.the-variants.{WellFormed, Malformed}

@@ -1,7 +1,8 @@
+use Rattle.address.specs.AddressLaws.{byte-within}
 use mathlib.Core.Path.{_≡_, refl, sym, _∙_}
 use Prim.Native.Nat.{_+_, _<_}
 use native.Mathlib.Omega.{arith}
-use Rattle.address_list.specs.PartsLaws.{Took, took-stray, byte-there, alternative-close, alternative-ascii, alternative-no-bracket, alternative-no-address, alternative-open, alternative-half-open, alternative-high, alternative-there}
+use Rattle.address_list.specs.PartsLaws.{Took, took-stray, alternative-close, alternative-ascii, alternative-no-bracket, alternative-no-address, alternative-open, alternative-half-open, alternative-high, alternative-there}
 use borrow.Author.Needs.{needs}
 use Rattle.address_list.proofs.part.alternative.Statement.{statement}
 use Rattle.address_list.proofs.part.alternative.Tie as tie
@@ -43,7 +44,7 @@ returns-3 : tie.Need-returns-3
 returns-3 c = took-stray (c .stray3 .ensures) (alternative-no-bracket (c .before .before .before .before .before .before .before .before .before .args .t .now) (c .before .before .before .before .before .before .before .before .before .args .a) (c .before .before .before .before .before .before .before .before .before .args .b) _ (c .before .before .before .before .before .before .before .blanks-end .ensures) (λ k. c .before .if3 .taken (c .before .before .byte-at .ensures ∙ k))) (c .before .before .before .before .before .before .before .before .before .pre .1 .1)
 
 add-blanks-end : tie.Need-add-blanks-end
-add-blanks-end c = omega (arith, byte-there (c .before .before .before .before .before .before .before .before .args .t .now) (c .before .before .before .before .before .before .blanks-end .result) 59 (sym (c .before .byte-at .ensures) ∙ c .if3 .left))
+add-blanks-end c = omega (arith, byte-within (c .before .before .before .before .before .before .before .before .args .t .now) (c .before .before .before .before .before .before .blanks-end .result) 59 (sym (c .before .byte-at .ensures) ∙ c .if3 .left))
 
 blanks-end-requires-2 : tie.Need-blanks-end-requires-2
 blanks-end-requires-2 c κs = search needs
@@ -103,7 +104,7 @@ returns-7 c = record {
       (sym (c .before .before .before .before .before .before .before .before .before .before .before .byte-at .ensures) ∙ c .before .before .before .before .before .before .before .before .before .before .if3 .left) (let k : 0 < c .before .before .before .before .before .before .before .before .address-len .result = omega (arith, c .before .before .before .before .before .before .before .if4 .left) in k)
       (sym (c .before .before .before .before .before .before .byte-at2 .ensures) ∙ c .before .before .before .before .before .if5 .left) (sym (c .before .before .before .before .byte-at3 .ensures) ∙ c .before .before .before .if6 .left) (sym (c .before .is-ascii2 .ensures) ∙ c .if7 .taken);
   some = omega arith;
-  within = omega (arith, byte-there (c .before .before .before .before .before .before .before .before .before .before .before .before .before .before .before .before .before .before .args .t .now) (c .before .before .before .before .before .before .before .before .before .blanks-end2 .result + c .before .before .before .before .before .before .before .before .address-len .result + 1) 61 (sym (c .before .before .before .before .byte-at3 .ensures) ∙ c .before .before .before .if6 .left));
+  within = omega (arith, byte-within (c .before .before .before .before .before .before .before .before .before .before .before .before .before .before .before .before .before .before .args .t .now) (c .before .before .before .before .before .before .before .before .before .blanks-end2 .result + c .before .before .before .before .before .before .before .before .address-len .result + 1) 61 (sym (c .before .before .before .before .byte-at3 .ensures) ∙ c .before .before .before .if6 .left));
   inner = omega arith;
 }
 

@@ -1,7 +1,8 @@
+use Rattle.address.specs.AddressLaws.{byte-within}
 use mathlib.Core.Path.{_≡_, refl, sym, _∙_}
 use Prim.Native.Nat.{_+_}
 use native.Mathlib.Omega.{arith}
-use Rattle.address_list.specs.PartsLaws.{Took, took-stray, took-as, byte-there, angled-none, angled-there, angled-more}
+use Rattle.address_list.specs.PartsLaws.{Took, took-stray, took-as, angled-none, angled-there, angled-more}
 use borrow.Author.Needs.{needs}
 use Rattle.address_list.proofs.part.angled.Statement.{statement}
 use Rattle.address_list.proofs.part.angled.Tie as tie
@@ -31,7 +32,7 @@ returns-2 : tie.Need-returns-2
 returns-2 c = record {
   is = angled-there (c .before .before .before .before .before .before .args .t .now) _ _ (c .before .before .before .before .blanks-end .ensures) (c .before .before .before .address-len .ensures .0) (c .before .before .if1 .left) (sym (c .before .byte-at .ensures) ∙ c .if2 .taken);
   some = omega arith;
-  within = omega (arith, byte-there (c .before .before .before .before .before .before .args .t .now) (c .before .before .before .before .blanks-end .result + c .before .before .before .address-len .result) 61 (sym (c .before .byte-at .ensures) ∙ c .if2 .taken));
+  within = omega (arith, byte-within (c .before .before .before .before .before .before .args .t .now) (c .before .before .before .before .blanks-end .result + c .before .before .before .address-len .result) 61 (sym (c .before .byte-at .ensures) ∙ c .if2 .taken));
   inner = omega arith;
 }
 

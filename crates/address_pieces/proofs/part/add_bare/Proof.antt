@@ -1,5 +1,6 @@
+use Rattle.buffer.specs.BufferLaws.{capped-same}
 use mathlib.Core.Path.{sym, _∙_}
-use Rattle.address_pieces.specs.PiecesLaws.{capped-same, address-ascii, address-high}
+use Rattle.address_pieces.specs.PiecesLaws.{address-ascii, address-high}
 use Rattle.address_pieces.specs.Pieces.{piece}
 use borrow.Author.Needs.{needs}
 use Rattle.address_pieces.proofs.part.add_bare.Statement.{statement}

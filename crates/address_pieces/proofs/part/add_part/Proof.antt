@@ -1,10 +1,10 @@
 use mathlib.Core.Path.{sym, _∙_}
 use mathlib.Core.List.{[], _∷_}
 use native.Mathlib.Omega.{arith}
-use Rattle.buffer.specs.BufferLaws.{capped-none}
+use Rattle.buffer.specs.BufferLaws.{capped-none, capped-same}
 use Rattle.encoded_word.specs.Segments.Segment.{raw}
 use Rattle.encoded_word.specs.Segments.{rendered}
-use Rattle.address_pieces.specs.PiecesLaws.{capped-same, rendered-one, pieces-angled, pieces-alternative}
+use Rattle.address_pieces.specs.PiecesLaws.{rendered-one, pieces-angled, pieces-alternative}
 use Rattle.address_pieces.specs.Pieces.{pieces, piece}
 use borrow.Author.Needs.{needs}
 use Rattle.address_pieces.proofs.part.add_part.Statement.{statement}

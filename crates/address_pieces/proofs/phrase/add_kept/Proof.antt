@@ -1,6 +1,6 @@
 use native.Mathlib.Omega.{arith}
-use Rattle.buffer.specs.BufferLaws.{capped-none}
-use Rattle.address_pieces.specs.PiecesLaws.{capped-same, kept-goes, kept-stays}
+use Rattle.buffer.specs.BufferLaws.{capped-none, capped-same}
+use Rattle.address_pieces.specs.PiecesLaws.{kept-goes, kept-stays}
 use borrow.Author.Needs.{needs}
 use Rattle.address_pieces.proofs.phrase.add_kept.Statement.{statement}
 use Rattle.address_pieces.proofs.phrase.add_kept.Tie as tie

@@ -1,5 +1,6 @@
+use Rattle.buffer.specs.BufferLaws.{capped-same}
 use mathlib.Core.Path.{sym, _∙_}
-use Rattle.address_pieces.specs.PiecesLaws.{capped-same, phrase-ascii, phrase-high}
+use Rattle.address_pieces.specs.PiecesLaws.{phrase-ascii, phrase-high}
 use borrow.Author.Needs.{needs}
 use Rattle.address_pieces.proofs.phrase.add_phrase.Statement.{statement}
 use Rattle.address_pieces.proofs.phrase.add_phrase.Tie as tie

@@ -1,7 +1,7 @@
 use mathlib.Core.Path.{sym}
 use native.Mathlib.Omega.{arith}
-use Rattle.buffer.specs.BufferLaws.{capped-none, capped-then}
-use Rattle.address_pieces.specs.PiecesLaws.{capped-same, phrase-text-none, phrase-text-first}
+use Rattle.buffer.specs.BufferLaws.{capped-none, capped-then, capped-same}
+use Rattle.address_pieces.specs.PiecesLaws.{phrase-text-none, phrase-text-first}
 use borrow.Author.Needs.{needs}
 use Rattle.address_pieces.proofs.phrase.put_phrase_text.Statement.{statement}
 use Rattle.address_pieces.proofs.phrase.put_phrase_text.Tie as tie

@@ -1,5 +1,5 @@
+use Rattle.buffer.specs.BufferLaws.{capped-same}
 use Rattle.envelope.specs.WrittenLaws.{line-part, replaced-mail}
-use Rattle.envelope_line.specs.WriteLaws.{capped-same}
 use borrow.Author.Needs.{needs}
 use Rattle.envelope.proofs.writing.put_mail_replacement.Statement.{statement}
 use Rattle.envelope.proofs.writing.put_mail_replacement.Tie as tie

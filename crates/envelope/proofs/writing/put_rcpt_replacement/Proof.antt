@@ -1,6 +1,5 @@
 use Rattle.envelope.specs.WrittenLaws.{line-part, replaced-other, replaced-one}
-use Rattle.envelope_line.specs.WriteLaws.{capped-same}
-use Rattle.buffer.specs.BufferLaws.{capped-none}
+use Rattle.buffer.specs.BufferLaws.{capped-none, capped-same}
 use native.Mathlib.Omega.{arith}
 use borrow.Author.Needs.{needs}
 use Rattle.envelope.proofs.writing.put_rcpt_replacement.Statement.{statement}

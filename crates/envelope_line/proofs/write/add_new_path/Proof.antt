@@ -1,6 +1,6 @@
-use Rattle.envelope_line.specs.WriteLaws.{capped-same, decoded-none, decoded-some}
+use Rattle.envelope_line.specs.WriteLaws.{decoded-none, decoded-some}
 use Rattle.envelope_line.specs.ParameterLaws.{param-part}
-use Rattle.buffer.specs.BufferLaws.{capped-none}
+use Rattle.buffer.specs.BufferLaws.{capped-none, capped-same}
 use native.Mathlib.Omega.{arith}
 use mathlib.Core.Path.{_∙_}
 use borrow.Author.Needs.{needs}

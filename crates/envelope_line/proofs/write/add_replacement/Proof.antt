@@ -1,5 +1,5 @@
-use Rattle.envelope_line.specs.WriteLaws.{capped-same, path-part, replaced-ascii, replaced-high, new-path}
-use Rattle.buffer.specs.BufferLaws.{capped-none, capped-then}
+use Rattle.envelope_line.specs.WriteLaws.{path-part, replaced-ascii, replaced-high, new-path}
+use Rattle.buffer.specs.BufferLaws.{capped-none, capped-then, capped-same}
 use native.Mathlib.Omega.{arith}
 use borrow.Author.Needs.{needs}
 use Rattle.envelope_line.proofs.write.add_replacement.Statement.{statement}

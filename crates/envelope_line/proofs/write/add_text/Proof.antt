@@ -1,5 +1,5 @@
-use Rattle.envelope_line.specs.WriteLaws.{capped-same, path-part, front-part, written-ascii, written-high, new-path, rest-without}
-use Rattle.buffer.specs.BufferLaws.{capped-then}
+use Rattle.envelope_line.specs.WriteLaws.{path-part, front-part, written-ascii, written-high, new-path, rest-without}
+use Rattle.buffer.specs.BufferLaws.{capped-then, capped-same}
 use native.Mathlib.Omega.{arith}
 use borrow.Author.Needs.{needs}
 use Rattle.envelope_line.proofs.write.add_text.Statement.{statement}

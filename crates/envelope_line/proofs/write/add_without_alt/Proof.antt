@@ -1,6 +1,6 @@
-use Rattle.envelope_line.specs.WriteLaws.{capped-same, without-none, without-some}
+use Rattle.envelope_line.specs.WriteLaws.{without-none, without-some}
 use Rattle.line.specs.LineLaws.{part-rest}
-use Rattle.buffer.specs.BufferLaws.{capped-then}
+use Rattle.buffer.specs.BufferLaws.{capped-then, capped-same}
 use native.Mathlib.Omega.{arith}
 use mathlib.Core.Path.{sym, _∙_}
 use borrow.Author.Needs.{needs}
