@@ -81,10 +81,19 @@ fn fault(input: &Input, got: &Outcome, salt: u8) -> Option<String> {
     None
 }
 
-/// Rooms just right, one short, zero, large, any.
-fn rooms(r: &mut Random, whole: Answer) -> (usize, usize) {
+/// The header room from which on the proved call does not measure before it writes (`HENNELAKU_HEADER_ROOM_FOR`).
+fn ample(header: &[u8]) -> usize {
+    30 * header.len() + 20600
+}
+
+/// Rooms just right, one short, zero, large, any; and those at which the proved call starts to write without measuring.
+fn rooms(r: &mut Random, whole: Answer, header: &[u8]) -> (usize, usize) {
     let (e, h) = (whole.envelope_len, whole.header_len);
-    match r.below(20) {
+    match r.below(24) {
+        20 => (e, ample(header) - 1),
+        21 => (e, ample(header)),
+        22 => (e + r.below(300), ample(header) + r.below(3000)),
+        23 => (e - 1, ample(header)),
         0..=9 => (e, h),
         10 => (e - 1, h),
         11 => (e, h.saturating_sub(1)),
@@ -175,6 +184,8 @@ fn look(met: &mut Met, input: &Input, got: &Outcome) {
     met.count("word or address of 900 that fits", words_of_900 > 0);
     met.count("name of 76", names_of_76 > 0);
     met.count("folded field", folded > 0);
+    met.count("room that is not measured for", input.header_room >= ample(&input.header));
+    met.count("room one short of that", input.header_room + 1 == ample(&input.header));
 }
 
 fn option(name: &str) -> Option<u64> {
@@ -209,7 +220,7 @@ fn next_input(r: &mut Random, scratch: &mut (Vec<u8>, Vec<u8>)) -> Input {
     let (envelope, header) = generate::input(r);
     let whole = downgrade(&envelope, &header, &mut scratch.0, &mut scratch.1);
     let (envelope_room, header_room) = match whole.number {
-        0 => rooms(r, whole),
+        0 => rooms(r, whole, &header),
         _ => (r.below(100), r.below(100)),
     };
     Input { envelope, header, envelope_room, header_room }
