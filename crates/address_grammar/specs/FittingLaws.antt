@@ -9,10 +9,10 @@ use lib.Dec.{T}
 use lib.ListN.{length, take, drop, getD, length-append}
 use lib.Seq.{drop-append-seam, drop-drop, getD-drop, getD-append-seam, take-append-seam}
 use mir.Facts.{and-yes, yes-and}
-use Rattle.utf8.specs.Byte.{isAscii}
-use Rattle.utf8.specs.Lists.{yes-true, no-false, all, nonempty}
-use Rattle.utf8.specs.Run.{run}
-use Rattle.header.specs.Lines.{blank}
+use Rattle.lists.specs.Byte.{isAscii}
+use Rattle.lists.specs.Lists.{yes-true, no-false, all, nonempty}
+use Rattle.lists.specs.Run.{run}
+use Rattle.line.specs.Line.{blank}
 use Rattle.address.specs.Address.{isAtext, isAtomByte}
 use Rattle.address.specs.AddressLaws.{front-byte}
 use Rattle.address.specs.GrammarLaws.{Closed}

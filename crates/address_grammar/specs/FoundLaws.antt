@@ -11,9 +11,9 @@ use borrow.Author.Tests.{lt-ltb, ne-eqb}
 use lib.ListN.{length, drop, getD, length-append}
 use lib.Seq.{drop-append-seam, drop-at}
 use mir.Facts.{and-yes, or-no}
-use Rattle.utf8.specs.Lists.{cond-has, by-test, yes-true, no-false, all, nonempty}
-use Rattle.utf8.specs.Run.{run, run-past}
-use Rattle.header.specs.Lines.{blank}
+use Rattle.lists.specs.Lists.{cond-has, by-test, yes-true, no-false, all, nonempty}
+use Rattle.lists.specs.Run.{run, run-past}
+use Rattle.line.specs.Line.{blank}
 use Rattle.address.specs.declared.Scan.{Scan}
 use Rattle.address.specs.declared.Scan.the-variants.{To, Stop}
 use Rattle.address.specs.Address.{later, byteThen, scanThen, isAtext, isAtomByte, dotAtomEnd, dotAtomFrom, dotAtomScan, domainScan, localScan, addressScan}

@@ -3,9 +3,9 @@ use mathlib.Core.Path.{_≡_, refl}
 use mathlib.Core.List.{List, [], _∷_, _++_}
 use Prim.Native.Nat.{ℕ}
 use lib.ListN.{replicate}
-use Rattle.utf8.specs.Run.{run}
+use Rattle.lists.specs.Run.{run}
 use Rattle.letter_case.specs.LetterCase.{bytes}
-use Rattle.header.specs.Lines.{blank}
+use Rattle.line.specs.Line.{blank}
 use Rattle.address.specs.Address.{later, byteThen, scanThen, isAtext, isAtomByte, isQuotedByte, isLiteralByte, dotAtomFrom, dotAtomScan, quotedFrom, quotedScan, literalFrom, literalScan, domainScan, localScan, addressScan}
 use Rattle.address_list.specs.Words.{capped, isWordByte, addressLen, wordLen, nextWordLen, nextWordsLen, phraseLen}
 use Rattle.address_list.specs.Parts.{alternativeAt, angledAt, namedAt, partAt, partsFrom, partsOf, changes, anyChanges}

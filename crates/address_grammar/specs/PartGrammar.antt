@@ -6,9 +6,9 @@ use mathlib.Core.List.{List, [], _∷_, _++_}
 use Prim.Native.Nat.{ℕ, _+_, _≤_}
 use lib.Dec.{T}
 use lib.ListN.{length}
-use Rattle.utf8.specs.Lists.{all, nonempty}
-use Rattle.utf8.specs.Byte.{isAscii}
-use Rattle.header.specs.Lines.{blank}
+use Rattle.lists.specs.Lists.{all, nonempty}
+use Rattle.lists.specs.Byte.{isAscii}
+use Rattle.line.specs.Line.{blank}
 use Rattle.address.specs.Grammar.{QuotedString, Address as AddressForm}
 use Rattle.address_list.specs.Words.{isWordByte}
 use Rattle.address_list.specs.Parts.{Part}

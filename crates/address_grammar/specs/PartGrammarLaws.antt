@@ -10,10 +10,10 @@ use lib.Dec.{T, ltb, leb, eqb, eqb→eq}
 use lib.ListN.{length, take, drop, getD, length-append, length-drop, take-append-drop}
 use lib.Seq.{drop-cons, drop-drop, drop-append-seam, drop-at, take-add, take-nil, take-append-seam, length-take-le}
 use mir.Facts.{and-yes, ltb-yes, leb-yes, eqb-no}
-use Rattle.utf8.specs.Byte.{isAscii}
-use Rattle.utf8.specs.Lists.{cond-has, all, nonempty}
-use Rattle.utf8.specs.Run.{run, run-le, run-all}
-use Rattle.header.specs.Lines.{blank}
+use Rattle.lists.specs.Byte.{isAscii}
+use Rattle.lists.specs.Lists.{cond-has, all, nonempty}
+use Rattle.lists.specs.Run.{run, run-le, run-all}
+use Rattle.line.specs.Line.{blank}
 use Rattle.address.specs.declared.Scan.{Scan}
 use Rattle.address.specs.declared.Scan.the-variants.{To, Stop}
 use Rattle.address.specs.Address.{quotedScan, addressScan}

@@ -4,10 +4,10 @@ use mathlib.Core.List.{List, [], _∷_}
 use Prim.Native.Nat.{ℕ, zero, suc, pred, _+_, _-_}
 use lib.Dec.{ltb, eqb}
 use lib.ListN.{take, drop, getD}
-use Rattle.utf8.specs.Byte.{isAscii}
-use Rattle.utf8.specs.Lists.{all}
-use Rattle.utf8.specs.Run.{run}
-use Rattle.header.specs.Lines.{blank}
+use Rattle.lists.specs.Byte.{isAscii}
+use Rattle.lists.specs.Lists.{all}
+use Rattle.lists.specs.Run.{run}
+use Rattle.line.specs.Line.{blank}
 use Rattle.address_list.specs.Words.{addressLen, phraseLen}
 use Rattle.address_list.specs.declared.Kind.{Kind}
 use Rattle.address_list.specs.declared.Kind.the-variants.{Blank, Comma, Colon, Semicolon, Phrase, Address, Angled, Alternative, Stray}

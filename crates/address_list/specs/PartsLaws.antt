@@ -10,10 +10,10 @@ use lib.Dec.{ltb, eqb}
 use borrow.Author.Tests.{lt-ltb, le-ltb, eq-eqb, ne-eqb}
 use lib.ListN.{length, take, drop, getD, drop-of-length-le, length-drop}
 use lib.Seq.{drop-drop}
-use Rattle.utf8.specs.Byte.{isAscii}
-use Rattle.utf8.specs.Lists.{all}
-use Rattle.utf8.specs.Run.{run}
-use Rattle.header.specs.Lines.{blank}
+use Rattle.lists.specs.Byte.{isAscii}
+use Rattle.lists.specs.Lists.{all}
+use Rattle.lists.specs.Run.{run}
+use Rattle.line.specs.Line.{blank}
 use Rattle.address.specs.Address.{addressScan, scanThen, localScan, dotAtomScan, dotAtomFrom}
 use Rattle.address_list.specs.Words.{capped, addressLen, wordLen, phraseLen}
 use Rattle.address_list.specs.Parts.{front, stray, alternativeAt, angledAt, namedAt, partAt, Part, partsFrom, changes}

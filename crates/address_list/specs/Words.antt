@@ -6,8 +6,8 @@ use mathlib.Core.List.{List, [], _∷_}
 use Prim.Native.Nat.{ℕ, zero, suc, pred, _+_}
 use lib.Dec.{ltb, leb, eqb}
 use lib.ListN.{drop, getD}
-use Rattle.utf8.specs.Run.{run}
-use Rattle.header.specs.Lines.{blank}
+use Rattle.lists.specs.Run.{run}
+use Rattle.line.specs.Line.{blank}
 use Rattle.address.specs.declared.Scan.{Scan}
 use Rattle.address.specs.declared.Scan.the-variants.{To, Stop}
 use Rattle.address.specs.Address.{isAtomByte, quotedScan, addressScan}

@@ -9,9 +9,9 @@ use lib.Dec.{ltb, leb, eqb}
 use borrow.Author.Tests.{lt-ltb, le-leb, lt-leb, eq-eqb, ne-eqb}
 use lib.ListN.{length, drop, getD, drop-of-length-le, length-drop}
 use lib.Seq.{drop-drop}
-use Rattle.utf8.specs.Lists.{cond-has}
-use Rattle.utf8.specs.Run.{run, run-le}
-use Rattle.header.specs.Lines.{blank}
+use Rattle.lists.specs.Lists.{cond-has}
+use Rattle.lists.specs.Run.{run, run-le}
+use Rattle.line.specs.Line.{blank}
 use Rattle.address.specs.declared.Scan.{Scan}
 use Rattle.address.specs.declared.Scan.the-variants.{To, Stop}
 use Rattle.address.specs.Address.{later, quotedScan, addressScan}

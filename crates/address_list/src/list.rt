@@ -103,10 +103,10 @@ fn changes(t: &[u8], kind: Kind) -> bool
         Kind::Colon => false,
         Kind::Semicolon => false,
         Kind::Phrase => false,
-        Kind::Address => !address::is_ascii(t),
+        Kind::Address => !utf8::is_ascii(t),
         Kind::Angled(start, size) => {
             let end = start + size;
-            !address::is_ascii(&t[start..end])
+            !utf8::is_ascii(&t[start..end])
         }
         Kind::Alternative(_, _) => true,
         Kind::Stray => false,

@@ -29,7 +29,7 @@ fn alternative(t: &[u8], a: usize, b: usize) -> Front
     if inner == b {
         return stray();
     }
-    if address::is_ascii(&t[a..b]) {
+    if utf8::is_ascii(&t[a..b]) {
         return stray();
     }
     if byte_at(t, inner) != b'<' {
@@ -47,7 +47,7 @@ fn alternative(t: &[u8], a: usize, b: usize) -> Front
     if byte_at(t, end + 1) != b'>' {
         return stray();
     }
-    if address::is_ascii(&t[start..end]) {
+    if utf8::is_ascii(&t[start..end]) {
         return Front {
             kind: Kind::Alternative(start, size),
             size: end + 2,
@@ -113,7 +113,7 @@ fn part_at(t: &[u8]) -> Front
     ensures { λ r. ⌜ Took (partAt (now (t .entry))) (now (t .entry)) r ⌝ }
 {
     let first = t[0];
-    if header::checking::is_blank(first) {
+    if line::is_blank(first) {
         return mark(Kind::Blank);
     }
     if first == b',' {

@@ -2,12 +2,12 @@
 ghost use mathlib.Core.Path.{_≡_};
 ghost use Prim.Native.Nat.{_+_, _-_, _≤_};
 ghost use lib.ListN.{length, drop};
-ghost use Rattle.utf8.specs.Run.{run};
-ghost use Rattle.header.specs.Lines.{blank};
+ghost use Rattle.lists.specs.Run.{run};
+ghost use Rattle.line.specs.Line.{blank};
 ghost use Rattle.address.specs.Address.{quotedScan};
 ghost use Rattle.address_list.specs.Words.{found, capped, isWordByte, addressLen, wordLen, nextWordLen, phraseLen};
 use address::Scan;
-use header::checking::is_blank;
+use line::is_blank;
 
 // A length; none where it exceeds 900.
 fn capped(n: usize) -> usize

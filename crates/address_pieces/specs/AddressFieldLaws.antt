@@ -8,11 +8,11 @@ use native.Mathlib.Omega.{arith}
 use lib.Dec.{T, leb, ltb, eqb, eqb→eq}
 use lib.ListN.{length, take, drop, getD}
 use mir.Facts.{and-yes, yes-and, ltb-yes, ltb-no}
-use Rattle.utf8.specs.Byte.{isAscii}
-use Rattle.utf8.specs.Lists.{yes-true, true-yes, cond-has, all, all-append}
-use Rattle.utf8.specs.Run.{run}
+use Rattle.lists.specs.Byte.{isAscii}
+use Rattle.lists.specs.Lists.{yes-true, true-yes, cond-has, all, all-append}
+use Rattle.lists.specs.Run.{run}
 use Rattle.utf8.specs.Utf8.{utf8}
-use Rattle.header.specs.Lines.{blank}
+use Rattle.line.specs.Line.{blank}
 use Rattle.header.specs.Fields.{nameOf, textOf}
 use Rattle.header.specs.FieldShape.{Shaped}
 use Rattle.header.specs.FieldShapeLaws.{text-utf8}

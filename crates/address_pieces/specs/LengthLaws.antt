@@ -9,10 +9,10 @@ use native.Mathlib.Nat.{not-suc-le-zero}
 use lib.Dec.{leb, ltb, eqb, eqb→eq}
 use mir.Facts.{ltb-yes, eqb-no}
 use lib.ListN.{length, take, drop, getD, length-drop, length-take, length-append}
-use Rattle.utf8.specs.Byte.{isAscii}
-use Rattle.utf8.specs.Lists.{all, cond-has}
-use Rattle.utf8.specs.Run.{run}
-use Rattle.header.specs.Lines.{blank}
+use Rattle.lists.specs.Byte.{isAscii}
+use Rattle.lists.specs.Lists.{all, cond-has}
+use Rattle.lists.specs.Run.{run}
+use Rattle.line.specs.Line.{blank}
 use Rattle.header.specs.Fields.{nameOf, textOf}
 use Rattle.letter_case.specs.LetterCase.{bytes}
 use Rattle.encoded_word.specs.StreamLaws.{length-row-le}
@@ -21,7 +21,7 @@ use Rattle.encoded_word.specs.Segments.{Segment, bytesOf, rendered}
 use Rattle.encoded_word.specs.Segments.Segment.{raw, words}
 use Rattle.header.specs.FieldShape.{Shaped}
 use Rattle.field.specs.FieldLaws.{length-name, length-encoded, length-shaped}
-use Rattle.field.specs.TextLaws.{length-text}
+use Rattle.field_text.specs.TextLaws.{length-text}
 use Rattle.address.specs.declared.Scan.{Scan}
 use Rattle.address.specs.declared.Scan.the-variants.{To, Stop}
 use Rattle.address.specs.Address.{addressScan}

@@ -10,11 +10,11 @@ use lib.Dec.{eqb, lit≤}
 use borrow.Author.Tests.{ne-eqb}
 use lib.ListN.{length, take, drop, getD, drop-of-length-le, length-drop, length-take, length-append}
 use lib.Seq.{drop-cons, drop-drop, length-take-le}
-use Rattle.utf8.specs.Byte.{isAscii}
-use Rattle.utf8.specs.Lists.{all}
-use Rattle.utf8.specs.Run.{run}
+use Rattle.lists.specs.Byte.{isAscii}
+use Rattle.lists.specs.Lists.{all}
+use Rattle.lists.specs.Run.{run}
 use Rattle.buffer.specs.Buffer.{AppendedCapped, greatest}
-use Rattle.header.specs.Lines.{blank}
+use Rattle.line.specs.Line.{blank}
 use Rattle.encoded_word.specs.Row.{row, bounded}
 use Rattle.encoded_word.specs.StreamLaws.{bounded-short}
 use Rattle.encoded_word.specs.Segments.{Segment, bytesOf, rendered}

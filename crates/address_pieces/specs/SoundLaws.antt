@@ -10,12 +10,12 @@ use lib.ListN.{length, take, drop, getD, take-append-drop, length-drop, drop-of-
 use lib.Seq.{drop-drop, take-all, take-add}
 use mir.Facts.{and-yes, yes-and, ltb-yes, ltb-no, leb-yes, leb-no}
 use borrow.Author.Tests.{ne-eqb}
-use Rattle.utf8.specs.Byte.{isAscii}
-use Rattle.utf8.specs.Lists.{by-test, yes-true, true-yes, no-false, cond-has, all, all-append, all-left, all-right, all-weaken, joined}
-use Rattle.utf8.specs.Run.{run, run-all, run-after, run-le}
+use Rattle.lists.specs.Byte.{isAscii}
+use Rattle.lists.specs.Lists.{by-test, yes-true, true-yes, no-false, cond-has, all, all-append, all-left, all-right, all-weaken, joined}
+use Rattle.lists.specs.Run.{run, run-all, run-after, run-le}
 use Rattle.utf8.specs.Utf8.{utf8, chars, charsAfter, isChar}
 use Rattle.utf8.specs.Utf8Laws.{chars-joined, char-some, char-high, utf8-of, utf8-right, utf8-append, utf8-char, utf8-ascii, utf8-cut}
-use Rattle.header.specs.Lines.{blank}
+use Rattle.line.specs.Line.{blank}
 use Rattle.letter_case.specs.LetterCase.{bytes}
 use Rattle.address.specs.AddressLaws.{front-byte}
 use Rattle.address.specs.declared.Scan.{Scan}

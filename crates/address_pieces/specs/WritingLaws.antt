@@ -7,14 +7,14 @@ use native.Mathlib.Omega.{arith}
 use lib.ListN.{length, take, drop, length-take}
 use Rattle.buffer.specs.Buffer.{Wrote, Appended, AppendedCapped, greatest}
 use Rattle.buffer.specs.BufferLaws.{appended-from, appended-of, appended-then, capped-then, length-wrote, length-added, wrote-from, wrote-of}
-use Rattle.header.specs.Lines.{nameLen}
+use Rattle.header_line.specs.Lines.{nameLen}
 use Rattle.header.specs.Fields.{nameOf, textOf}
 use Rattle.encoded_word.specs.Row.{row}
 use Rattle.encoded_word.specs.SegmentsLaws.{rendered-append}
 use Rattle.encoded_word.specs.Segments.{rendered, bytesOf}
 use Rattle.field.specs.Field.{encodedField, boundedField}
 use Rattle.field.specs.FieldLaws.{bounded-field, name-part, length-name, length-encoded}
-use Rattle.field.specs.TextLaws.{length-text, wrote-front}
+use Rattle.field_text.specs.TextLaws.{length-text, wrote-front}
 use Rattle.address_list.specs.Parts.{partsOf}
 use Rattle.address_list.specs.Table.{examined}
 use Rattle.address_list.specs.declared.Examined.{Examined}

@@ -19,7 +19,7 @@ fn put_rewritten(out: &mut [u8], field: &[u8], text: &[u8]) -> usize
     requires { ⌜ (length (now field) ≤ 32768) × (now text ≡ textOf (now field)) ⌝ }
     ensures { λ r. ⌜ Wrote (rendered (rewrittenField (now (field .entry)))) (now (out .entry)) (now (out .exit)) r ⌝ }
 {
-    let n = header::checking::name_len(field);
+    let n = header_line::name_len(field);
     let name = buffer::add_slice(out, 0, &field[..n]);
     let colon = buffer::add_byte(out, name, b':');
     let value = part::add_parts(out, colon, text);

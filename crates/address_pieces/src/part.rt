@@ -18,7 +18,7 @@ fn add_bare(out: &mut [u8], at: usize, address: &[u8]) -> usize
     requires { ⌜ length (now address) ≤ 32768 ⌝ }
     ensures { λ r. ⌜ AppendedCapped (rendered (addressPieces piece (now (address .entry)))) at (now (out .entry)) (now (out .exit)) r ⌝ }
 {
-    if address::is_ascii(address) {
+    if utf8::is_ascii(address) {
         return add_piece(out, at, address);
     }
     add_removed(out, at, address)
@@ -29,7 +29,7 @@ fn add_angled(out: &mut [u8], at: usize, address: &[u8]) -> usize
     requires { ⌜ length (now address) ≤ 32768 ⌝ }
     ensures { λ r. ⌜ AppendedCapped (rendered (addressPieces inAngles (now (address .entry)))) at (now (out .entry)) (now (out .exit)) r ⌝ }
 {
-    if address::is_ascii(address) {
+    if utf8::is_ascii(address) {
         return add_in_angles(out, at, address);
     }
     add_removed(out, at, address)

@@ -120,7 +120,7 @@ pub(crate) fn add_phrase(out: &mut [u8], at: usize, phrase: &[u8]) -> usize
     requires { ⌜ length (now phrase) ≤ 32768 ⌝ }
     ensures { λ r. ⌜ AppendedCapped (rendered (phrasePieces (now (phrase .entry)))) at (now (out .entry)) (now (out .exit)) r ⌝ }
 {
-    if address::is_ascii(phrase) {
+    if utf8::is_ascii(phrase) {
         return add_word_pieces(out, at, phrase);
     }
     if phrase.len() <= 512 {

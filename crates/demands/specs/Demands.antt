@@ -6,8 +6,8 @@ use mathlib.Core.List.{List, _∷_, _++_, map}
 use Prim.Native.Nat.{ℕ, _≤_, _<_}
 use lib.Dec.{T}
 use lib.ListN.{length, take, drop}
-use Rattle.utf8.specs.Byte.{isAscii}
-use Rattle.utf8.specs.Lists.{all, joined}
+use Rattle.lists.specs.Byte.{isAscii}
+use Rattle.lists.specs.Lists.{all, joined}
 use Rattle.encoded_word.specs.Demand3.{Demand3}
 use Rattle.encoded_word.specs.Segments.{Segment, rendered}
 use Rattle.encoded_word.specs.Segments.Segment.{words}
@@ -15,14 +15,14 @@ use Rattle.envelope_line.specs.declared.Fault.the-variants.{Malformed, NoAltern
 use Rattle.envelope.specs.declared.Checked.the-variants.{Passed, Refused}
 use Rattle.envelope.specs.declared.Orcpt.the-variants.{Clean, At}
 use Rattle.envelope.specs.Envelope.{checked, orcptLine, written}
-use Rattle.header.specs.declared.Lines.the-variants.{WellFormed, Malformed as MalformedLine}
+use Rattle.header_line.specs.declared.LineCheck.the-variants.{WellFormed, Malformed as MalformedLine}
 use Rattle.header.specs.declared.HeldField.the-variants.{Absent, At as HeldAt}
-use Rattle.header.specs.Lines.{linesOf}
+use Rattle.header_line.specs.Lines.{checkedLines}
 use Rattle.header.specs.Fields.{fieldsOf, valueOf, heldOf}
 use Rattle.field.specs.Field.{fieldSegments}
 use Rattle.address_pieces.specs.AddressField.{addressField}
-use Rattle.hennelaku.specs.OutgoingHeader.{newFields, outgoingSegments, outgoingHeader}
-use Rattle.hennelaku.specs.Outcome.{Outcome}
+use Rattle.call.specs.OutgoingHeader.{newFields, outgoingSegments, outgoingHeader}
+use Rattle.call.specs.Outcome.{Outcome}
 
 -- ---- demand 1: "Every input of bytes is taken: downgraded, or refused by one of the numbers 1 to 8 under the exact condition of
 -- that number. A refusal writes to neither buffer. A success gives both lengths and touches nothing past them."
@@ -41,7 +41,7 @@ pub record EnvelopePasses (e h : List ℕ) : Type 0 where
 -- and no header line is malformed,
 pub record HeaderPasses (e h : List ℕ) : Type 0 where
   pub envelope : EnvelopePasses e h
-  pub lines : linesOf h ≡ WellFormed
+  pub lines : checkedLines h ≡ WellFormed
 
 -- and no ORCPT carries non-ASCII,
 pub record OrcptPasses (e h : List ℕ) : Type 0 where
@@ -60,7 +60,7 @@ pub data Given (e h b c : List ℕ) : ℕ → ℕ → Type 0 where
   envelope-malformed : {line : ℕ} → InLimits e h → checked e ≡ Refused Malformed line → Given e h b c 2 line
   no-alternative : {line : ℕ} → InLimits e h → checked e ≡ Refused NoAlternative line → Given e h b c 3 line
   bad-alternative : {line : ℕ} → InLimits e h → checked e ≡ Refused BadAlternative line → Given e h b c 4 line
-  header-malformed : {line at : ℕ} → EnvelopePasses e h → linesOf h ≡ MalformedLine line at → Given e h b c 5 line
+  header-malformed : {line at : ℕ} → EnvelopePasses e h → checkedLines h ≡ MalformedLine line at → Given e h b c 5 line
   orcpt-non-ascii : {line : ℕ} → HeaderPasses e h → orcptLine e ≡ At line → Given e h b c 6 line
   held-non-ascii : {line at : ℕ} → OrcptPasses e h → heldOf h ≡ HeldAt line at → Given e h b c 6 line
   envelope-longer : Passes e h → length b < length (written e) → Given e h b c 7 (length (written e))

@@ -7,9 +7,9 @@ use native.Mathlib.Omega.{arith}
 use lib.Dec.{T, ltb}
 use lib.ListN.{length, drop}
 use mir.Facts.{ltb-yes, ltb-no, yes-and}
-use Rattle.utf8.specs.Byte.{isAscii}
+use Rattle.lists.specs.Byte.{isAscii}
 use Rattle.utf8.specs.Utf8.{utf8}
-use Rattle.utf8.specs.Lists.{by-test, all, all-append, joined}
+use Rattle.lists.specs.Lists.{by-test, all, all-append, joined}
 use Rattle.buffer.specs.Buffer.{overlay}
 use Rattle.buffer.specs.BufferLaws.{length-overlay, overlay-front, overlay-past}
 use Rattle.encoded_word.specs.Row.{row}
@@ -27,23 +27,23 @@ use Rattle.envelope.specs.Envelope.{frontFault, thenNext, rcptFault, rcptsFrom,
 use Rattle.envelope.specs.AsciiLaws.{written-ascii}
 use Rattle.envelope.specs.ReplacementLaws.{mail-replacement-utf8, rcpt-replacement-utf8}
 use Rattle.line.specs.Line.{lineLen}
-use Rattle.header.specs.declared.Lines.{Lines}
-use Rattle.header.specs.declared.Lines.the-variants.{WellFormed, Malformed as MalformedLine}
+use Rattle.header_line.specs.declared.LineCheck.{LineCheck}
+use Rattle.header_line.specs.declared.LineCheck.the-variants.{WellFormed, Malformed as MalformedLine}
 use Rattle.header.specs.declared.HeldField.{HeldField}
 use Rattle.header.specs.declared.HeldField.the-variants.{Absent, At as HeldAt}
-use Rattle.header.specs.Lines.{linesOf}
+use Rattle.header_line.specs.Lines.{checkedLines}
 use Rattle.header.specs.Fields.{fieldsOf, heldOf}
 use Rattle.header.specs.FieldLaws.{fields-joined}
 use Rattle.field.specs.Field.{fieldSegments, headerSegments}
 use Rattle.field.specs.FieldSound.{field-copied, header-sound}
 use Rattle.address_pieces.specs.AddressField.{addressField}
 use Rattle.address_pieces.specs.AddressFieldLaws.{address-field-sound}
-use Rattle.hennelaku.specs.declared.Refusal.the-variants.{EnvelopeOver, HeaderOver, EnvelopeNeeds, HeaderNeeds}
-use Rattle.hennelaku.specs.declared.Verdict.{Verdict}
-use Rattle.hennelaku.specs.declared.Verdict.the-variants.{Accept, Refuse}
-use Rattle.hennelaku.specs.OutgoingHeader.{newField, newFields, outgoingSegments, outgoingHeader}
-use Rattle.hennelaku.specs.Outcome.{numberOf, placeOf, ofEnvelope, ofLines, ofOrcpt, ofHeld, firstOf, verdict, Outcome, outcomeOf, outcome}
-use Rattle.hennelaku.specs.OutputLaws.{over-yes, over-no}
+use Rattle.call.specs.declared.Refusal.the-variants.{EnvelopeOver, HeaderOver, EnvelopeNeeds, HeaderNeeds}
+use Rattle.call.specs.declared.Verdict.{Verdict}
+use Rattle.call.specs.declared.Verdict.the-variants.{Accept, Refuse}
+use Rattle.call.specs.OutgoingHeader.{newField, newFields, outgoingSegments, outgoingHeader}
+use Rattle.call.specs.Outcome.{numberOf, placeOf, ofEnvelope, ofLines, ofOrcpt, ofHeld, firstOf, verdict, Outcome, outcomeOf, outcome}
+use Rattle.call.specs.OutputLaws.{over-yes, over-no}
 use Rattle.demands.specs.Demands.{InLimits, EnvelopePasses, HeaderPasses, OrcptPasses, Passes, Given, Untouched, KeptPast, Demand1, became, Demand2, RowThere, DemandThree, Demands}
 use Rattle.demands.specs.Demands.Given.{envelope-over, header-over, envelope-malformed, no-alternative, bad-alternative, header-malformed, orcpt-non-ascii, held-non-ascii, envelope-longer, header-longer, none-holds}
 
@@ -137,7 +137,7 @@ module _ (e h b c : List ℕ) where
   some-orcpt p Clean k = some-held (record { header = p; orcpt = k }) (heldOf h) refl
   some-orcpt p (At line) k = found (orcpt-non-ascii p k)
 
-  some-header : EnvelopePasses e h → (found : Lines) → linesOf h ≡ found → Some
+  some-header : EnvelopePasses e h → (found : LineCheck) → checkedLines h ≡ found → Some
   some-header p WellFormed k = some-orcpt (record { envelope = p; lines = k }) (orcptLine e) refl
   some-header p (MalformedLine line at) k = found (header-malformed p k)
 
@@ -148,7 +148,7 @@ module _ (e h b c : List ℕ) where
   some-fault s BadAlternative line k = found (bad-alternative s k)
 
   some-envelope : InLimits e h → (found : Checked) → checked e ≡ found → Some
-  some-envelope s (Passed count) k = some-header (record { limits = s; recipients = count; lines = k }) (linesOf h) refl
+  some-envelope s (Passed count) k = some-header (record { limits = s; recipients = count; lines = k }) (checkedLines h) refl
   some-envelope s (Refused fault line) k = some-fault s fault line k
 
   some : Some

@@ -8,12 +8,12 @@ use native.Mathlib.Omega.{arith}
 use lib.ListN.{length, length-append, length-map}
 use lib.Dec.{T, leb→le, le→leb, lit≤}
 use mir.Facts.{and-yes}
-use Rattle.utf8.specs.Lists.{all, all-append, all-joined, all-mem, nonempty, joined, joined-append, joined-map}
-use Rattle.utf8.specs.Byte.{isByte}
+use Rattle.lists.specs.Lists.{all, all-append, all-joined, all-mem, nonempty, joined, joined-append, joined-map}
+use Rattle.lists.specs.Byte.{isByte}
 use Rattle.utf8.specs.Utf8.{isChar, chars, utf8}
 use Rattle.utf8.specs.Utf8Laws.{chars-joined, chars-of, utf8-of, utf8-bytes, char-length}
-use Rattle.encoded_word.specs.Cut.{AllFit}
-use Rattle.encoded_word.specs.CutLaws.{cut-joined, cut-fits, cut-some, fewest}
+use Rattle.cut.specs.Cut.{AllFit}
+use Rattle.cut.specs.CutLaws.{cut-joined, cut-fits, cut-some, fewest}
 use Rattle.encoded_word.specs.Spelling.{spellByte, spell}
 use Rattle.encoded_word.specs.SpellingLaws.{spell-byte-some, length-spell, length-spell-append, length-spell-joined}
 use Rattle.encoded_word.specs.Reading.{Word, added, standing, wordBytes, wordsOf, textOf, opening, closing}

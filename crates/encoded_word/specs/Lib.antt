@@ -1,5 +1,3 @@
-pub mod Cut
-pub mod CutLaws
 pub mod Spelling
 pub mod SpellingLaws
 pub mod Reading

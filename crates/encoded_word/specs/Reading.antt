@@ -6,8 +6,8 @@ use mathlib.Core.Option.{Option, none, some, Option·map}
 use Prim.Native.Nat.{ℕ, _+_, _-_, _*_}
 use lib.Dec.{eqb}
 use lib.ListN.{drop}
-use Rattle.utf8.specs.Byte.{within}
-use Rattle.utf8.specs.Lists.{joined}
+use Rattle.lists.specs.Byte.{within}
+use Rattle.lists.specs.Lists.{joined}
 
 -- the bytes that stand in a word for one byte that it adds, and that byte
 abbrev pub Addition : Type 0

@@ -5,9 +5,9 @@ use mathlib.Core.Option.{Option, none, some}
 use Prim.Native.Nat.{ℕ}
 use lib.Count.{leadingZeros}
 use lib.ListN.{take, replicate}
-use Rattle.utf8.specs.Lists.{joined}
+use Rattle.lists.specs.Lists.{joined}
 use Rattle.utf8.specs.Utf8.{leadingOnes, charLen, charsAfter, chars}
-use Rattle.encoded_word.specs.Cut.{cut}
+use Rattle.cut.specs.Cut.{cut}
 use Rattle.encoded_word.specs.Spelling.{bare, hexDigit, spellByte, spell}
 use Rattle.encoded_word.specs.Reading.{opening, closing, role, hexValue, step, reading, wordsOf, readsAs}
 use Rattle.encoded_word.specs.Row.{runs, word, lines, rowIn, row}

@@ -4,9 +4,9 @@ use mathlib.Core.List.{List, [], _∷_, _++_, map}
 use Prim.Native.Nat.{ℕ}
 use lib.Dec.{leb}
 use lib.ListN.{length}
-use Rattle.utf8.specs.Lists.{joined}
+use Rattle.lists.specs.Lists.{joined}
 use Rattle.utf8.specs.Utf8.{chars}
-use Rattle.encoded_word.specs.Cut.{cut}
+use Rattle.cut.specs.Cut.{cut}
 use Rattle.encoded_word.specs.Spelling.{spell}
 use Rattle.encoded_word.specs.Reading.{opening, closing}
 

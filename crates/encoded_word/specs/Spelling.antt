@@ -4,7 +4,7 @@ use mathlib.Core.Bool.{Bool, cond, _||_}
 use mathlib.Core.List.{List, [], _∷_, _++_}
 use Prim.Native.Nat.{ℕ, _+_, _/_, _%_}
 use lib.Dec.{eqb, ltb}
-use Rattle.utf8.specs.Byte.{within}
+use Rattle.lists.specs.Byte.{within}
 
 -- the bytes that stand for themselves: letters, digits and !*+-/
 unfoldable pub bare : ℕ → Bool

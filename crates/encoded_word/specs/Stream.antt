@@ -5,7 +5,7 @@ use mathlib.Core.List.{List, [], _∷_, _++_}
 use Prim.Native.Nat.{ℕ, zero, suc, _+_, _-_, _*_, _≤_, _<_}
 use lib.Dec.{T, leb, eqb}
 use lib.ListN.{length, take, drop, getD}
-use Rattle.utf8.specs.Lists.{all}
+use Rattle.lists.specs.Lists.{all}
 use Rattle.utf8.specs.Utf8.{chars, charLen}
 use Rattle.buffer.specs.Buffer.{Appended, Reached}
 use Rattle.encoded_word.specs.Spelling.{bare, high, hexDigit, spellByte, spell}

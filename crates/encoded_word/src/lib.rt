@@ -6,7 +6,7 @@ mod word;
 
 ghost use mathlib.Core.Path.{_≡_};
 ghost use lib.ListN.{length};
-ghost use Rattle.buffer.specs.Buffer.{Wrote};
+ghost use Rattle.buffer.specs.Buffer.{Wrote, AppendedCapped};
 ghost use Rattle.encoded_word.specs.Row.{row, bounded};
 
 // The longest text that is encoded, in bytes. A longer one has no row.
@@ -42,4 +42,12 @@ pub fn len(text: &[u8]) -> usize
 {
     let mut none = [0u8; 0];
     write(&mut none, text)
+}
+
+// Writes a text's row from a place on, as far as it fits; answers the place after it.
+pub fn add(out: &mut [u8], at: usize, text: &[u8]) -> usize
+    ensures { λ r. ⌜ AppendedCapped (row (bounded (now (text .entry)))) at (now (out .entry)) (now (out .exit)) r ⌝ }
+{
+    let start = buffer::clip(at, out.len());
+    buffer::place_after(at, write(&mut out[start..], text))
 }

@@ -9,8 +9,8 @@ use lib.Dec.{T}
 use lib.ListN.{take, drop}
 use lib.Seq.{drop-drop}
 use borrow.Author.Tests.{ne-eqb}
-use Rattle.utf8.specs.Lists.{by-test, yes-true, true-yes, no-false, all, joined, all-append}
-use Rattle.utf8.specs.Byte.{isAscii}
+use Rattle.lists.specs.Lists.{by-test, yes-true, true-yes, no-false, all, joined, all-append}
+use Rattle.lists.specs.Byte.{isAscii}
 use Rattle.line.specs.Line.{crlf, lineLen}
 use Rattle.envelope_line.specs.declared.Fault.{Fault}
 use Rattle.envelope_line.specs.declared.Fault.the-variants.{Fine, Malformed, NoAlternative, BadAlternative}

@@ -5,7 +5,7 @@ use mathlib.Core.List.{List, [], _∷_, _++_, map}
 use Prim.Native.Nat.{ℕ, zero, suc, _+_}
 use lib.Dec.{eqb, ltb}
 use lib.ListN.{take, drop, getD}
-use Rattle.utf8.specs.Lists.{joined}
+use Rattle.lists.specs.Lists.{joined}
 use Rattle.buffer.specs.Buffer.{overlay}
 use Rattle.line.specs.Line.{crlf, lineLen}
 use Rattle.envelope_line.specs.declared.Fault.{Fault}

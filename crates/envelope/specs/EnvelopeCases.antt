@@ -3,12 +3,12 @@ use mathlib.Core.Path.{_≡_, refl}
 use mathlib.Core.List.{List, [], _∷_, _++_}
 use Prim.Native.Nat.{ℕ, zero, suc}
 use lib.Count.{leadingZeros}
-use Rattle.utf8.specs.Run.{run}
+use Rattle.lists.specs.Run.{run}
 use Rattle.utf8.specs.Utf8.{leadingOnes, charLen, secondLow, secondHigh, isChar, charsAfter, chars, utf8}
 use Rattle.letter_case.specs.LetterCase.{bytes, lower, sameAnyCase}
 use Rattle.line.specs.Line.{crlf, lineLen}
 use Rattle.address.specs.Address.{later, byteThen, scanThen, isAtext, isAtomByte, isQuotedByte, isLiteralByte, dotAtomFrom, dotAtomScan, quotedFrom, quotedScan, literalFrom, literalScan, domainScan, localScan, addressScan, isAddress, isAsciiAddress}
-use Rattle.address.specs.Xtext.{isXchar, isHexDigit, hexValue, isHexchar, unitLen, unitByte, decodingAfter, decoding, isXtext, decoded, isAltAddress}
+use Rattle.xtext.specs.Xtext.{isXchar, isHexDigit, hexValue, isHexchar, unitLen, unitByte, decodingAfter, decoding, isXtext, decoded, isAltAddress}
 use Rattle.envelope_line.specs.EnvelopeLine.{verb, hasVerb, pathScan, pathLen, path, hasPath, tail, paramsAfter, params, spaced, isKeywordByte, keywordLen, keyword, hasValue, value, isOrcpt, isAlt, isValueByte, isParam, alts, altsOk, alt, altPlace, wellFormed, altFault, lineFault, orcptClean, orcptFault, newPath, withoutAlt, writtenLine, replacement}
 use Rattle.envelope.specs.declared.Orcpt.{Orcpt}
 use Rattle.envelope.specs.declared.Orcpt.the-variants.{Clean, At}

@@ -10,13 +10,13 @@ use lib.ListN.{length, take, drop, getD, take-append-drop, drop-of-length-le}
 use lib.Seq.{drop-cons, drop-drop}
 use mir.Facts.{and-yes, yes-and, ltb-yes, yes-ltb, ltb-no}
 use borrow.Author.Tests.{lt-leb, ne-eqb, eqb-true, not-false}
-use Rattle.utf8.specs.Lists.{by-test, cond-has, yes-true, true-yes, no-false, all, all-append, all-left, all-right, all-weaken, nonempty}
-use Rattle.utf8.specs.Byte.{within, within-high, isAscii}
-use Rattle.utf8.specs.Run.{run, run-all, run-after}
+use Rattle.lists.specs.Lists.{by-test, cond-has, yes-true, true-yes, no-false, all, all-append, all-left, all-right, all-weaken, nonempty}
+use Rattle.lists.specs.Byte.{within, within-high, isAscii}
+use Rattle.lists.specs.Run.{run, run-all, run-after}
 use Rattle.utf8.specs.Utf8.{utf8}
 use Rattle.letter_case.specs.LetterCase.{bytes, lower, sameAnyCase}
 use Rattle.address.specs.Address.{isAddress, isAsciiAddress}
-use Rattle.address.specs.Xtext.{decoded, isXtext, isAltAddress}
+use Rattle.xtext.specs.Xtext.{decoded, isXtext, isAltAddress}
 use Rattle.envelope_line.specs.declared.Fault.the-variants.{Fine, BadAlternative}
 use Rattle.envelope_line.specs.EnvelopeLine.{verb, verbLen, hasVerb, pathScan, isTo, pathLen, path, hasPath, tail, notSpace, paramsAfter, params, spaced, isKeywordByte, keywordLen, keyword, hasValue, value, isOrcpt, isValueByte, isParam, alts, altsOk, alt, altPlace, wellFormed, altFault, lineFault, orcptClean, orcptFault, newPath, withoutAlt, writtenLine}
 

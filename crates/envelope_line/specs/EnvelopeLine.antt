@@ -7,15 +7,15 @@ use mathlib.Core.List.{List, [], _∷_, _++_}
 use Prim.Native.Nat.{ℕ, zero, suc, _+_}
 use lib.Dec.{eqb, leb, ltb}
 use lib.ListN.{length, take, drop, getD}
-use Rattle.utf8.specs.Lists.{all, nonempty}
-use Rattle.utf8.specs.Byte.{within, isAscii}
-use Rattle.utf8.specs.Run.{run}
+use Rattle.lists.specs.Lists.{all, nonempty}
+use Rattle.lists.specs.Byte.{within, isAscii}
+use Rattle.lists.specs.Run.{run}
 use Rattle.utf8.specs.Utf8.{utf8}
 use Rattle.letter_case.specs.LetterCase.{bytes, sameAnyCase}
 use Rattle.address.specs.declared.Scan.{Scan}
 use Rattle.address.specs.declared.Scan.the-variants.{To, Stop}
 use Rattle.address.specs.Address.{isHigh, addressScan}
-use Rattle.address.specs.Xtext.{decoded, isAltAddress}
+use Rattle.xtext.specs.Xtext.{decoded, isAltAddress}
 use Rattle.envelope_line.specs.declared.Fault.{Fault}
 use Rattle.envelope_line.specs.declared.Fault.the-variants.{Fine, Malformed, NoAlternative, BadAlternative}
 

@@ -7,10 +7,10 @@ use native.Mathlib.Omega.{arith}
 use lib.Dec.{T, leb}
 use lib.ListN.{length, take, drop, length-append, length-take, length-drop}
 use mir.Facts.{and-yes, yes-and, leb-yes, yes-leb}
-use Rattle.utf8.specs.Lists.{all, cond-has}
-use Rattle.utf8.specs.Byte.{isAscii}
-use Rattle.utf8.specs.Run.{run}
-use Rattle.address.specs.XtextLaws.{decoded-le}
+use Rattle.lists.specs.Lists.{all, cond-has}
+use Rattle.lists.specs.Byte.{isAscii}
+use Rattle.lists.specs.Run.{run}
+use Rattle.xtext.specs.XtextLaws.{decoded-le}
 use Rattle.envelope_line.specs.EnvelopeLine.{verbLen, pathLen, path, tail, notSpace, paramsAfter, params, keywordLen, value, isAlt, alts, alt, altPlace, newPath, withoutAlt, writtenLine, replacement}
 
 take-le : (n : ℕ) (s : List ℕ) → length (take n s) ≤ length s

@@ -10,12 +10,12 @@ use lib.Dec.{eqb}
 use lib.ListN.{length, take, drop, getD, drop-of-length-le}
 use lib.Seq.{drop-cons, drop-drop, length-take-le}
 use borrow.Author.Tests.{lt-ltb, le-ltb, eq-eqb, ne-eqb}
-use Rattle.utf8.specs.Lists.{all, nonempty}
-use Rattle.utf8.specs.Byte.{isAscii}
+use Rattle.lists.specs.Lists.{all, nonempty}
+use Rattle.lists.specs.Byte.{isAscii}
 use Rattle.buffer.specs.Buffer.{greatest}
 use Rattle.letter_case.specs.LetterCase.{bytes, sameAnyCase}
 use Rattle.line.specs.LineLaws.{drop-capped, part-rest}
-use Rattle.utf8.specs.Run.{run, run-le}
+use Rattle.lists.specs.Run.{run, run-le}
 use Rattle.envelope_line.specs.EnvelopeLine.{notSpace, paramsAfter, params, spaced, isKeywordByte, keywordLen, keyword, hasValue, value, isOrcpt, isAlt, isValueByte, isParam, alts, alt, altPlace, orcptClean}
 
 -- ---- one parameter after another

@@ -26,7 +26,7 @@ fn only_alt_fault(p: &[u8], ascii: bool) -> Fault
     if ascii {
         return Fault::BadAlternative;
     }
-    if address::xtext::is_alt_address(part(p, value_start(p), p.len())) {
+    if xtext::is_alt_address(part(p, value_start(p), p.len())) {
         return Fault::Fine;
     }
     Fault::BadAlternative
@@ -79,6 +79,6 @@ pub fn line_fault(line: &[u8], mail: bool) -> Fault
     tail_fault(
         line,
         end + 1,
-        address::is_ascii(part(line, path_start(mail), end)),
+        utf8::is_ascii(part(line, path_start(mail), end)),
     )
 }

@@ -2,8 +2,8 @@
 ghost use mathlib.Core.Path.{_≡_};
 ghost use Prim.Native.Nat.{_+_};
 ghost use lib.ListN.{drop};
-ghost use Rattle.utf8.specs.Lists.{all};
-ghost use Rattle.utf8.specs.Run.{run};
+ghost use Rattle.lists.specs.Lists.{all};
+ghost use Rattle.lists.specs.Run.{run};
 ghost use Rattle.envelope_line.specs.EnvelopeLine.{notSpace, params, spaced, isKeywordByte, keywordLen, value, isOrcpt as namesOrcpt, isAlt as namesAlt, isValueByte, isParam, orcptClean, orcptFault};
 ghost use Rattle.envelope_line.specs.ParameterLaws.{AltFrom};
 use crate::path::tail_start;
@@ -104,7 +104,7 @@ fn is_orcpt_clean(p: &[u8]) -> bool
     if !is_orcpt(p) {
         return true;
     }
-    address::is_ascii(part(p, value_start(p), p.len()))
+    utf8::is_ascii(part(p, value_start(p), p.len()))
 }
 
 // Where the parameter that starts at a place ends: at the next space or at the end.

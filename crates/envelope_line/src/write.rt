@@ -2,7 +2,7 @@
 ghost use mathlib.Core.List.{[], _∷_, _++_};
 ghost use lib.ListN.{drop};
 ghost use Rattle.buffer.specs.Buffer.{AppendedCapped};
-ghost use Rattle.address.specs.Xtext.{decoded};
+ghost use Rattle.xtext.specs.Xtext.{decoded};
 ghost use Rattle.envelope_line.specs.EnvelopeLine.{params, value, alt, withoutAlt, writtenLine, replacement};
 use crate::parameter::alt_place;
 use crate::parameter::param_end;
@@ -18,7 +18,7 @@ fn add_decoded(out: &mut [u8], at: usize, p: &[u8]) -> usize
 {
     let a = buffer::clip(at, out.len());
     let v = part(p, value_start(p), p.len());
-    buffer::place_after(at, address::xtext::put_decoded(&mut out[a..], v))
+    buffer::place_after(at, xtext::put_decoded(&mut out[a..], v))
 }
 
 // Writes the decoded ALT-ADDRESS of the rest of a line from a place on.
@@ -54,7 +54,7 @@ fn add_text(out: &mut [u8], at: usize, line: &[u8], mail: bool) -> usize
     ensures { λ r. ⌜ AppendedCapped (writtenLine mail (now (line .entry))) at (now (out .entry)) (now (out .exit)) r ⌝ }
 {
     let start = path_start(mail);
-    if address::is_ascii(part(line, start, path_end(line, mail))) {
+    if utf8::is_ascii(part(line, start, path_end(line, mail))) {
         return buffer::add_slice(out, at, line);
     }
     let rest = tail_start(line, mail);
@@ -79,7 +79,7 @@ pub fn add_replacement(out: &mut [u8], at: usize, line: &[u8], mail: bool) -> us
     let start = path_start(mail);
     let end = path_end(line, mail);
     let old = part(line, start, end);
-    if address::is_ascii(old) {
+    if utf8::is_ascii(old) {
         return at;
     }
     let rest = tail_start(line, mail);

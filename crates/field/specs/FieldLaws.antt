@@ -9,18 +9,18 @@ use lib.ListN.{length, take, length-take, length-append}
 use lib.Seq.{take-length, length-take-le}
 use mir.Facts.{leb-yes}
 use borrow.Author.Tests.{le-leb}
-use Rattle.utf8.specs.Lists.{cond-has}
+use Rattle.lists.specs.Lists.{cond-has}
 use Rattle.buffer.specs.Buffer.{Wrote, Appended, AppendedCapped}
 use Rattle.buffer.specs.BufferLaws.{appended-from, appended-of, appended-then, wrote-from}
 use Rattle.encoded_word.specs.Row.{row}
 use Rattle.encoded_word.specs.StreamLaws.{length-row-le}
 use Rattle.encoded_word.specs.Segments.{rendered}
-use Rattle.header.specs.Lines.{nameLen}
+use Rattle.header_line.specs.Lines.{nameLen}
 use Rattle.header.specs.Fields.{nameOf, valueOf, textOf}
 use Rattle.header.specs.FieldLaws.{name-le}
 use Rattle.letter_case.specs.LetterCase.{bytes}
 use Rattle.field.specs.Field.{prefix, encodedField, boundedField}
-use Rattle.field.specs.TextLaws.{length-text, length-text-value}
+use Rattle.field_text.specs.TextLaws.{length-text, length-text-value}
 use Rattle.header.specs.FieldShape.{Shaped}
 
 -- ---- the fields that are written

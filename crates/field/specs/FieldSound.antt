@@ -6,17 +6,17 @@ use Prim.Native.Nat.{ℕ}
 use native.Mathlib.Omega.{arith}
 use lib.Dec.{T, lt→ltb}
 use mir.Facts.{and-yes, yes-and}
-use Rattle.utf8.specs.Byte.{isAscii, within, within-high}
-use Rattle.utf8.specs.Lists.{cond-has, yes-true, all, all-append, all-weaken, joined}
-use Rattle.utf8.specs.Run.{run-all}
+use Rattle.lists.specs.Byte.{isAscii, within, within-high}
+use Rattle.lists.specs.Lists.{cond-has, yes-true, all, all-append, all-weaken, joined}
+use Rattle.lists.specs.Run.{run-all}
 use Rattle.utf8.specs.Utf8.{utf8}
 use Rattle.encoded_word.specs.Row.{row}
 use Rattle.encoded_word.specs.Demand3.{Demand3}
 use Rattle.encoded_word.specs.Segments.{Segment, rendered, sound}
 use Rattle.encoded_word.specs.Segments.Segment.{raw, words}
 use Rattle.encoded_word.specs.SegmentsLaws.{rendered-ascii, words-demand-3}
-use Rattle.header.specs.declared.Lines.the-variants.{WellFormed}
-use Rattle.header.specs.Lines.{linesOf, nameByte, nameLen}
+use Rattle.header_line.specs.declared.LineCheck.the-variants.{WellFormed}
+use Rattle.header_line.specs.Lines.{checkedLines, nameByte, nameLen}
 use Rattle.header.specs.Fields.{fieldsOf, nameOf, valueOf, textOf}
 use Rattle.header.specs.FieldShape.{Shaped, Each}
 use Rattle.header.specs.FieldShapeLaws.{fields-shaped, text-utf8}
@@ -85,7 +85,7 @@ fields-sound {address} a (field ∷ fields) s =
     (field-sound address (s .0) (λ k. a .each field (s .0) k))
     (fields-sound a fields (s .1))
 
-module _ {address : List ℕ → List Segment} (a : AddressSound address) (h : List ℕ) (w : linesOf h ≡ WellFormed) where
+module _ {address : List ℕ → List Segment} (a : AddressSound address) (h : List ℕ) (w : checkedLines h ≡ WellFormed) where
   pub header-sound : T (all sound (headerSegments address h))
   unfolding headerSegments
   header-sound = fields-sound a (fieldsOf h) (fields-shaped h w)

@@ -61,7 +61,7 @@ fn put_encoded(out: &mut [u8], field: &[u8], downgraded: bool) -> usize
     requires { ⌜ length (now field) ≤ 32768 ⌝ }
     ensures { λ r. ⌜ Wrote (rendered (encodedField downgraded (now (field .entry)))) (now (out .entry)) (now (out .exit)) r ⌝ }
 {
-    let n = header::checking::name_len(field);
+    let n = header_line::name_len(field);
     let name = put_prefix(out, downgraded);
     let colon = buffer::add_slice(out, name, &field[..n]);
     let words = buffer::add_byte(out, colon, b':');

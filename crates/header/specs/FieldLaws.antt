@@ -10,14 +10,15 @@ use lib.Dec.{T, eqb}
 use lib.ListN.{length, take, drop, getD, length-drop, length-take, take-append-drop, drop-of-length-le}
 use lib.Seq.{drop-cons, drop-drop, getD-drop, length-take-le, take-nil}
 use mir.Facts.{and-yes}
-use Rattle.utf8.specs.Lists.{cond-has, yes-true, true-yes, no-false, all, joined}
-use Rattle.utf8.specs.Byte.{isAscii}
-use Rattle.utf8.specs.Run.{run, run-le, run-all}
+use Rattle.lists.specs.Lists.{cond-has, yes-true, true-yes, no-false, all, joined}
+use Rattle.lists.specs.Byte.{isAscii}
+use Rattle.lists.specs.Run.{run, run-le, run-all}
 use Rattle.header_name.specs.Names.{kindOf}
-use Rattle.header.specs.Lines.{blank, nameByte, nameLen}
+use Rattle.header_line.specs.Lines.{nameByte, nameLen}
+use Rattle.line.specs.Line.{blank}
 use Rattle.line.specs.Line.{crlf}
 use Rattle.line.specs.LineLaws.{notCr}
-use Rattle.header.specs.LineLaws.{crlf-inside}
+use Rattle.line.specs.LineLaws.{crlf-inside}
 use Rattle.header.specs.Fields.{fold, fieldLen, fieldsAfter, fieldsOf, nameOf, valueOf, lineCount, isHeld, refused, heldFrom, heldOf}
 use Rattle.header.specs.declared.HeldField.the-variants.{Absent, At}
 

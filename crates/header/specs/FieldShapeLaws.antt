@@ -9,19 +9,21 @@ use lib.Dec.{T, leb, eqb, eqb→eq}
 use lib.ListN.{length, take, drop, getD, length-append, length-drop, take-append-drop, List·getD-eq-default}
 use lib.Seq.{drop-drop, length-take-le, split-at, take-at, drop-at}
 use mir.Facts.{and-yes, yes-and, leb-yes, leb-no}
-use Rattle.utf8.specs.Lists.{by-test, yes-true, no-false, all, all-right, all-past, all-weaken, joined}
-use Rattle.utf8.specs.Byte.{isAscii, within}
-use Rattle.utf8.specs.Run.{run, run-all, run-past}
+use Rattle.lists.specs.Lists.{by-test, yes-true, no-false, all, all-right, all-past, all-weaken, joined}
+use Rattle.lists.specs.Byte.{isAscii, within}
+use Rattle.lists.specs.Run.{run, run-all, run-past}
 use Rattle.utf8.specs.Utf8.{utf8}
 use Rattle.utf8.specs.Utf8Laws.{utf8-right, utf8-append, utf8-ascii, utf8-cut}
-use Rattle.header.specs.Lines.{lineByte, blank, nameByte, nameLen, named, continuation, wellFormed, lineOk, linesFrom, linesOf}
+use Rattle.header_line.specs.Lines.{lineByte, nameByte, nameLen, named, continuation, wellFormed, lineOk, linesFrom, checkedLines}
+use Rattle.line.specs.Line.{blank}
 use Rattle.line.specs.Line.{crlf, lineLen}
-use Rattle.header.specs.LineLaws.{crlf-inside, front-good, front-bad}
+use Rattle.header_line.specs.LineLaws.{front-good, front-bad}
+use Rattle.line.specs.LineLaws.{crlf-inside}
 use Rattle.header.specs.Fields.{fold, fieldLen, fieldsOf, nameOf, valueOf, unfoldedAfter, trimmed, textOf}
 use Rattle.header.specs.FieldLaws.{ends, len-cons, len-past, fields-nil, fields-front}
 use Rattle.line.specs.LineLaws.{notCr}
 use Rattle.header.specs.FieldShape.{piece, continued, folded, Shaped, Each, withoutBreaks}
-use Rattle.header.specs.declared.Lines.the-variants.{WellFormed, Malformed}
+use Rattle.header_line.specs.declared.LineCheck.the-variants.{WellFormed, Malformed}
 
 -- ---- pieces
 
@@ -327,8 +329,8 @@ unfolding continuation
 first-named line t = rw and-false at (well-start true line t)
 
 -- each field of a header without malformed lines is a name, a colon, a value and CRLF
-pub fields-shaped : (h : List ℕ) → linesOf h ≡ WellFormed → Each Shaped (fieldsOf h)
-unfolding linesOf
+pub fields-shaped : (h : List ℕ) → checkedLines h ≡ WellFormed → Each Shaped (fieldsOf h)
+unfolding checkedLines
 fields-shaped [] e = rw fields-nil tt
 fields-shaped (b ∷ rest) e =
     let c = cut-line 0 0 (b ∷ rest) (omega arith) (first-well 0 0 (b ∷ rest) (omega arith) e) in

@@ -3,13 +3,14 @@ use mathlib.Core.Bool.{Bool, true, false, cond, not, _&&_}
 use mathlib.Core.List.{List, [], _∷_}
 use Prim.Native.Nat.{ℕ, zero, suc, pred, _+_, _-_}
 use lib.ListN.{length, take, drop, getD}
-use Rattle.utf8.specs.Lists.{all}
-use Rattle.utf8.specs.Byte.{isAscii}
-use Rattle.utf8.specs.Run.{run}
+use Rattle.lists.specs.Lists.{all}
+use Rattle.lists.specs.Byte.{isAscii}
+use Rattle.lists.specs.Run.{run}
 use Rattle.header_name.specs.declared.Kind.{Kind}
 use Rattle.header_name.specs.declared.Kind.the-variants.{Address, PlainText, Held, Other}
 use Rattle.header_name.specs.Names.{kindOf}
-use Rattle.header.specs.Lines.{blank, nameLen}
+use Rattle.header_line.specs.Lines.{nameLen}
+use Rattle.line.specs.Line.{blank}
 use Rattle.line.specs.Line.{crlf}
 use Rattle.header.specs.declared.HeldField.{HeldField}
 use Rattle.header.specs.declared.HeldField.the-variants.{Absent, At}

@@ -5,16 +5,17 @@ use Prim.Native.Nat.{ℕ}
 use Prim.Native.String.{String}
 use lib.Count.{leadingZeros}
 use lib.ListN.{replicate}
-use Rattle.utf8.specs.Lists.{joined}
-use Rattle.utf8.specs.Run.{run}
+use Rattle.lists.specs.Lists.{joined}
+use Rattle.lists.specs.Run.{run}
 use Rattle.utf8.specs.Utf8.{leadingOnes, charLen, charsAfter, chars, isChar, secondLow, secondHigh, utf8}
 use Rattle.header_name.specs.Names.{six, addressNames, plainTextNames, heldNames, among, kindOf}
 use Rattle.letter_case.specs.LetterCase.{bytes, lower, sameAnyCase}
-use Rattle.header.specs.Lines.{lineByte, blank, nameByte, nameLen, named, continuation, wellFormed, lineOk, linesFrom, linesOf}
+use Rattle.header_line.specs.Lines.{lineByte, nameByte, nameLen, named, continuation, wellFormed, lineOk, linesFrom, checkedLines}
+use Rattle.line.specs.Line.{blank}
 use Rattle.line.specs.Line.{crlf, lineLen}
 use Rattle.header.specs.Fields.{fold, fieldLen, fieldsAfter, fieldsOf, nameOf, valueOf, unfoldedAfter, trimmed, textOf, lineCount, isHeld, refused, heldFrom, heldOf}
-use Rattle.header.specs.declared.Lines.{Lines}
-use Rattle.header.specs.declared.Lines.the-variants.{WellFormed, Malformed}
+use Rattle.header_line.specs.declared.LineCheck.{LineCheck}
+use Rattle.header_line.specs.declared.LineCheck.the-variants.{WellFormed, Malformed}
 use Rattle.header.specs.declared.HeldField.{HeldField}
 use Rattle.header.specs.declared.HeldField.the-variants.{Absent, At}
 
@@ -24,12 +25,12 @@ lines texts = joined (map (λ text. bytes text ++ (13 ∷ 10 ∷ [])) texts)
 
 -- a case and its answer
 pub data Case : Type 0 where
-  checked : List ℕ → Lines → Case
+  checked : List ℕ → LineCheck → Case
   texts : List ℕ → List (List ℕ) → Case
   held : List ℕ → HeldField → Case
 
 abbrev pub Right : Case → Type 0
-Right (checked h answer) = linesOf h ≡ answer
+Right (checked h answer) = checkedLines h ≡ answer
 Right (texts h answer) = map textOf (fieldsOf h) ≡ answer
 Right (held h answer) = heldOf h ≡ answer
 
@@ -73,7 +74,7 @@ lineCases =
     ∷ []
 
 pub line-cases-right : AllRight lineCases
-unfolding bytes run crlf lineLen lineByte blank nameByte nameLen named continuation wellFormed lineOk linesFrom linesOf utf8 isChar chars charsAfter charLen leadingOnes leadingZeros secondLow secondHigh
+unfolding bytes run crlf lineLen lineByte blank nameByte nameLen named continuation wellFormed lineOk linesFrom checkedLines utf8 isChar chars charsAfter charLen leadingOnes leadingZeros secondLow secondHigh
 line-cases-right = (refl, (refl, (refl, (refl, (refl, (refl, (refl, (refl, (refl, (refl, (refl, (refl, (refl, (refl, (refl, (refl, (refl, (refl, (refl, (refl, (refl, tt)))))))))))))))))))))
 
 abbrev pub fieldCases : List Case

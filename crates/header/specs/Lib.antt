@@ -1,5 +1,3 @@
-pub mod Lines
-pub mod LineLaws
 pub mod Fields
 pub mod FieldLaws
 pub mod FieldShape

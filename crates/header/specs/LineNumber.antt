@@ -8,13 +8,13 @@ use lib.Dec.{T, leb, eqb}
 use lib.ListN.{length, take}
 use lib.Seq.{take-append-add}
 use mir.Facts.{and-yes, leb-yes, leb-no}
-use Rattle.utf8.specs.Lists.{by-test, no-false, all}
-use Rattle.header.specs.Lines.{lineByte, lineOk, linesFrom, linesOf}
+use Rattle.lists.specs.Lists.{by-test, no-false, all}
+use Rattle.header_line.specs.Lines.{lineByte, lineOk, linesFrom, checkedLines}
 use Rattle.line.specs.Line.{crlf}
-use Rattle.header.specs.LineLaws.{front-bad}
+use Rattle.header_line.specs.LineLaws.{front-bad}
 use Rattle.header.specs.Fields.{lineCount}
 use Rattle.header.specs.FieldShapeLaws.{Cut, cut-line, well-piece, piece-bytes, line-not-cr}
-use Rattle.header.specs.declared.Lines.the-variants.{WellFormed, Malformed}
+use Rattle.header_line.specs.declared.LineCheck.the-variants.{WellFormed, Malformed}
 
 count-past : (a b : List ℕ) → T (all lineByte a) → lineCount (a ++ b) ≡ lineCount b
 unfolding lineCount crlf
@@ -78,8 +78,8 @@ numbered (suc k) n at m to h l e =
     (λ t. here n at m to h (sym (front-bad n at h (leb-yes some) (no-false (lineOk (eqb n 0) h) t)) ∙ e)))
     (λ t. none-left n at m to h (omega (arith, leb-no {a = 1} {b = length h} t)) e)
 
-pub line-number : (h : List ℕ) (n at : ℕ) → linesOf h ≡ Malformed n at → n ≡ lineCount (take at h)
-unfolding linesOf
+pub line-number : (h : List ℕ) (n at : ℕ) → checkedLines h ≡ Malformed n at → n ≡ lineCount (take at h)
+unfolding checkedLines
 line-number h n at e =
     let whole : at - 0 ≡ at = omega arith in
     let r = numbered (length h) 0 0 n at h (omega arith) e in

@@ -3,7 +3,7 @@
 ghost use Prim.Native.Nat.{_≤_};
 ghost use lib.ListN.{length};
 use header::HeldField;
-use header::Lines;
+use header_line::LineCheck;
 use header_name::Kind;
 use libc::STDOUT_FILENO;
 
@@ -63,10 +63,10 @@ fn show_by_kind(kind: Kind, field: &[u8]) {
 }
 
 fn show_field(field: &[u8]) {
-    let n = header::checking::name_len(field);
+    let n = header_line::name_len(field);
     let kind = header_name::kind_of(&field[..n]);
     say_kind(kind);
-    if header::field::value_is_ascii(field) {
+    if header::value_is_ascii(field) {
         say(b", ASCII");
         copied(field);
         return;
@@ -79,7 +79,7 @@ fn show_fields(h: &[u8]) {
     say(b"well formed\r\n");
     let mut at = 0;
     while at < h.len() {
-        let to = header::field::field_end(h, at);
+        let to = header::field_end(h, at);
         show_field(&h[at..to]);
         at = to;
     }
@@ -102,9 +102,9 @@ fn show_well_formed(h: &[u8]) {
 fn show(label: &[u8], h: &[u8]) {
     say(label);
     say(b": ");
-    match header::check(h) {
-        Lines::WellFormed => show_well_formed(h),
-        Lines::Malformed(line, _) => refused(b"5 at line ", line),
+    match header_line::check(h) {
+        LineCheck::WellFormed => show_well_formed(h),
+        LineCheck::Malformed(line, _) => refused(b"5 at line ", line),
     }
 }
 

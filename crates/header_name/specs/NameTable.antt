@@ -4,7 +4,7 @@ use mathlib.Core.List.{List, [], _∷_, _++_, map}
 use Prim.Native.Nat.{ℕ, _+_}
 use lib.Dec.{eqb}
 use lib.ListN.{length}
-use Rattle.utf8.specs.Lists.{joined}
+use Rattle.lists.specs.Lists.{joined}
 use Rattle.header_name.specs.declared.Kind.{Kind}
 use Rattle.header_name.specs.declared.Kind.the-variants.{Address, PlainText, Held, Other}
 use Rattle.header_name.specs.Names.{six, addressNames, plainTextNames, heldNames}

@@ -1,5 +1,5 @@
 -- Lines, each up to its CRLF. Assumes nothing.
-use mathlib.Core.Bool.{Bool, cond, _&&_}
+use mathlib.Core.Bool.{Bool, cond, _&&_, _||_}
 use mathlib.Core.List.{List, [], _∷_}
 use Prim.Native.Nat.{ℕ, suc}
 use lib.Dec.{eqb}
@@ -13,3 +13,7 @@ crlf h = eqb (getD h 0 0) 13 && eqb (getD h 1 0) 10
 unfoldable pub lineLen : List ℕ → ℕ
 lineLen [] = 0
 lineLen (b ∷ rest) = cond (crlf (b ∷ rest)) 0 (suc (lineLen rest))
+
+-- "space or TAB"
+unfoldable pub blank : ℕ → Bool
+blank b = eqb b 32 || eqb b 9

@@ -1,5 +1,5 @@
 -- Laws of lines: by position, as code goes from CR to CR. Assumes nothing.
-use mathlib.Core.Path.{_≡_, refl}
+use mathlib.Core.Path.{_≡_, refl, sym, _∙_}
 use mathlib.Core.Bool.{Bool, true, false, not, _&&_, and-false}
 use mathlib.Core.List.{List, [], _∷_}
 use Prim.Native.Nat.{ℕ, suc, _+_, _-_, _≤_, _<_, min}
@@ -7,12 +7,12 @@ use native.Mathlib.Nat.{add-zero}
 use native.Mathlib.Numerals.{add-one}
 use native.Mathlib.Omega.{arith}
 use lib.Dec.{leb, ltb, eqb, eqb→eq}
-use lib.ListN.{length, take, drop, getD, length-drop, drop-of-length-le}
+use lib.ListN.{length, take, drop, getD, length-drop, drop-of-length-le, List·getD-eq-default}
 use lib.Seq.{take-all, take-nil, drop-cons, drop-drop, getD-drop}
 use borrow.Author.Tests.{not-false}
-use Rattle.utf8.specs.Lists.{by-test, cond-has, yes-true, no-false, true-yes}
-use Rattle.utf8.specs.Run.{run, run-after}
-use mir.Facts.{leb-yes, leb-no, ltb-yes, ltb-no}
+use Rattle.lists.specs.Lists.{by-test, cond-has, yes-true, no-false, true-yes}
+use Rattle.lists.specs.Run.{run, run-after}
+use mir.Facts.{and-yes, leb-yes, leb-no, ltb-yes, ltb-no}
 use Rattle.buffer.specs.Buffer.{greatest}
 use Rattle.line.specs.Line.{crlf, lineLen}
 
@@ -49,6 +49,10 @@ module _ (s : List ℕ) (i : ℕ) where
   unfolding crlf
   crlf-at = rw (getD-drop i s 0 0, getD-drop i s 1 0, add-zero)
 
+  pub crlf-past : length s ≤ i → false ≡ crlf (drop i s)
+  unfolding crlf
+  crlf-past h = rw (drop-of-length-le s {i = i} h)
+
   pub line-next-cr : (r : ℕ) → r ≡ i + crRun (drop i s) → i + lineLen (drop i s) ≡ r + lineLen (drop r s)
   line-next-cr r e = let k = line-cr (drop i s) in let d = drop-drop (crRun (drop i s)) i s in rw (e, ← d) (omega arith)
 
@@ -71,6 +75,15 @@ module _ (s : List ℕ) (i : ℕ) where
   pub line-past : length s ≤ i → i + lineLen (drop i s) ≡ i
   unfolding lineLen
   line-past h = rw (drop-of-length-le s {i = i} h) (omega arith)
+
+pub crlf-inside : (h : List ℕ) (e : ℕ) → crlf (drop e h) ≡ true → e + 2 ≤ length h
+unfolding crlf
+crlf-inside h e t =
+    let both = and-yes (eqb (getD (drop e h) 0 0) 13) (eqb (getD (drop e h) 1 0) 10) (true-yes (eqb (getD (drop e h) 0 0) 13 && eqb (getD (drop e h) 1 0) 10) t) in
+    let lf : getD h (e + 1) 0 ≡ 10 = sym (getD-drop e h 1 0) ∙ eqb→eq (getD (drop e h) 1 0) 10 (both .1) in
+    by-test (leb (length h) (e + 1))
+    (λ u. absurd (omega (arith, sym (List·getD-eq-default h 0 {n = e + 1} (leb-yes u)) ∙ lf)))
+    (λ u. omega (arith, leb-no {a = length h} {b = e + 1} u))
 
 pub line-le : (s : List ℕ) → lineLen s ≤ length s
 unfolding lineLen

@@ -1,6 +1,6 @@
 use native.Mathlib.Omega.{arith}
-use Rattle.utf8.specs.Lists.{true-yes}
-use Rattle.utf8.specs.Byte.{within, within-high}
+use Rattle.lists.specs.Lists.{true-yes}
+use Rattle.lists.specs.Byte.{within, within-high}
 use Rattle.letter_case.specs.LetterCase.{lower}
 use Rattle.letter_case.proofs.lower.Statement.{statement}
 use Rattle.letter_case.proofs.lower.Tie as tie

@@ -2,7 +2,7 @@ use mathlib.Core.Path.{_≡_, refl, sym, _∙_}
 use Prim.Native.Nat.{_+_, _-_, _≤_}
 use native.Mathlib.Omega.{arith}
 use lib.ListN.{length, drop, length-drop}
-use Rattle.utf8.specs.Run.{run, run-le}
+use Rattle.lists.specs.Run.{run, run-le}
 use Rattle.address_list.specs.Words.{isWordByte}
 use Rattle.address_list.specs.WordsLaws.{word-quoted, word-run, capped-le}
 use borrow.Author.Needs.{needs}

@@ -4,7 +4,7 @@ use mathlib.Core.Path.{_≡_, refl, sym, ap, _∙_}
 use lib.ListN.{length, drop}
 use borrow.Author.Needs.{needs}
 use borrow.Author.Tests.{not-true, not-false}
-use Rattle.utf8.specs.Lists.{all}
+use Rattle.lists.specs.Lists.{all}
 use Rattle.envelope_line.specs.ParameterLaws.{param-part, each-step, each-stop, each-end}
 use Rattle.envelope_line.specs.EnvelopeLine.{params, orcptClean}
 use Rattle.envelope_line.proofs.parameter.are_orcpt_clean.Statement.{statement}

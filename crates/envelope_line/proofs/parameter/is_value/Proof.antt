@@ -4,7 +4,7 @@ use mathlib.Core.Path.{_≡_, refl, sym, _∙_}
 use lib.ListN.{length, drop}
 use borrow.Author.Needs.{needs}
 use borrow.Author.Tests.{not-true, not-false}
-use Rattle.utf8.specs.Lists.{all}
+use Rattle.lists.specs.Lists.{all}
 use Rattle.envelope_line.specs.ParameterLaws.{bytes-step, bytes-stop, bytes-end}
 use Rattle.envelope_line.specs.EnvelopeLine.{isValueByte}
 use Rattle.envelope_line.proofs.parameter.is_value.Statement.{statement}

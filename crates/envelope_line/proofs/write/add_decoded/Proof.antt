@@ -1,6 +1,6 @@
 use Rattle.envelope_line.specs.WriteLaws.{wrote-same}
 use Rattle.envelope_line.specs.ParameterLaws.{value-part}
-use Rattle.address.specs.Xtext.{decoded}
+use Rattle.xtext.specs.Xtext.{decoded}
 use Rattle.buffer.specs.BufferLaws.{added-by}
 use mathlib.Core.Path.{ap}
 use borrow.Author.Needs.{needs}

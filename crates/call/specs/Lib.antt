@@ -1,0 +1,6 @@
+pub mod HeaderLaws
+pub mod NewFieldLaws
+pub mod Outcome
+pub mod OutcomeLaws
+pub mod OutgoingHeader
+pub mod OutputLaws
