@@ -1,3 +1,5 @@
 pub mod Byte
 pub mod Lists
 pub mod Run
+pub mod CutBy
+pub mod CutByLaws
