@@ -5,12 +5,12 @@ use mathlib.Core.List.{List, [], _∷_, _++_, append-assoc, append-nil}
 use Prim.Native.Nat.{ℕ, zero, suc, _+_, _-_, _≤_, _<_}
 use native.Mathlib.Nat.{add-zero}
 use native.Mathlib.Omega.{arith}
-use lib.Dec.{T, leb, eqb, eqb→eq}
+use lib.Dec.{T, leb, eqb, eqb→eq, lt→ltb}
 use lib.ListN.{length, take, drop, getD, length-append, length-drop, take-append-drop, List·getD-eq-default}
 use lib.Seq.{drop-drop, length-take-le, split-at, take-at, drop-at}
 use mir.Facts.{and-yes, yes-and, leb-yes, leb-no}
-use Rattle.lists.specs.Lists.{by-test, yes-true, no-false, all, all-right, all-past, all-weaken, joined}
-use Rattle.lists.specs.Byte.{isAscii, within}
+use Rattle.lists.specs.Lists.{by-test, yes-true, no-false, all, all-append, all-right, all-past, all-weaken, joined}
+use Rattle.lists.specs.Byte.{isAscii, within, within-high}
 use Rattle.lists.specs.Run.{run, run-all, run-past}
 use Rattle.utf8.specs.Utf8.{utf8}
 use Rattle.utf8.specs.Utf8Laws.{utf8-right, utf8-append, utf8-ascii, utf8-cut}
@@ -436,3 +436,20 @@ module _ {field : List ℕ} (s : Shaped field) where
   pub text-ascii : all isAscii (textOf field) ≡ all isAscii (valueOf field)
   unfolding textOf
   text-ascii = trimmed-ascii (unfoldedAfter 0 (valueOf field)) ∙ rw (unfolded, s .value) (joined-ascii (s .line) (s .more))
+
+-- ---- ASCII
+
+name-byte-ascii : (b : ℕ) → T (nameByte b) → T (isAscii b)
+unfolding nameByte
+name-byte-ascii b t = lt→ltb b 128 (omega (arith, within-high 33 126 b (and-yes (within 33 126 b) _ t .0)))
+
+pub name-ascii : (field : List ℕ) → T (all isAscii (nameOf field))
+unfolding nameOf nameLen
+name-ascii field = all-weaken nameByte isAscii name-byte-ascii (nameOf field) (run-all nameByte field)
+
+-- a field whose value is ASCII is ASCII
+pub field-ascii : {field : List ℕ} → Shaped field → T (all isAscii (valueOf field)) → T (all isAscii field)
+field-ascii {field} s t =
+    rw (s .parts)
+    (all-append isAscii (nameOf field) (58 ∷ (valueOf field ++ (13 ∷ 10 ∷ []))) (name-ascii field)
+    (all-append isAscii (58 ∷ valueOf field) (13 ∷ 10 ∷ []) t tt))

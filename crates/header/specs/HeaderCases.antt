@@ -8,16 +8,14 @@ use lib.ListN.{replicate}
 use Rattle.lists.specs.Lists.{joined}
 use Rattle.lists.specs.Run.{run}
 use Rattle.utf8.specs.Utf8.{leadingOnes, charLen, charsAfter, chars, isChar, secondLow, secondHigh, utf8}
-use Rattle.header_name.specs.Names.{six, addressNames, plainTextNames, heldNames, among, kindOf}
-use Rattle.letter_case.specs.LetterCase.{bytes, lower, sameAnyCase}
+use Rattle.letter_case.specs.LetterCase.{bytes}
 use Rattle.header_line.specs.Lines.{lineByte, nameByte, nameLen, named, continuation, wellFormed, lineOk, linesFrom, checkedLines}
 use Rattle.line.specs.Line.{blank}
 use Rattle.line.specs.Line.{crlf, lineLen}
-use Rattle.header.specs.Fields.{fold, fieldLen, fieldsAfter, fieldsOf, nameOf, valueOf, unfoldedAfter, trimmed, textOf, lineCount, isHeld, refused, heldFrom, heldOf}
+use Rattle.header.specs.Fields.{fold, fieldLen, fieldsOf, nameOf, valueOf, unfoldedAfter, trimmed, textOf}
+use Rattle.lists.specs.CutBy.{cutAfter, cutBy}
 use Rattle.header_line.specs.declared.LineCheck.{LineCheck}
 use Rattle.header_line.specs.declared.LineCheck.the-variants.{WellFormed, Malformed}
-use Rattle.header.specs.declared.HeldField.{HeldField}
-use Rattle.header.specs.declared.HeldField.the-variants.{Absent, At}
 
 -- these lines, each ended by CRLF
 abbrev lines : List String → List ℕ
@@ -27,12 +25,10 @@ lines texts = joined (map (λ text. bytes text ++ (13 ∷ 10 ∷ [])) texts)
 pub data Case : Type 0 where
   checked : List ℕ → LineCheck → Case
   texts : List ℕ → List (List ℕ) → Case
-  held : List ℕ → HeldField → Case
 
 abbrev pub Right : Case → Type 0
 Right (checked h answer) = checkedLines h ≡ answer
 Right (texts h answer) = map textOf (fieldsOf h) ≡ answer
-Right (held h answer) = heldOf h ≡ answer
 
 abbrev pub AllRight : List Case → Type 0
 AllRight [] = Unit {0}
@@ -84,13 +80,8 @@ fieldCases =
     -- folds: the CRLF goes and the blanks stay, but for leading ones
     ∷ Case.texts (lines ("a: b" ∷ "  c" ∷ "\td" ∷ "e:f" ∷ [])) (bytes "b  c\td" ∷ bytes "f" ∷ [])
     ∷ Case.texts (lines ("a:" ∷ " " ∷ "\tb:c" ∷ [])) (bytes "b:c" ∷ [])
-    -- a held name with non-ASCII in its value; not one with ASCII, nor another name with non-ASCII
-    ∷ Case.held (lines ("Date: now" ∷ "Subject:" ∷ [])) Absent
-    ∷ Case.held (lines ("Date: now" ∷ " is" ∷ []) ++ (bytes "dAte:" ++ (195 ∷ 169 ∷ 13 ∷ 10 ∷ []))) (At 2 16)
-    ∷ Case.held (bytes "a:" ++ (195 ∷ 169 ∷ 13 ∷ 10 ∷ lines ("Received: b" ∷ []))) Absent
-    ∷ Case.held (bytes "Keywords:" ++ (13 ∷ 10 ∷ 32 ∷ 195 ∷ 169 ∷ 13 ∷ 10 ∷ (bytes "Date:" ++ (195 ∷ 169 ∷ 13 ∷ 10 ∷ [])))) (At 0 0)
     ∷ []
 
 pub field-cases-right : AllRight fieldCases
-unfolding bytes run crlf blank nameByte nameLen fold fieldLen fieldsAfter fieldsOf nameOf valueOf unfoldedAfter trimmed textOf lineCount isHeld refused heldFrom heldOf lower sameAnyCase six addressNames plainTextNames heldNames among kindOf
-field-cases-right = (refl, (refl, (refl, (refl, (refl, (refl, (refl, (refl, tt))))))))
+unfolding bytes run crlf blank nameByte nameLen fold fieldLen cutAfter cutBy fieldsOf nameOf valueOf unfoldedAfter trimmed textOf
+field-cases-right = (refl, (refl, (refl, (refl, tt))))

@@ -2,6 +2,7 @@ pub mod Fields
 pub mod FieldLaws
 pub mod FieldShape
 pub mod FieldShapeLaws
-pub mod LineNumber
 pub mod HeaderCases
 pub mod AsciiFields
+pub mod AsciiFieldsLaws
+pub mod LineNumberLaws

@@ -4,18 +4,12 @@ ghost use Prim.Native.Nat.{_+_, _≤_, _<_};
 ghost use lib.ListN.{length, take, drop};
 ghost use Rattle.lists.specs.Lists.{all};
 ghost use Rattle.lists.specs.Byte.{isAscii};
-ghost use Rattle.header.specs.Fields.{fieldLen, valueOf, lineCount, isHeld, refused, heldOf};
+ghost use Rattle.header.specs.Fields.{fieldLen, valueOf, lineCount};
 ghost use Rattle.header.specs.FieldLaws.{ends};
-ghost use Rattle.header.specs.AsciiFields.{Boundary, AsciiFields};
+ghost use Rattle.header.specs.AsciiFields.{AsciiFields};
+ghost use Rattle.header.specs.AsciiFieldsLaws.{Boundary};
 use header_line::name_len;
-use header_name::Kind;
 use line::is_blank;
-
-// The first held field with non-ASCII in its value: the number of its first line, and the byte where it starts.
-pub enum HeldField {
-    Absent,
-    At(usize, usize),
-}
 
 // Whether the CRLF that ends a field stands at i.
 fn ends_at(h: &[u8], i: usize) -> bool
@@ -82,30 +76,8 @@ pub fn value_is_ascii(field: &[u8]) -> bool
     utf8::is_ascii(&field[from..to])
 }
 
-fn is_held(kind: Kind) -> bool
-    ensures { λ r. ⌜ r ≡ isHeld kind ⌝ }
-{
-    match kind {
-        Kind::Address => false,
-        Kind::PlainText => false,
-        Kind::Held => true,
-        Kind::Other => false,
-    }
-}
-
-// Whether a field has a held name and non-ASCII in its value. Names are looked up only where the value is not ASCII.
-fn is_refused(field: &[u8]) -> bool
-    ensures { λ r. ⌜ r ≡ refused (now (field .entry)) ⌝ }
-{
-    if value_is_ascii(field) {
-        return false;
-    }
-    let n = name_len(field);
-    is_held(header_name::kind_of(&field[0..n]))
-}
-
 // How many lines end in some bytes.
-fn line_count(s: &[u8]) -> usize
+pub fn line_count(s: &[u8]) -> usize
     ensures { λ r. ⌜ r ≡ lineCount (now (s .entry)) ⌝ }
 {
     let mut n: usize = 0;
@@ -117,23 +89,4 @@ fn line_count(s: &[u8]) -> usize
         i += 1;
     }
     n
-}
-
-// The first field of a header with a held name and non-ASCII in its value.
-pub fn held_field(h: &[u8]) -> HeldField
-    ensures { λ r. ⌜ r ≡ heldOf (now (h .entry)) ⌝ }
-{
-    let mut at: usize = 0;
-    while at < h.len() {
-        let start = ascii_fields_end(h, at);
-        if h.len() <= start {
-            return HeldField::Absent;
-        }
-        let to = field_end(h, start);
-        if is_refused(&h[start..to]) {
-            return HeldField::At(line_count(&h[0..start]), start);
-        }
-        at = to;
-    }
-    HeldField::Absent
 }

@@ -1,4 +1,4 @@
-use Rattle.header.specs.AsciiFields.{ascii-rest, ascii-up-to}
+use Rattle.header.specs.AsciiFieldsLaws.{ascii-rest, ascii-up-to}
 use native.Mathlib.Omega.{arith}
 use borrow.Author.Needs.{needs}
 use Rattle.header.proofs.ascii_fields_end.Statement.{statement}

@@ -1,4 +1,4 @@
-use Rattle.header.specs.AsciiFields.{boundary-none, boundary-at}
+use Rattle.header.specs.AsciiFieldsLaws.{boundary-none, boundary-at}
 use Prim.Native.Nat.{_≤_, _-_}
 use native.Mathlib.Omega.{arith}
 use mathlib.Core.Path.{sym, _∙_}
