@@ -6,23 +6,23 @@ use Prim.Native.Nat.{ℕ, zero, suc, _+_, _-_, _≤_, _<_}
 use native.Mathlib.Nat.{add-zero}
 use native.Mathlib.Numerals.{add-one}
 use native.Mathlib.Omega.{arith}
-use lib.Dec.{T, eqb, eqb→eq}
+use lib.Dec.{T, ltb, eqb, eqb→eq}
 use lib.ListN.{length, take, drop, getD, length-append, length-take, length-drop, take-append-drop, drop-of-length-le, List·getD-eq-default}
-use lib.Seq.{drop-cons, drop-drop, getD-drop, take-suc, take-all, take-add}
-use mir.Facts.{and-yes}
-use Rattle.lists.specs.Lists.{by-test, cond-has, yes-true, true-yes, no-false, all}
-use Rattle.lists.specs.Run.{run, run-le, run-all}
+use lib.Seq.{drop-cons, drop-drop, getD-drop, take-suc, take-all, take-add, take-length}
+use mir.Facts.{and-yes, ltb-yes}
+use borrow.Author.Tests.{lt-ltb, le-ltb}
+use Rattle.lists.specs.Lists.{by-test, cond-has, yes-true, true-yes, no-false, all, all-at}
+use Rattle.lists.specs.Run.{run, run-le, run-all, run-after}
 use Rattle.buffer.specs.Buffer.{Wrote, AppendedCapped, Reached, greatest}
 use Rattle.buffer.specs.BufferLaws.{overlay-front, length-wrote, appended-of, reached-start, reached-then, reached-within, reached-end, length-reached, wrote-from, wrote-nothing}
-use Rattle.encoded_word.specs.Row.{row, bounded}
-use Rattle.encoded_word.specs.StreamLaws.{bounded-short, row-nil}
 use Rattle.header_line.specs.Lines.{nameLen}
-use Rattle.line.specs.Line.{blank}
-use Rattle.line.specs.Line.{crlf}
+use Rattle.line.specs.Line.{blank, crlf}
 use Rattle.line.specs.LineLaws.{crlf-inside}
 use Rattle.header.specs.Fields.{fold, valueOf, unfoldedAfter, trimmed, textOf}
 use Rattle.header.specs.FieldLaws.{drop-take}
 use Rattle.line.specs.LineLaws.{notCr, crRun}
+use Rattle.field_text.specs.TextPlace.{textPlace}
+use Rattle.field_text.specs.declared.TextPlace.the-variants.{InPlace, Folded}
 
 -- ---- a fold at a place
 
@@ -257,14 +257,7 @@ module _ {s before mid : List ℕ} {i n : ℕ} (g : Unfolding s i before mid n) 
 
 -- ---- the text, as code takes it
 
--- the text of a value is the part from its start on, where that has no CR
-pub text-whole : {value : List ℕ} {r : ℕ} → TextStart value r → all notCr (take (length value - r) (drop r value)) ≡ true
-    → trimmed (unfoldedAfter 0 value) ≡ take (length value - r) (drop r value)
-text-whole {value} {r} t e =
-    let rest : take (length value - r) (drop r value) ≡ drop r value = take-all (length value - r) (drop r value) (rw length-drop (omega arith)) in
-    t .text ∙ rw rest (unfold-none (drop r value) (true-yes (all notCr (drop r value)) (rw rest at e)))
-
--- and else that part unfolded
+-- the text of a value is the part from its start on, unfolded
 pub text-folded : {value : List ℕ} {r : ℕ} → TextStart value r → trimmed (unfoldedAfter 0 value) ≡ unfoldedAfter 0 (take (length value - r) (drop r value))
 text-folded {value} {r} t = t .text ∙ rw (take-all (length value - r) (drop r value) (rw length-drop (omega arith)))
 
@@ -277,7 +270,7 @@ module _ (field : List ℕ) (n : ℕ) (e : n ≡ nameLen field) where
   unfolding valueOf
   value-of-part = rw (drop-take (nameLen field + 1) (length field - 2) field, e)
 
-  pub text-none : length field < n + 3 → textOf field ≡ []
+  pub text-none : length field - n < 3 → textOf field ≡ []
   unfolding textOf valueOf
   text-none k =
       let short : length (take (length field - 2) field) ≤ nameLen field + 1 = omega (arith, length-take (length field - 2) field) in
@@ -298,41 +291,6 @@ unfolding valueOf
 length-text field =
     omega (arith, length-text-value field, length-drop (nameLen field + 1) (take (length field - 2) field), length-take (length field - 2) field)
 
--- ---- the words of a text, as they are written
-
-module _ {value before after : List ℕ} {start n : ℕ} (t : TextStart value start) where
-  pub words-whole : length value ≤ 32768 → all notCr (take (length value - start) (drop start value)) ≡ true
-      → Wrote (row (bounded (take (length value - start) (drop start value)))) before after n → Wrote (row (trimmed (unfoldedAfter 0 value))) before after n
-  words-whole h e w =
-      let part = take (length value - start) (drop start value) in
-      let short : bounded part ≡ part = bounded-short part (omega (arith, length-take (length value - start) (drop start value))) in
-      rw (text-whole t e) (rw short at w)
-
-  pub words-folded : Wrote (row (unfoldedAfter 0 (take (length value - start) (drop start value)))) before after n → Wrote (row (trimmed (unfoldedAfter 0 value))) before after n
-  words-folded w = rw (text-folded t) w
-
--- a text that is unfolded into a buffer with room for it
-module _ (s : List ℕ) (room : ℕ) {begun text : List ℕ} {n : ℕ} (u : Wrote (unfoldedAfter 0 s) begun text n) (h : length s ≤ room) (k : length begun ≡ room) where
-  pub unfolded-within : n ≤ room
-  unfolded-within = omega (arith, u .size, length-unfolded 0 s)
-
-  pub unfolded-size : n ≡ length (take n text)
-  unfolded-size = rw length-take (omega (arith, unfolded-within, length-wrote u))
-
-  pub words-unfolded : {before after : List ℕ} {r : ℕ} → room ≤ 32768 → Wrote (row (bounded (take n text))) before after r → Wrote (row (unfoldedAfter 0 s)) before after r
-  words-unfolded small w =
-      let front : take n text ≡ unfoldedAfter 0 s = wrote-front u (omega (arith, length-unfolded 0 s)) in
-      let short : bounded (unfoldedAfter 0 s) ≡ unfoldedAfter 0 s = bounded-short (unfoldedAfter 0 s) (omega (arith, length-unfolded 0 s)) in
-      rw (front, short) at w
-
-module _ (field : List ℕ) (n : ℕ) (e : n ≡ nameLen field) where
-  pub words-none : (before : List ℕ) → length field < n + 3 → Wrote (row (textOf field)) before before 0
-  words-none before k = rw (text-none field n e k, row-nil [] refl) (wrote-nothing before)
-
-  pub words-value : {before after : List ℕ} {r : ℕ} → Wrote (row (trimmed (unfoldedAfter 0 (take (length field - 2 - (n + 1)) (drop (n + 1) field))))) before after r
-      → Wrote (row (textOf field)) before after r
-  words-value w = rw (value-of-part field n e, text-of-value field) at w
-
 -- ---- the text, as it is written
 
 pub text-unfolded : {value before after : List ℕ} {start n : ℕ} → TextStart value start → Wrote (unfoldedAfter 0 (take (length value - start) (drop start value))) before after n
@@ -340,9 +298,71 @@ pub text-unfolded : {value before after : List ℕ} {start n : ℕ} → TextStar
 text-unfolded t w = rw (text-folded t) w
 
 module _ (field : List ℕ) (n : ℕ) (e : n ≡ nameLen field) where
-  pub text-empty : (before : List ℕ) → length field < n + 3 → Wrote (textOf field) before before 0
+  pub text-empty : (before : List ℕ) → length field - n < 3 → Wrote (textOf field) before before 0
   text-empty before k = rw (text-none field n e k) (wrote-nothing before)
 
   pub text-value : {before after : List ℕ} {r : ℕ} → Wrote (trimmed (unfoldedAfter 0 (take (length field - 2 - (n + 1)) (drop (n + 1) field)))) before after r
       → Wrote (textOf field) before after r
   text-value w = rw (value-of-part field n e, text-of-value field) at w
+
+-- ---- the text in place
+
+no-cr : (s : List ℕ) → length s ≤ crRun s → T (all notCr s)
+no-cr s h = let whole : crRun s ≡ length s = omega (arith, run-le notCr s) in rw (whole, take-length s) at (run-all notCr s)
+
+some-cr : (s : List ℕ) → crRun s < length s → all notCr s ≡ false
+some-cr s h = by-test (all notCr s) (λ t. absurd (rw (run-after notCr s h) at (all-at notCr s (crRun s) 0 t h))) (λ t. no-false (all notCr s) t)
+
+module _ (field : List ℕ) (n : ℕ) (e : n ≡ nameLen field) where
+  pub place-short : length field - n < 3 → InPlace n n ≡ textPlace field
+  unfolding textPlace
+  place-short k = rw (e, lt-ltb (length field - nameLen field) 3 (rw e at k))
+
+  module _ (k : 3 ≤ length field - n) where
+    value-there : drop (n + 1) (take (length field - 2) field) ≡ valueOf field
+    unfolding valueOf
+    value-there = rw e
+
+    length-value : length (valueOf field) ≡ length field - 2 - (n + 1)
+    length-value = rw (← value-there, length-drop, length-take) (omega arith)
+
+    pub place-folded : (r : ℕ) → r ≡ n + 1 + crRun (drop (n + 1) (take (length field - 2) field)) → r < length field - 2 → Folded ≡ textPlace field
+    unfolding textPlace
+    place-folded r q h =
+        let some : crRun (valueOf field) < length (valueOf field) = omega (arith, rw value-there at q, length-value) in
+        rw (le-ltb (length field - nameLen field) 3 (rw e at k), some-cr (valueOf field) some)
+
+    pub place-there : (r a : ℕ) → r ≡ n + 1 + crRun (drop (n + 1) (take (length field - 2) field)) → length field - 2 ≤ r
+        → a ≡ n + 1 + run blank (drop (n + 1) (take (length field - 2) field)) → InPlace a (length field - 2) ≡ textPlace field
+    unfolding textPlace
+    place-there r a q h p =
+        let none : length (valueOf field) ≤ crRun (valueOf field) = omega (arith, rw value-there at q, length-value) in
+        rw (le-ltb (length field - nameLen field) 3 (rw e at k), yes-true (all notCr (valueOf field)) (no-cr (valueOf field) none), p, value-there, e)
+
+-- what stands there is the text
+pub text-there : (field : List ℕ) (a b : ℕ) → textPlace field ≡ InPlace a b → take (b - a) (drop a field) ≡ textOf field
+unfolding textPlace textOf trimmed valueOf
+text-there field a b q =
+    by-test (ltb (length field - nameLen field) 3)
+    (λ t. short (rw (yes-true (ltb (length field - nameLen field) 3) t) at q) (ltb-yes {a = length field - nameLen field} {b = 3} t))
+    (λ t. by-test (all notCr (valueOf field))
+    (λ u. whole (rw (no-false (ltb (length field - nameLen field) 3) t, yes-true (all notCr (valueOf field)) u) at q) u)
+    (λ u. never (rw (no-false (ltb (length field - nameLen field) 3) t, no-false (all notCr (valueOf field)) u) at q)))
+  where
+    short : InPlace (nameLen field) (nameLen field) ≡ InPlace a b → length field - nameLen field < 3 → take (b - a) (drop a field) ≡ textOf field
+    short p k =
+        let one : nameLen field ≡ a = cc in
+        let two : nameLen field ≡ b = cc in
+        let none : b - a ≡ 0 = omega arith in
+        rw none (sym (text-none field (nameLen field) refl k))
+
+    whole : InPlace (nameLen field + 1 + run blank (valueOf field)) (length field - 2) ≡ InPlace a b → T (all notCr (valueOf field)) → take (b - a) (drop a field) ≡ textOf field
+    whole p u =
+        let one : nameLen field + 1 + run blank (valueOf field) ≡ a = cc in
+        let two : length field - 2 ≡ b = cc in
+        let m = nameLen field + 1 in
+        let n = run blank (valueOf field) in
+        rw (unfold-none (valueOf field) u, ← one, ← two, drop-drop n m (take (length field - 2) field), drop-take (m + n) (length field - 2) field)
+
+    never : Folded ≡ InPlace a b → take (b - a) (drop a field) ≡ textOf field
+    never p = let z : _≡_ {A = ℕ} 0 1 = cc in absurd (omega arith)

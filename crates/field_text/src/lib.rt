@@ -2,13 +2,18 @@
 ghost use mathlib.Core.Path.{_≡_};
 ghost use Prim.Native.Nat.{_≤_, _<_};
 ghost use lib.ListN.{length, drop};
-ghost use Rattle.lists.specs.Lists.{all};
 ghost use Rattle.buffer.specs.Buffer.{Wrote};
-ghost use Rattle.encoded_word.specs.Row.{row};
 ghost use Rattle.header.specs.Fields.{fold, unfoldedAfter, trimmed, textOf};
-ghost use Rattle.line.specs.LineLaws.{notCr};
+ghost use Rattle.field_text.specs.TextPlace.{textPlace};
 ghost use Rattle.field_text.specs.TextLaws.{BlankStep, TextStart, PieceEnd};
 use line::is_blank;
+
+// Where the text of a field stands: from a place in the field up to another; or nowhere in one part, where the value has a CR, as
+// a fold does.
+pub enum TextPlace {
+    InPlace(usize, usize),
+    Folded,
+}
 
 // Whether a fold stands at i: CRLF before a space or TAB.
 fn fold_at(s: &[u8], i: usize) -> bool
@@ -50,19 +55,6 @@ fn text_start(value: &[u8]) -> usize
     i
 }
 
-// Whether some bytes hold no CR. Without an early exit: most texts have no fold.
-fn has_no_cr(s: &[u8]) -> bool
-    ensures { λ r. ⌜ r ≡ all notCr (now (s .entry)) ⌝ }
-{
-    let mut ok = true;
-    let mut i = 0;
-    while i < s.len() {
-        ok = ok & !(s[i] == 13);
-        i += 1;
-    }
-    ok
-}
-
 // Where the next fold from `at` stands; the end where there is none.
 fn next_fold(s: &[u8], at: usize) -> usize
     requires { ⌜ at ≤ length (now s) ⌝ }
@@ -92,62 +84,6 @@ fn put_unfolded(out: &mut [u8], s: &[u8]) -> usize
     at
 }
 
-// The encoded words of a text with folds, which is unfolded into a buffer of its own first.
-fn put_long_folded(out: &mut [u8], s: &[u8]) -> usize
-    requires { ⌜ length (now s) ≤ 32768 ⌝ }
-    ensures { λ r. ⌜ Wrote (row (unfoldedAfter 0 (now (s .entry)))) (now (out .entry)) (now (out .exit)) r ⌝ }
-{
-    let mut text = [0u8; 32768];
-    let n = put_unfolded(&mut text, s);
-    encoded_word::write(out, &text[..n])
-}
-
-fn put_short_folded(out: &mut [u8], s: &[u8]) -> usize
-    requires { ⌜ length (now s) ≤ 1024 ⌝ }
-    ensures { λ r. ⌜ Wrote (row (unfoldedAfter 0 (now (s .entry)))) (now (out .entry)) (now (out .exit)) r ⌝ }
-{
-    let mut text = [0u8; 1024];
-    let n = put_unfolded(&mut text, s);
-    encoded_word::write(out, &text[..n])
-}
-
-// Most texts are short, and a small buffer takes less time to clear.
-fn put_folded_words(out: &mut [u8], s: &[u8]) -> usize
-    requires { ⌜ length (now s) ≤ 32768 ⌝ }
-    ensures { λ r. ⌜ Wrote (row (unfoldedAfter 0 (now (s .entry)))) (now (out .entry)) (now (out .exit)) r ⌝ }
-{
-    if s.len() <= 1024 {
-        return put_short_folded(out, s);
-    }
-    put_long_folded(out, s)
-}
-
-// The encoded words of a value's text, which is read in place where it has no fold.
-fn put_value_words(out: &mut [u8], value: &[u8]) -> usize
-    requires { ⌜ length (now value) ≤ 32768 ⌝ }
-    ensures { λ r. ⌜ Wrote (row (trimmed (unfoldedAfter 0 (now (value .entry))))) (now (out .entry)) (now (out .exit)) r ⌝ }
-{
-    let start = text_start(value);
-    if has_no_cr(&value[start..]) {
-        return encoded_word::write(out, &value[start..]);
-    }
-    put_folded_words(out, &value[start..])
-}
-
-// The encoded words of a field's text.
-pub(crate) fn put_words(out: &mut [u8], field: &[u8]) -> usize
-    requires { ⌜ length (now field) ≤ 32768 ⌝ }
-    ensures { λ r. ⌜ Wrote (row (textOf (now (field .entry)))) (now (out .entry)) (now (out .exit)) r ⌝ }
-{
-    let n = header_line::name_len(field);
-    if field.len() < n + 3 {
-        return 0;
-    }
-    let from = n + 1;
-    let to = field.len() - 2;
-    put_value_words(out, &field[from..to])
-}
-
 // Writes the text of a value.
 fn put_value_text(out: &mut [u8], value: &[u8]) -> usize
     ensures { λ r. ⌜ Wrote (trimmed (unfoldedAfter 0 (now (value .entry)))) (now (out .entry)) (now (out .exit)) r ⌝ }
@@ -156,16 +92,31 @@ fn put_value_text(out: &mut [u8], value: &[u8]) -> usize
     put_unfolded(out, &value[start..])
 }
 
-// Writes the text of a field.
-pub(crate) fn put_text(out: &mut [u8], field: &[u8]) -> usize
-    requires { ⌜ length (now field) ≤ 32768 ⌝ }
+// Writes the text of a field to the front of out, as far as it fits; answers the length of all of it.
+pub fn put(out: &mut [u8], field: &[u8]) -> usize
     ensures { λ r. ⌜ Wrote (textOf (now (field .entry))) (now (out .entry)) (now (out .exit)) r ⌝ }
 {
     let n = header_line::name_len(field);
-    if field.len() < n + 3 {
+    if field.len() - n < 3 {
         return 0;
     }
     let from = n + 1;
     let to = field.len() - 2;
     put_value_text(out, &field[from..to])
+}
+
+// Where the text of a field stands in it.
+pub fn place(field: &[u8]) -> TextPlace
+    ensures { λ r. ⌜ r ≡ textPlace (now (field .entry)) ⌝ }
+{
+    let n = header_line::name_len(field);
+    if field.len() - n < 3 {
+        return TextPlace::InPlace(n, n);
+    }
+    let from = n + 1;
+    let to = field.len() - 2;
+    if line::next_cr(&field[..to], from) < to {
+        return TextPlace::Folded;
+    }
+    TextPlace::InPlace(line::blanks_end(&field[..to], from), to)
 }

@@ -3,6 +3,7 @@ ghost use mathlib.Core.Path.{_≡_};
 ghost use Prim.Native.Nat.{_+_, _-_, _≤_};
 ghost use lib.ListN.{length, take, drop, getD};
 ghost use Rattle.lists.specs.Lists.{all};
+ghost use Rattle.lists.specs.Run.{run};
 ghost use Rattle.line.specs.Line.{blank, crlf, lineLen};
 ghost use Rattle.line.specs.LineLaws.{notCr, crRun};
 
@@ -18,6 +19,20 @@ pub fn is_blank(b: u8) -> bool
     ensures { λ r. ⌜ r ≡ blank b ⌝ }
 {
     (b == 32) | (b == 9)
+}
+
+// Where the spaces and TABs from a place on end.
+pub fn blanks_end(s: &[u8], at: usize) -> usize
+    ensures { λ r. ⌜ r ≡ at + run blank (drop at (now (s .entry))) ⌝ }
+{
+    let mut i = at;
+    while i < s.len() {
+        if !is_blank(s[i]) {
+            return i;
+        }
+        i += 1;
+    }
+    i
 }
 
 // Whether CRLF stands at a place.

@@ -2,14 +2,14 @@ use native.Mathlib.Omega.{arith}
 use Rattle.field_text.specs.TextLaws.{text-empty, text-value}
 use Rattle.header.specs.FieldLaws.{name-le}
 use borrow.Author.Needs.{needs}
-use Rattle.field_text.proofs.put_text.Statement.{statement}
-use Rattle.field_text.proofs.put_text.Tie as tie
+use Rattle.field_text.proofs.put.Statement.{statement}
+use Rattle.field_text.proofs.put.Tie as tie
 
 name-len-requires : tie.Need-name-len-requires
 name-len-requires c κs = search needs
 
-add-if1 : tie.Need-add-if1
-add-if1 c = omega (arith, c .name-len .ensures, name-le (c .before .before .before .args .field .now))
+sub-if1 : tie.Need-sub-if1
+sub-if1 c = omega (arith, c .name-len .ensures, name-le (c .before .before .before .args .field .now))
 
 returns : tie.Need-returns
 returns c = text-empty (c .before .before .before .before .args .field .now) (c .before .name-len .result) (c .before .name-len .ensures) _ (c .if1 .taken)
@@ -38,12 +38,12 @@ same-length c = search needs
 returns-2 : tie.Need-returns-2
 returns-2 c = text-value (c .before .before .before .before .before .before .before .before .before .args .field .now) (c .before .before .before .before .before .before .name-len .result) (c .before .before .before .before .before .before .name-len .ensures) (c .before .before .put-value-text .ensures)
 
-pub put-text-spec : {M : Type 1} → statement M
-put-text-spec =
+pub put-spec : {M : Type 1} → statement M
+put-spec =
     tie.close
     (tie.spec
     name-len-requires
-    add-if1
+    sub-if1
     returns
     add-from
     sub-to
