@@ -1,4 +1,3 @@
-pub mod HeaderLaws
 pub mod NewFieldLaws
 pub mod Outcome
 pub mod OutcomeLaws

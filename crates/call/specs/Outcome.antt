@@ -12,10 +12,11 @@ use Rattle.envelope.specs.declared.Orcpt.the-variants.{Clean, At}
 use Rattle.envelope.specs.Envelope.{checked, faultNumber, orcptLine, written}
 use Rattle.header_line.specs.declared.LineCheck.{LineCheck}
 use Rattle.header_line.specs.declared.LineCheck.the-variants.{WellFormed, Malformed}
-use Rattle.header.specs.declared.HeldField.{HeldField}
-use Rattle.header.specs.declared.HeldField.the-variants.{Absent, At as HeldAt}
+use Rattle.outgoing_field.specs.declared.HeldField.{HeldField}
+use Rattle.outgoing_field.specs.declared.HeldField.the-variants.{Absent, At as HeldAt}
 use Rattle.header_line.specs.Lines.{checkedLines}
-use Rattle.header.specs.Fields.{heldOf}
+use Rattle.rules.specs.declared.Rules.the-variants.{Spool}
+use Rattle.outgoing_field.specs.Fate.{heldOf}
 use Rattle.call.specs.declared.Refusal.{Refusal}
 use Rattle.call.specs.declared.Refusal.the-variants.{EnvelopeOver, HeaderOver, EnvelopeLine, HeaderLine, OrcptLine, HeldLine, EnvelopeNeeds, HeaderNeeds}
 use Rattle.call.specs.declared.Verdict.{Verdict}
@@ -89,7 +90,7 @@ verdict e h room₁ room₂ =
     ∷ ofEnvelope (checked e)
     ∷ ofLines (checkedLines h)
     ∷ ofOrcpt (orcptLine e)
-    ∷ ofHeld (heldOf h)
+    ∷ ofHeld (heldOf Spool h)
     ∷ over room₁ (length (written e)) (EnvelopeNeeds (length (written e)))
     ∷ over room₂ (length (outgoingHeader e h)) (HeaderNeeds (length (outgoingHeader e h)))
     ∷ [])
@@ -129,8 +130,8 @@ unfoldable pub outcome : List ℕ → List ℕ → List ℕ → List ℕ → Out
 outcome e h b c = outcomeOf (verdict e h (length b) (length c)) e h b c
 
 -- an answer and two buffers as an outcome
-abbrev pub left : Answer → List ℕ → List ℕ → Outcome
-left answer envelopeBuffer headerBuffer = record {
+abbrev pub observed : Answer → List ℕ → List ℕ → Outcome
+observed answer envelopeBuffer headerBuffer = record {
   number = answer .number;
   place = answer .place;
   envelopeLen = answer .«envelope_len»;

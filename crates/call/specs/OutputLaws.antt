@@ -6,8 +6,8 @@ use native.Mathlib.Omega.{arith}
 use native.Mathlib.Nat.{not-suc-le-zero}
 use lib.ListN.{length, length-append}
 use borrow.Author.Tests.{lt-ltb, le-ltb}
-use Rattle.buffer.specs.Buffer.{Wrote, Appended, AppendedCapped}
-use Rattle.buffer.specs.BufferLaws.{appended-of, appended-then, wrote-from, wrote-of}
+use Rattle.buffer.specs.Buffer.{Wrote, AppendedCapped, greatest}
+use Rattle.buffer.specs.BufferLaws.{capped-then, capped-same, wrote-of}
 use Rattle.letter_case.specs.LetterCase.{bytes}
 use Rattle.encoded_word.specs.Segments.{rendered}
 use Rattle.encoded_word.specs.SegmentsLaws.{rendered-append}
@@ -21,26 +21,26 @@ use Rattle.envelope.specs.ReplacementLaws.{mail-replacement-short, rcpt-replace
 use Rattle.header_line.specs.declared.LineCheck.{LineCheck}
 use Rattle.header_line.specs.declared.LineCheck.the-variants.{WellFormed, Malformed}
 use Rattle.header_line.specs.Lines.{checkedLines}
-use Rattle.header.specs.Fields.{heldOf}
-use Rattle.field.specs.Field.{headerSegments}
-use Rattle.address_pieces.specs.AddressField.{addressField}
+use Rattle.rules.specs.declared.Rules.the-variants.{Spool}
+use Rattle.outgoing_field.specs.Fate.{segmentsOf, headerSegments, limited, heldOf}
+use Rattle.outgoing_field.specs.FateLaws.{limited-short}
+use Rattle.outgoing_field.specs.OwedLaws.{owed-header}
 use Rattle.call.specs.declared.Refusal.{Refusal}
 use Rattle.call.specs.declared.Refusal.the-variants.{EnvelopeOver, HeaderOver, EnvelopeLine, EnvelopeNeeds, HeaderNeeds}
 use Rattle.call.specs.declared.Verdict.{Verdict}
 use Rattle.call.specs.declared.Verdict.the-variants.{Accept, Refuse}
 use Rattle.call.specs.declared.Answer.{Answer}
 use Rattle.call.specs.OutgoingHeader.{newField, newFields, outgoingSegments, outgoingHeader}
-use Rattle.call.specs.Outcome.{over, ofEnvelope, ofLines, ofOrcpt, ofHeld, firstOf, verdict, outcomeOf, outcome, left}
+use Rattle.call.specs.Outcome.{over, ofEnvelope, ofLines, ofOrcpt, ofHeld, firstOf, verdict, outcomeOf, outcome, observed}
 use Rattle.call.specs.OutcomeLaws.{RefusedBy}
-use Rattle.call.specs.HeaderLaws.{header-le}
 use Rattle.call.specs.NewFieldLaws.{length-new-field}
 
 -- ---- refusals
 
 -- where a verdict refuses, so does the call
-pub refused-left : (e h b c : List ℕ) {refusal : Refusal} {r : Answer} → verdict e h (length b) (length c) ≡ Refuse refusal → RefusedBy refusal r → left r b c ≡ outcome e h b c
+pub refused-observed : (e h b c : List ℕ) {refusal : Refusal} {r : Answer} → verdict e h (length b) (length c) ≡ Refuse refusal → RefusedBy refusal r → observed r b c ≡ outcome e h b c
 unfolding outcome outcomeOf
-refused-left e h b c v a = rw (v, a .number, a .place, a .none₁, a .none₂)
+refused-observed e h b c v a = rw (v, a .number, a .place, a .none₁, a .none₂)
 
 pub over-yes : (limit size : ℕ) (refusal : Refusal) → limit < size → over limit size refusal ≡ Refuse refusal
 unfolding over
@@ -70,7 +70,7 @@ module _ (e h : List ℕ) (room₁ room₂ : ℕ) where
             ≡ firstOf
             (ofLines (checkedLines h)
             ∷ ofOrcpt (orcptLine e)
-            ∷ ofHeld (heldOf h)
+            ∷ ofHeld (heldOf Spool h)
             ∷ over room₁ (length (written e)) (EnvelopeNeeds (length (written e)))
             ∷ over room₂ (length (outgoingHeader e h)) (HeaderNeeds (length (outgoingHeader e h)))
             ∷ [])
@@ -92,13 +92,13 @@ first-accepted (Refuse r ∷ a) b k = absurd (let z : _≡_ {A = ℕ} 0 1 = cc i
 
 -- no header line is malformed, and no ORCPT and no held field carries non-ASCII
 pub record Accepted (e h : List ℕ) : Type 0 where
-  pub content : firstOf (ofLines (checkedLines h) ∷ ofOrcpt (orcptLine e) ∷ ofHeld (heldOf h) ∷ []) ≡ Accept
+  pub content : firstOf (ofLines (checkedLines h) ∷ ofOrcpt (orcptLine e) ∷ ofHeld (heldOf Spool h) ∷ []) ≡ Accept
 
 pub accepted-lines : {e h : List ℕ} → Accepted e h → checkedLines h ≡ WellFormed
 unfolding firstOf ofLines
 accepted-lines {e} {h} ok = go (checkedLines h) refl (ok .content)
   where
-    go : (l : LineCheck) → checkedLines h ≡ l → firstOf (ofLines l ∷ ofOrcpt (orcptLine e) ∷ ofHeld (heldOf h) ∷ []) ≡ Accept → checkedLines h ≡ WellFormed
+    go : (l : LineCheck) → checkedLines h ≡ l → firstOf (ofLines l ∷ ofOrcpt (orcptLine e) ∷ ofHeld (heldOf Spool h) ∷ []) ≡ Accept → checkedLines h ≡ WellFormed
     go WellFormed q k = q
     go (Malformed line at) q k = absurd (let z : _≡_ {A = ℕ} 0 1 = cc in omega arith)
 
@@ -106,7 +106,11 @@ accepted-lines {e} {h} ok = go (checkedLines h) refl (ok .content)
 
 unfoldable pub headerOf : List ℕ → List ℕ → List ℕ → List ℕ
 headerOf mail rcpt h =
-    rendered ((newField (bytes "Downgraded-Mail-From:") mail ++ newField (bytes "Downgraded-Rcpt-To:") rcpt) ++ headerSegments addressField h)
+    rendered ((newField (bytes "Downgraded-Mail-From:") mail ++ newField (bytes "Downgraded-Rcpt-To:") rcpt) ++ headerSegments Spool h)
+
+header-le : (h : List ℕ) → checkedLines h ≡ WellFormed → length (rendered (headerSegments Spool h)) ≤ 30 * length h
+unfolding segmentsOf
+header-le h w = owed-header Spool h w .short
 
 -- texts of new first fields, and a header, within their limits
 pub record Short (mail rcpt h : List ℕ) : Type 0 where
@@ -121,8 +125,8 @@ header-of-le {mail} {rcpt} {h} s w =
     let second = newField (bytes "Downgraded-Rcpt-To:") rcpt in
     omega (
       arith,
-      ap length (rendered-append (first ++ second) (headerSegments addressField h)),
-      length-append (rendered (first ++ second)) (rendered (headerSegments addressField h)),
+      ap length (rendered-append (first ++ second) (headerSegments Spool h)),
+      length-append (rendered (first ++ second)) (rendered (headerSegments Spool h)),
       ap length (rendered-append first second),
       length-append (rendered first) (rendered second),
       length-new-field (bytes "Downgraded-Mail-From:") mail,
@@ -132,33 +136,19 @@ header-of-le {mail} {rcpt} {h} s w =
       s .of-rcpt,
     )
 
-module _ {mail rcpt h : List ℕ} (s : Short mail rcpt h) {before mid rest : List ℕ} {n m : ℕ}
-    (a : AppendedCapped (rendered (newField (bytes "Downgraded-Mail-From:") mail)) 0 before mid n)
-    (b : AppendedCapped (rendered (newField (bytes "Downgraded-Rcpt-To:") rcpt)) n mid rest m) where
-  mail-size : length (rendered (newField (bytes "Downgraded-Mail-From:") mail)) ≤ 40000
-  unfolding bytes
-  mail-size = omega (arith, s .of-mail, length-new-field (bytes "Downgraded-Mail-From:") mail)
-
-  rcpt-size : length (rendered (newField (bytes "Downgraded-Rcpt-To:") rcpt)) ≤ 40000
-  unfolding bytes
-  rcpt-size = omega (arith, s .of-rcpt, length-new-field (bytes "Downgraded-Rcpt-To:") rcpt)
-
-  first : Appended (rendered (newField (bytes "Downgraded-Mail-From:") mail)) 0 before mid n
-  first = appended-of a (omega (arith, mail-size))
-
-  second : Appended (rendered (newField (bytes "Downgraded-Rcpt-To:") rcpt)) n mid rest m
-  second = appended-of b (omega (arith, mail-size, rcpt-size, first .place))
-
-  pub new-fields-place : m ≤ 1048576
-  new-fields-place = omega (arith, mail-size, rcpt-size, first .place, second .place)
-
-  pub header-wrote : {after : List ℕ} {k : ℕ} → Appended (rendered (headerSegments addressField h)) m rest after k → Wrote (headerOf mail rcpt h) before after k
-  unfolding headerOf
-  header-wrote d =
-      let all = appended-then (appended-then first second) d in
-      wrote-from
-      (rw (rendered-append (newField (bytes "Downgraded-Mail-From:") mail ++ newField (bytes "Downgraded-Rcpt-To:") rcpt) (headerSegments addressField h), rendered-append (newField (bytes "Downgraded-Mail-From:") mail) (newField (bytes "Downgraded-Rcpt-To:") rcpt))
-      all)
+pub header-wrote : {mail rcpt h before mid rest after : List ℕ} {n m k : ℕ} → Short mail rcpt h → checkedLines h ≡ WellFormed → length before ≤ greatest
+    → AppendedCapped (rendered (newField (bytes "Downgraded-Mail-From:") mail)) 0 before mid n
+    → AppendedCapped (rendered (newField (bytes "Downgraded-Rcpt-To:") rcpt)) n mid rest m
+    → AppendedCapped (rendered (headerSegments Spool (limited h))) m rest after k
+    → Wrote (headerOf mail rcpt h) before after k
+unfolding headerOf
+header-wrote {mail} {rcpt} {h} s w room a b d =
+    let first = newField (bytes "Downgraded-Mail-From:") mail in
+    let second = newField (bytes "Downgraded-Rcpt-To:") rcpt in
+    let last = headerSegments Spool h in
+    let whole = capped-then (capped-then a b room) (rw (limited-short h (s .of-header)) at d) room in
+    let same : (rendered first ++ rendered second) ++ rendered last ≡ rendered ((first ++ second) ++ last) = rw (rendered-append (first ++ second) last, rendered-append first second) in
+    wrote-of (capped-same same whole) (omega (arith, header-of-le s w, s .of-header))
 
 -- ---- room
 
@@ -210,11 +200,11 @@ pub to-ready : {e h before after : List ℕ} {count : ℕ} {r : Checked} → len
 to-ready s t c k l = let d = rw k at c in record { short₁ = s; short₂ = t; passed = sym (d .answer); starts = stored d l }
 
 module _ {e h array : List ℕ} {count : ℕ} (r : Ready e h array count) where
-  pub content-refused : (room₁ room₂ : ℕ) {refusal : Refusal} → firstOf (ofLines (checkedLines h) ∷ ofOrcpt (orcptLine e) ∷ ofHeld (heldOf h) ∷ []) ≡ Refuse refusal
+  pub content-refused : (room₁ room₂ : ℕ) {refusal : Refusal} → firstOf (ofLines (checkedLines h) ∷ ofOrcpt (orcptLine e) ∷ ofHeld (heldOf Spool h) ∷ []) ≡ Refuse refusal
       → verdict e h room₁ room₂ ≡ Refuse refusal
   content-refused room₁ room₂ {refusal} k =
       past-envelope e h room₁ room₂ (r .short₁) (r .short₂) count (r .passed)
-      ∙ first-refused (ofLines (checkedLines h) ∷ ofOrcpt (orcptLine e) ∷ ofHeld (heldOf h) ∷ []) _ refusal k
+      ∙ first-refused (ofLines (checkedLines h) ∷ ofOrcpt (orcptLine e) ∷ ofHeld (heldOf Spool h) ∷ []) _ refusal k
 
   pub mail-short : length (mailReplacement e) ≤ 2048
   mail-short = omega (arith, mail-replacement-short e count (r .passed))
@@ -247,19 +237,19 @@ module _ {e h array : List ℕ} {count : ℕ} (r : Ready e h array count) where
         ∷ [])
     past-content =
         past-envelope e h (length b) (length c) (r .short₁) (r .short₂) count (r .passed)
-        ∙ first-accepted (ofLines (checkedLines h) ∷ ofOrcpt (orcptLine e) ∷ ofHeld (heldOf h) ∷ []) _ (ok .content)
+        ∙ first-accepted (ofLines (checkedLines h) ∷ ofOrcpt (orcptLine e) ∷ ofHeld (heldOf Spool h) ∷ []) _ (ok .content)
 
-    pub envelope-needs : {n : ℕ} {a : Answer} → n ≡ length (written e) → length b < n → RefusedBy (EnvelopeNeeds n) a → left a b c ≡ outcome e h b c
+    pub envelope-needs : {n : ℕ} {a : Answer} → n ≡ length (written e) → length b < n → RefusedBy (EnvelopeNeeds n) a → observed a b c ≡ outcome e h b c
     unfolding firstOf
     envelope-needs {n} {a} q k f =
-        refused-left e h b c (past-content ∙ rw (over-yes (length b) (length (written e)) (EnvelopeNeeds (length (written e))) (rw q at k))) (rw q at f)
+        refused-observed e h b c (past-content ∙ rw (over-yes (length b) (length (written e)) (EnvelopeNeeds (length (written e))) (rw q at k))) (rw q at f)
 
     pub header-needs : {mail rcpt : List ℕ} {n m : ℕ} {a : Answer} → Texts e mail rcpt → n ≡ length (written e) → n ≤ length b → Needed (length (headerOf mail rcpt h)) (length c) m → length c < m
-        → RefusedBy (HeaderNeeds m) a → left a b c ≡ outcome e h b c
+        → RefusedBy (HeaderNeeds m) a → observed a b c ≡ outcome e h b c
     unfolding firstOf
     header-needs {mail} {rcpt} {n} {m} {a} t q k d l f =
         let p : m ≡ length (outgoingHeader e h) = d .exact l ∙ ap length (header-of t h) in
-        refused-left e h b c
+        refused-observed e h b c
         (past-content
         ∙ rw (over-no (length b) (length (written e)) (EnvelopeNeeds (length (written e))) (rw q at k), over-yes (length c) (length (outgoingHeader e h)) (HeaderNeeds (length (outgoingHeader e h))) (rw p at l)))
         (rw p at f)
@@ -267,7 +257,7 @@ module _ {e h array : List ℕ} {count : ℕ} (r : Ready e h array count) where
     -- both fit
     pub downgraded : {mail rcpt : List ℕ} {n m : ℕ} {b′ c′ : List ℕ} {a : Answer} → Texts e mail rcpt → n ≡ length (written e) → n ≤ length b → Needed (length (headerOf mail rcpt h)) (length c) m → m ≤ length c
         → a .number ≡ 0 → a .place ≡ 0 → Wrote (written e) b b′ (a .«envelope_len») → Wrote (headerOf mail rcpt h) c c′ (a .«header_len»)
-        → left a b′ c′ ≡ outcome e h b c
+        → observed a b′ c′ ≡ outcome e h b c
     unfolding firstOf outcome outcomeOf
     downgraded {mail} {rcpt} {n} {m} {b′} {c′} {a} t q k d l x y v u =
         let p : length (outgoingHeader e h) ≤ length c = rw (header-of t h) at (d .enough l) in

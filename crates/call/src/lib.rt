@@ -1,15 +1,14 @@
 // The downgrade call: an envelope and a header section to ASCII, or a refusal.
-mod fields;
 mod new_fields;
 mod output;
-mod refusing;
+mod refusals;
 
 ghost use mathlib.Core.Path.{_≡_};
-ghost use Rattle.call.specs.Outcome.{left, outcome};
+ghost use Rattle.call.specs.Outcome.{observed, outcome};
 ghost use Rattle.call.specs.OutputLaws.{Ready};
 use envelope::Checked;
 use envelope_line::Fault;
-use refusing::refused;
+use refusals::refused;
 
 // Why a call is refused, with the paper's place: a line, or the length needed.
 pub enum Refusal {
@@ -47,9 +46,9 @@ fn downgrade_checked(
     header_buffer: &mut [u8],
 ) -> Answer
     requires { ⌜ Ready (now envelope) (now header) (now starts) count ⌝ }
-    ensures { λ r. ⌜ left r (now («envelope_buffer» .exit)) (now («header_buffer» .exit)) ≡ outcome (now (envelope .entry)) (now (header .entry)) (now («envelope_buffer» .entry)) (now («header_buffer» .entry)) ⌝ }
+    ensures { λ r. ⌜ observed r (now («envelope_buffer» .exit)) (now («header_buffer» .exit)) ≡ outcome (now (envelope .entry)) (now (header .entry)) (now («envelope_buffer» .entry)) (now («header_buffer» .entry)) ⌝ }
 {
-    match refusing::of_content(envelope, header) {
+    match refusals::of_content(envelope, header) {
         Verdict::Refuse(refusal) => refused(refusal),
         Verdict::Accept => {
             output::fill(
@@ -71,7 +70,7 @@ pub fn downgrade(
     envelope_buffer: &mut [u8],
     header_buffer: &mut [u8],
 ) -> Answer
-    ensures { λ r. ⌜ left r (now («envelope_buffer» .exit)) (now («header_buffer» .exit)) ≡ outcome (now (envelope .entry)) (now (header .entry)) (now («envelope_buffer» .entry)) (now («header_buffer» .entry)) ⌝ }
+    ensures { λ r. ⌜ observed r (now («envelope_buffer» .exit)) (now («header_buffer» .exit)) ≡ outcome (now (envelope .entry)) (now (header .entry)) (now («envelope_buffer» .entry)) (now («header_buffer» .entry)) ⌝ }
 {
     if 16384 < envelope.len() {
         return refused(Refusal::EnvelopeOver);

@@ -3,15 +3,15 @@ ghost use mathlib.Core.Path.{_≡_};
 ghost use lib.ListN.{length};
 ghost use Rattle.buffer.specs.Buffer.{Wrote};
 ghost use Rattle.envelope.specs.Envelope.{written};
-ghost use Rattle.call.specs.Outcome.{left, outcome};
+ghost use Rattle.call.specs.Outcome.{observed, outcome};
 ghost use Rattle.header_line.specs.declared.LineCheck.the-variants.{WellFormed};
 ghost use Rattle.header_line.specs.Lines.{checkedLines};
 ghost use Rattle.call.specs.OutputLaws.{Short, headerOf, Needed, Ready, Accepted, Texts};
 use crate::Answer;
 use crate::Refusal;
-use crate::fields::add_fields;
 use crate::new_fields::add_new_field;
-use crate::refusing::refused;
+use crate::refusals::refused;
+use rules::Rules;
 
 // The text of a new first field has at most 2,001 bytes: two addresses of lines of 998, in `< < >>`.
 const ROOM: usize = 2048;
@@ -19,16 +19,16 @@ const ROOM: usize = 2048;
 // Writes the outgoing header to the front of out, as far as it fits; answers its whole length. `mail` and `rcpt` are the texts of
 // the new first fields.
 fn put_header(out: &mut [u8], mail: &[u8], rcpt: &[u8], header: &[u8]) -> usize
-    requires { ⌜ Short (now mail) (now rcpt) (now header) ⌝ }
+    requires { ⌜ Short (now mail) (now rcpt) (now header) × (checkedLines (now header) ≡ WellFormed) ⌝ }
     ensures { λ r. ⌜ Wrote (headerOf (now (mail .entry)) (now (rcpt .entry)) (now (header .entry))) (now (out .entry)) (now (out .exit)) r ⌝ }
 {
     let mail_end = add_new_field(out, 0, b"Downgraded-Mail-From:", mail);
     let rcpt_end = add_new_field(out, mail_end, b"Downgraded-Rcpt-To:", rcpt);
-    add_fields(out, rcpt_end, header)
+    outgoing_field::add_fields(out, rcpt_end, Rules::Spool, header)
 }
 
 fn header_len(mail: &[u8], rcpt: &[u8], header: &[u8]) -> usize
-    requires { ⌜ Short (now mail) (now rcpt) (now header) ⌝ }
+    requires { ⌜ Short (now mail) (now rcpt) (now header) × (checkedLines (now header) ≡ WellFormed) ⌝ }
     ensures { λ r. ⌜ r ≡ length (headerOf (now (mail .entry)) (now (rcpt .entry)) (now (header .entry))) ⌝ }
 {
     let mut none = [0u8; 0];
@@ -67,7 +67,7 @@ fn fill_with(
     header_buffer: &mut [u8],
 ) -> Answer
     requires { ⌜ Ready (now envelope) (now header) (now starts) count × Accepted (now envelope) (now header) × Texts (now envelope) (now mail) (now rcpt) ⌝ }
-    ensures { λ r. ⌜ left r (now («envelope_buffer» .exit)) (now («header_buffer» .exit)) ≡ outcome (now (envelope .entry)) (now (header .entry)) (now («envelope_buffer» .entry)) (now («header_buffer» .entry)) ⌝ }
+    ensures { λ r. ⌜ observed r (now («envelope_buffer» .exit)) (now («header_buffer» .exit)) ≡ outcome (now (envelope .entry)) (now (header .entry)) (now («envelope_buffer» .entry)) (now («header_buffer» .entry)) ⌝ }
 {
     let n = envelope_len(envelope, header, starts, count);
     if envelope_buffer.len() < n {
@@ -95,7 +95,7 @@ pub(crate) fn fill(
     header_buffer: &mut [u8],
 ) -> Answer
     requires { ⌜ Ready (now envelope) (now header) (now starts) count × Accepted (now envelope) (now header) ⌝ }
-    ensures { λ r. ⌜ left r (now («envelope_buffer» .exit)) (now («header_buffer» .exit)) ≡ outcome (now (envelope .entry)) (now (header .entry)) (now («envelope_buffer» .entry)) (now («header_buffer» .entry)) ⌝ }
+    ensures { λ r. ⌜ observed r (now («envelope_buffer» .exit)) (now («header_buffer» .exit)) ≡ outcome (now (envelope .entry)) (now (header .entry)) (now («envelope_buffer» .entry)) (now («header_buffer» .entry)) ⌝ }
 {
     let mut mail = [0u8; ROOM];
     let n = envelope::put_mail_replacement(&mut mail, envelope);

@@ -18,7 +18,8 @@ use Rattle.buffer.specs.BufferLaws.{overlay-front, length-wrote, appended-of, r
 use Rattle.header_line.specs.Lines.{nameLen}
 use Rattle.line.specs.Line.{blank, crlf}
 use Rattle.line.specs.LineLaws.{crlf-inside}
-use Rattle.header.specs.Fields.{fold, valueOf, unfoldedAfter, trimmed, textOf}
+use Rattle.header.specs.Fields.{fold, nameOf, valueOf, unfoldedAfter, trimmed, textOf}
+use Rattle.header.specs.FieldShape.{Shaped}
 use Rattle.header.specs.FieldLaws.{drop-take}
 use Rattle.line.specs.LineLaws.{notCr, crRun}
 use Rattle.field_text.specs.TextPlace.{textPlace}
@@ -366,3 +367,10 @@ text-there field a b q =
 
     never : Folded ≡ InPlace a b → take (b - a) (drop a field) ≡ textOf field
     never p = let z : _≡_ {A = ℕ} 0 1 = cc in absurd (omega arith)
+
+-- what stands in a field besides its name and its text: a colon and CRLF at least
+pub length-shaped : {field : List ℕ} → Shaped field → length (nameOf field) + length (textOf field) + 3 ≤ length field
+length-shaped {field} s =
+    let value = valueOf field in
+    let tail : List ℕ = 58 ∷ (value ++ (13 ∷ 10 ∷ [])) in
+    omega (arith, ap length (s .parts), length-append (nameOf field) tail, length-append value (13 ∷ 10 ∷ []), length-text-value field)

@@ -1,6 +1,6 @@
 // The library's exported calls, for C and for Rust.
 ghost use mathlib.Core.Path.{_≡_};
-ghost use Rattle.call.specs.Outcome.{left, outcome};
+ghost use Rattle.call.specs.Outcome.{observed, outcome};
 use call::Answer;
 
 // Downgrades an envelope and a header into two buffers, or refuses them by number and place.
@@ -11,7 +11,7 @@ pub extern "C" fn hennelaku_downgrade_slices(
     envelope_buffer: &mut [u8],
     header_buffer: &mut [u8],
 ) -> Answer
-    ensures { λ r. ⌜ left r (now («envelope_buffer» .exit)) (now («header_buffer» .exit)) ≡ outcome (now (envelope .entry)) (now (header .entry)) (now («envelope_buffer» .entry)) (now («header_buffer» .entry)) ⌝ }
+    ensures { λ r. ⌜ observed r (now («envelope_buffer» .exit)) (now («header_buffer» .exit)) ≡ outcome (now (envelope .entry)) (now (header .entry)) (now («envelope_buffer» .entry)) (now («header_buffer» .entry)) ⌝ }
 {
     call::downgrade(envelope, header, envelope_buffer, header_buffer)
 }

@@ -14,7 +14,7 @@ returns : tie.Need-returns
 returns c = ample (c .before .before .before .before .pre .0) (c .before .before .before .before .pre .1) (c .if1 .taken)
 
 header-len-requires : tie.Need-header-len-requires
-header-len-requires c κs = c .before .before .before .before .pre .0
+header-len-requires c κs = c .before .before .before .before .pre
 
 returns-2 : tie.Need-returns-2
 returns-2 c = needed-size (c .header-len .ensures)
