@@ -6,7 +6,7 @@ ghost use Rattle.encoded_word.specs.Segments.{rendered};
 ghost use Rattle.field.specs.Field.{labelledField, prefix, encodedField};
 
 // The encoded words of a text, and CRLF.
-fn add_words(out: &mut [u8], at: usize, text: &[u8]) -> usize
+fn add_after_label(out: &mut [u8], at: usize, text: &[u8]) -> usize
     ensures { λ r. ⌜ AppendedCapped (row (bounded (now (text .entry))) ++ (13 ∷ 10 ∷ [])) at (now (out .entry)) (now (out .exit)) r ⌝ }
 {
     let end = encoded_word::add(out, at, text);
@@ -18,7 +18,7 @@ pub fn add_labelled(out: &mut [u8], at: usize, label: &[u8], text: &[u8]) -> usi
     ensures { λ r. ⌜ AppendedCapped (rendered (labelledField (now (label .entry)) (bounded (now (text .entry))))) at (now (out .entry)) (now (out .exit)) r ⌝ }
 {
     let words = buffer::add_slice(out, at, label);
-    add_words(out, words, text)
+    add_after_label(out, words, text)
 }
 
 // `Downgraded-`, or nothing.
@@ -39,5 +39,5 @@ pub fn add_encoded(out: &mut [u8], at: usize, name: &[u8], text: &[u8], downgrad
     let start = add_prefix(out, at, downgraded);
     let colon = buffer::add_slice(out, start, name);
     let words = buffer::add_byte(out, colon, b':');
-    add_words(out, words, text)
+    add_after_label(out, words, text)
 }

@@ -8,7 +8,7 @@ use Rattle.field.proofs.add_encoded.Lts as lts
 use Rattle.buffer.proofs.add_byte.Reads as add-byte-reads
 use Rattle.buffer.proofs.add_slice.Reads as add-slice-reads
 use Rattle.field.proofs.add_prefix.Reads as add-prefix-reads
-use Rattle.field.proofs.add_words.Reads as add-words-reads
+use Rattle.field.proofs.add_after_label.Reads as add-after-label-reads
 
 -- src/lib.rt:39:9
 add-prefix-requires : tie.Need-add-prefix-requires
@@ -23,8 +23,8 @@ add-byte-requires : tie.Need-add-byte-requires
 add-byte-requires c κs = search needs
 
 -- src/lib.rt:42:5
-add-words-requires : tie.Need-add-words-requires
-add-words-requires c κs = search needs
+add-after-label-requires : tie.Need-add-after-label-requires
+add-after-label-requires c κs = search needs
 
 -- src/lib.rt:36:1
 same-length : tie.Need-same-length
@@ -32,7 +32,7 @@ same-length c = search needs
 
 -- src/lib.rt:36:1
 returns : tie.Need-returns
-returns c = encoded-added _ _ _ (labelled-added (omega arith) _ _ (label-added (omega arith) _ _ (c .before .before .before .before .before .before .before .before .before .before .before .before .before .before .add-prefix .ensures) (c .before .before .before .before .before .before .before .before .before .before .add-slice .ensures) (c .before .before .before .before .before .before .add-byte .ensures)) (c .before .before .add-words .ensures))
+returns c = encoded-added _ _ _ (labelled-added (omega arith) _ _ (label-added (omega arith) _ _ (c .before .before .before .before .before .before .before .before .before .before .before .before .before .before .add-prefix .ensures) (c .before .before .before .before .before .before .before .before .before .before .add-slice .ensures) (c .before .before .before .before .before .before .add-byte .ensures)) (c .before .before .add-after-label .ensures))
 
 pub add-encoded-spec : {M : Type 1} → statement M
 add-encoded-spec =
@@ -41,6 +41,6 @@ add-encoded-spec =
     add-prefix-requires
     add-slice-requires
     add-byte-requires
-    add-words-requires
+    add-after-label-requires
     same-length
     returns)

@@ -1,10 +1,10 @@
 use Rattle.buffer.specs.BufferLaws.{capped-then}
 use native.Mathlib.Omega.{arith}
 use borrow.Author.Needs.{needs}
-use Rattle.field.proofs.add_words.Statement.{statement}
-use Rattle.field.proofs.add_words.Tie as tie
-use Rattle.field.proofs.add_words.Reads as reads
-use Rattle.field.proofs.add_words.Lts as lts
+use Rattle.field.proofs.add_after_label.Statement.{statement}
+use Rattle.field.proofs.add_after_label.Tie as tie
+use Rattle.field.proofs.add_after_label.Reads as reads
+use Rattle.field.proofs.add_after_label.Lts as lts
 use Rattle.buffer.proofs.add_slice.Reads as add-slice-reads
 use Rattle.encoded_word.proofs.add.Reads as add-reads
 
@@ -28,7 +28,7 @@ same-length c = search needs
 returns : tie.Need-returns
 returns c = capped-then (c .before .before .before .before .before .before .before .add .ensures) (c .before .before .add-slice .ensures) (omega arith)
 
-pub add-words-spec : {M : Type 1} → statement M
-add-words-spec =
+pub add-after-label-spec : {M : Type 1} → statement M
+add-after-label-spec =
     tie.close
     (tie.spec add-requires slice-aggregate-add-slice add-slice-requires same-length returns)
