@@ -38,21 +38,6 @@ wordsFrom zero (b ∷ t) =
 unfoldable pub wordsOf : List ℕ → List (List ℕ)
 wordsOf phrase = wordsFrom 0 phrase
 
--- what stays of a byte: a quote (34) or a backslash (92) goes, unless it is escaped
-unfoldable pub kept : Bool → ℕ → List ℕ
-kept escaped b = cond (not escaped && (eqb b 34 || eqb b 92)) [] (b ∷ [])
-
-unfoldable pub escapes : Bool → ℕ → Bool
-escapes escaped b = not escaped && eqb b 92
-
--- a word "without quoting and escapes"; neither quotes nor backslashes stand in a word that is no quoted string
-unfoldable pub unquotedFrom : Bool → List ℕ → List ℕ
-unquotedFrom escaped [] = []
-unquotedFrom escaped (b ∷ word) = kept escaped b ++ unquotedFrom (escapes escaped b) word
-
-unfoldable pub unquoted : List ℕ → List ℕ
-unquoted word = unquotedFrom false word
-
 -- each text after a space (32)
 unfoldable pub afterSpaces : List (List ℕ) → List ℕ
 afterSpaces [] = []

@@ -38,40 +38,6 @@ pub words-short : (text : List ℕ) {at : ℕ} {before after : List ℕ} {r : �
     → AppendedCapped (row text) at before after r
 words-short text h a = rw (bounded-short text (omega arith)) at a
 
--- ---- a word, byte by byte
-
-module _ (w : List ℕ) (i : ℕ) (escaped : Bool) where
-  pub unquoted-step : i < length w
-      → unquotedFrom escaped (drop i w) ≡ kept escaped (getD w i 0) ++ unquotedFrom (escapes escaped (getD w i 0)) (drop (i + 1) w)
-  unfolding unquotedFrom
-  unquoted-step h = rw (add-one, drop-cons w i 0 h)
-
-  pub unquoted-end : length w ≤ i → unquotedFrom escaped (drop i w) ≡ []
-  unfolding unquotedFrom
-  unquoted-end h = rw (drop-of-length-le w {i = i} h)
-
-module _ (escaped : Bool) (b : ℕ) where
-  pub kept-goes : (not escaped && (eqb b 34 || eqb b 92)) ≡ true → [] ≡ kept escaped b
-  unfolding kept
-  kept-goes h = rw h
-
-  pub kept-stays : (not escaped && (eqb b 34 || eqb b 92)) ≡ false → b ∷ [] ≡ kept escaped b
-  unfolding kept
-  kept-stays h = rw h
-
-  length-kept : length (kept escaped b) ≤ 1
-  unfolding kept
-  length-kept = go (not escaped && (eqb b 34 || eqb b 92))
-    where
-      go : (t : Bool) → length (cond t [] (b ∷ [])) ≤ 1
-      go true = lit≤ tt
-      go false = lit≤ tt
-
-pub length-unquoted : (escaped : Bool) (w : List ℕ) → length (unquotedFrom escaped w) ≤ length w
-unfolding unquotedFrom
-length-unquoted escaped [] = zero-le
-length-unquoted escaped (b ∷ w) = rw length-append (omega (arith, length-kept escaped b, length-unquoted (escapes escaped b) w))
-
 -- ---- a phrase, word by word
 
 module _ (t : List ℕ) (at n : ℕ) (q : n ≡ wordLen (drop at t)) where

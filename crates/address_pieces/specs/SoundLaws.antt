@@ -185,44 +185,6 @@ words-utf8 zero [] k h = rw words-nil tt
 words-utf8 zero (b ∷ t) k h = absurd (not-suc-le-zero k)
 words-utf8 (suc m) t k h = words-turn m t k h (words-utf8 m)
 
--- every byte of a list is kept that is not ASCII, and none of them escapes the next
-high-kept : (escaped : Bool) (b : ℕ) (rest : List ℕ) → T (leb 128 b) → unquotedFrom escaped (b ∷ rest) ≡ b ∷ unquotedFrom false rest
-unfolding unquotedFrom kept escapes
-high-kept escaped b rest h =
-    let high : 128 ≤ b = leb-yes h in
-    rw (ne-eqb b 34 (λ e. not-suc-le-zero {n = 0} (omega arith)), ne-eqb b 92 (λ e. not-suc-le-zero {n = 0} (omega arith)), and-false (not escaped))
-
-unquoted-high : (c rest : List ℕ) → T (all (leb 128) c) → unquotedFrom false (c ++ rest) ≡ c ++ unquotedFrom false rest
-unquoted-high [] rest h = refl
-unquoted-high (b ∷ c) rest h =
-    let both = and-yes (leb 128 b) (all (leb 128) c) h in
-    high-kept false b (c ++ rest) (both .0) ∙ ap (λ (l : List ℕ). b ∷ l) (unquoted-high c rest (both .1))
-
-kept-utf8 : (escaped : Bool) (b : ℕ) → T (isChar (b ∷ [])) → T (utf8 (kept escaped b))
-unfolding kept
-kept-utf8 escaped b t =
-    cond-has (λ (l : List ℕ). T (utf8 l)) (not escaped && (eqb b 34 || eqb b 92)) [] (b ∷ []) (λ e. utf8-ascii [] tt) (λ e. utf8-char (b ∷ []) t)
-
--- a character, and what is left after it
-char-unquoted : (escaped : Bool) (c rest : List ℕ) → T (isChar c) → ((e : Bool) → T (utf8 (unquotedFrom e rest))) → T (utf8 (unquotedFrom escaped (c ++ rest)))
-unfolding unquotedFrom
-char-unquoted escaped [] rest t more = absurd (not-suc-le-zero (char-some [] t))
-char-unquoted escaped (b ∷ []) rest t more =
-    utf8-append (kept escaped b) (unquotedFrom (escapes escaped b) rest) (kept-utf8 escaped b t) (more (escapes escaped b))
-char-unquoted escaped (b ∷ d ∷ c) rest t more =
-    let char : List ℕ = b ∷ d ∷ c in
-    let both = and-yes (leb 128 b) (all (leb 128) (d ∷ c)) (char-high char t (omega arith)) in
-    rw (high-kept escaped b ((d ∷ c) ++ rest) (both .0), unquoted-high (d ∷ c) rest (both .1)) (utf8-append char (unquotedFrom false rest) (utf8-char char t) (more false))
-
-unquoted-chars : (cs : List (List ℕ)) → T (all isChar cs) → (escaped : Bool) → T (utf8 (unquotedFrom escaped (joined cs)))
-unfolding unquotedFrom
-unquoted-chars [] h escaped = utf8-ascii [] tt
-unquoted-chars (c ∷ cs) h escaped = let both = and-yes (isChar c) (all isChar cs) h in char-unquoted escaped c (joined cs) (both .0) (unquoted-chars cs (both .1))
-
-unquoted-utf8 : (w : List ℕ) → T (utf8 w) → T (utf8 (unquoted w))
-unfolding unquoted utf8
-unquoted-utf8 w h = rw (chars-joined w) at (unquoted-chars (chars w) h false)
-
 -- ---- a phrase
 
 after-spaces-utf8 : (ws : List (List ℕ)) → T (all utf8 ws) → T (utf8 (afterSpaces (map unquoted ws)))

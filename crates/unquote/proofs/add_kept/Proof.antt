@@ -1,9 +1,9 @@
 use native.Mathlib.Omega.{arith}
 use Rattle.buffer.specs.BufferLaws.{capped-none, capped-same}
-use Rattle.address_pieces.specs.PiecesLaws.{kept-goes, kept-stays}
+use Rattle.unquote.specs.UnquoteLaws.{kept-goes, kept-stays}
 use borrow.Author.Needs.{needs}
-use Rattle.address_pieces.proofs.phrase.add_kept.Statement.{statement}
-use Rattle.address_pieces.proofs.phrase.add_kept.Tie as tie
+use Rattle.unquote.proofs.add_kept.Statement.{statement}
+use Rattle.unquote.proofs.add_kept.Tie as tie
 
 returns : tie.Need-returns
 returns c = capped-same (kept-goes _ _ (c .if1 .taken)) (capped-none _ _ (omega arith))

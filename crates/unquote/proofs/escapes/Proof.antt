@@ -1,8 +1,8 @@
 use mathlib.Core.Path.{refl}
-use Rattle.address_pieces.specs.Pieces.{escapes}
+use Rattle.unquote.specs.Unquote.{escapes}
 use borrow.Author.Needs.{needs}
-use Rattle.address_pieces.proofs.phrase.escapes.Statement.{statement}
-use Rattle.address_pieces.proofs.phrase.escapes.Tie as tie
+use Rattle.unquote.proofs.escapes.Statement.{statement}
+use Rattle.unquote.proofs.escapes.Tie as tie
 
 returns : tie.Need-returns
 unfolding escapes

@@ -4,17 +4,17 @@ use native.Mathlib.Omega.{arith}
 use lib.ListN.{length, drop}
 use Rattle.buffer.specs.BufferLaws.{capped-start, capped-turn, capped-end, length-capped}
 use Rattle.buffer.specs.Buffer.{ReachedCapped}
-use Rattle.address_pieces.specs.PiecesLaws.{unquoted-step, unquoted-end}
-use Rattle.address_pieces.specs.Pieces.{unquoted, unquotedFrom}
+use Rattle.unquote.specs.UnquoteLaws.{unquoted-step, unquoted-end}
+use Rattle.unquote.specs.Unquote.{unquoted, unquotedFrom}
 use borrow.Author.Needs.{needs}
-use Rattle.address_pieces.proofs.phrase.add_unquoted.Statement.{statement}
-use Rattle.address_pieces.proofs.phrase.add_unquoted.Tie as tie
+use Rattle.unquote.proofs.add_unquoted.Statement.{statement}
+use Rattle.unquote.proofs.add_unquoted.Tie as tie
 
 abbrev Inv-loop : tie.InvT-loop
-Inv-loop out₀ at word next₀ escaped₀ i₀ out next escaped i = ReachedCapped (unquoted word) (unquotedFrom escaped (drop i word)) at out₀ out next
+Inv-loop out₀ at text next₀ escaped₀ i₀ out next escaped i = ReachedCapped (unquoted text) (unquotedFrom escaped (drop i text)) at out₀ out next
 
 abbrev μ-loop : tie.MeasureT-loop
-μ-loop out₀ at word next₀ escaped₀ i₀ out next escaped i = length word - i
+μ-loop out₀ at text next₀ escaped₀ i₀ out next escaped i = length text - i
 
 loop-holds : tie.Need-loop-holds Inv-loop μ-loop
 unfolding unquoted
@@ -36,7 +36,7 @@ loop-less : tie.Need-loop-less Inv-loop μ-loop
 loop-less c = omega arith
 
 loop-again : tie.Need-loop-again Inv-loop μ-loop
-loop-again c = capped-turn (c .before .before .before .before .before .before .before .loop .inv) (unquoted-step (c .before .before .before .before .before .before .before .before .before .before .args .word .now) (c .before .before .before .before .before .before .before .loop .i) (c .before .before .before .before .before .before .before .loop .escaped) (c .before .before .before .before .before .before .loop-test .taken) ∙ rw (c .escapes .ensures)) (c .before .before .before .add-kept .ensures) (omega arith)
+loop-again c = capped-turn (c .before .before .before .before .before .before .before .loop .inv) (unquoted-step (c .before .before .before .before .before .before .before .before .before .before .args .text .now) (c .before .before .before .before .before .before .before .loop .i) (c .before .before .before .before .before .before .before .loop .escaped) (c .before .before .before .before .before .before .loop-test .taken) ∙ rw (c .escapes .ensures)) (c .before .before .before .add-kept .ensures) (omega arith)
 
 same-length : tie.Need-same-length Inv-loop μ-loop
 same-length c = length-capped (c .before .loop .inv)
