@@ -16,7 +16,7 @@ use Rattle.line.specs.Line.{blank}
 use Rattle.address.specs.Address.{isAtext, isAtomByte}
 use Rattle.address.specs.AddressLaws.{front-byte}
 use Rattle.address.specs.GrammarLaws.{Closed}
-use Rattle.address_list.specs.Words.{addressLen}
+use Rattle.phrase.specs.Words.{addressLen}
 use Rattle.address_list.specs.Parts.{Part, front, angledAt, namedAt, partAt, partsFrom, partsOf}
 use Rattle.address_list.specs.PartsLaws.{parts-front, parts-end, named-address, named-phrase, angled-there, angled-more, alternative-there}
 use Rattle.address_list.specs.Grammar.{unlessBlank, kindsOf}

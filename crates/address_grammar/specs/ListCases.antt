@@ -7,7 +7,7 @@ use Rattle.lists.specs.Run.{run}
 use Rattle.letter_case.specs.LetterCase.{bytes}
 use Rattle.line.specs.Line.{blank}
 use Rattle.address.specs.Address.{later, byteThen, scanThen, isAtext, isAtomByte, isQuotedByte, isLiteralByte, dotAtomFrom, dotAtomScan, quotedFrom, quotedScan, literalFrom, literalScan, domainScan, localScan, addressScan}
-use Rattle.address_list.specs.Words.{capped, isWordByte, addressLen, wordLen, nextWordLen, nextWordsLen, phraseLen}
+use Rattle.phrase.specs.Words.{capped, isWordByte, addressLen, wordLen, nextWordLen, nextWordsLen, phraseLen}
 use Rattle.address_list.specs.Parts.{alternativeAt, angledAt, namedAt, partAt, partsFrom, partsOf, changes, anyChanges}
 use Rattle.address_list.specs.Table.{after, complete, examinedFrom, examined}
 use Rattle.address_list.specs.declared.Examined.{Examined}

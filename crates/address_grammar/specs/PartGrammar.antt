@@ -10,7 +10,7 @@ use Rattle.lists.specs.Lists.{all, nonempty}
 use Rattle.lists.specs.Byte.{isAscii}
 use Rattle.line.specs.Line.{blank}
 use Rattle.address.specs.Grammar.{QuotedString, Address as AddressForm}
-use Rattle.address_list.specs.Words.{isWordByte}
+use Rattle.phrase.specs.Words.{isWordByte}
 use Rattle.address_list.specs.Parts.{Part}
 use Rattle.address_list.specs.Grammar.{Items, kindsOf}
 use Rattle.address_list.specs.declared.Kind.{Kind}

@@ -19,7 +19,7 @@ use Rattle.address.specs.declared.Scan.the-variants.{To, Stop}
 use Rattle.address.specs.Address.{quotedScan, addressScan}
 use Rattle.address.specs.AddressLaws.{byte-within}
 use Rattle.address.specs.GrammarLaws.{quoted-string-sound, address-sound}
-use Rattle.address_list.specs.Words.{found, capped, isWordByte, addressLen, wordLen, nextWordLen, nextWordsLen, phraseLen}
+use Rattle.phrase.specs.Words.{found, capped, isWordByte, addressLen, wordLen, nextWordLen, nextWordsLen, phraseLen}
 use Rattle.address_list.specs.Parts.{front, stray, alternativeAt, angledAt, namedAt, partAt, partsFrom, partsOf}
 use Rattle.address_list.specs.declared.Kind.the-variants.{Blank, Comma, Colon, Semicolon, Phrase, Address, Angled, Alternative}
 use Rattle.address_list.specs.declared.Front.{Front}

@@ -1,5 +1,3 @@
-pub mod Words
-pub mod WordsLaws
 pub mod Parts
 pub mod PartsLaws
 pub mod Grammar

@@ -8,7 +8,7 @@ use Rattle.lists.specs.Byte.{isAscii}
 use Rattle.lists.specs.Lists.{all}
 use Rattle.lists.specs.Run.{run}
 use Rattle.line.specs.Line.{blank}
-use Rattle.address_list.specs.Words.{addressLen, phraseLen}
+use Rattle.phrase.specs.Words.{addressLen, phraseLen}
 use Rattle.address_list.specs.declared.Kind.{Kind}
 use Rattle.address_list.specs.declared.Kind.the-variants.{Blank, Comma, Colon, Semicolon, Phrase, Address, Angled, Alternative, Stray}
 use Rattle.address_list.specs.declared.Front.{Front}

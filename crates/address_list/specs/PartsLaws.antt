@@ -15,7 +15,7 @@ use Rattle.lists.specs.Lists.{all}
 use Rattle.lists.specs.Run.{run}
 use Rattle.line.specs.Line.{blank}
 use Rattle.address.specs.Address.{addressScan, scanThen, localScan, dotAtomScan, dotAtomFrom}
-use Rattle.address_list.specs.Words.{capped, addressLen, wordLen, phraseLen}
+use Rattle.phrase.specs.Words.{capped, addressLen, wordLen, phraseLen}
 use Rattle.address_list.specs.Parts.{front, stray, alternativeAt, angledAt, namedAt, partAt, Part, partsFrom, changes}
 use Rattle.address_list.specs.declared.Kind.{Kind}
 use Rattle.address_list.specs.declared.Kind.the-variants.{Blank, Comma, Colon, Semicolon, Phrase, Address, Angled, Alternative, Stray}

@@ -20,7 +20,7 @@ use Rattle.encoded_word.specs.Segments.{Segment, sound}
 use Rattle.encoded_word.specs.Segments.Segment.{raw, words}
 use Rattle.field.specs.Field.{encodedField}
 use Rattle.field.specs.FieldSound.{AddressSound, name-ascii, encoded-sound}
-use Rattle.address_list.specs.Words.{addressLen, phraseLen}
+use Rattle.phrase.specs.Words.{addressLen, phraseLen}
 use Rattle.address_list.specs.Parts.{front, stray, alternativeAt, angledAt, namedAt, partAt, Part, partsFrom, partsOf, anyChanges}
 use Rattle.address_list.specs.Table.{after, complete, examinedFrom, examined}
 use Rattle.address_list.specs.TableLaws.{complete-unfit}

@@ -26,7 +26,7 @@ use Rattle.address.specs.declared.Scan.{Scan}
 use Rattle.address.specs.declared.Scan.the-variants.{To, Stop}
 use Rattle.address.specs.Address.{addressScan}
 use Rattle.address.specs.TakenLaws.{Taken, AtLeast, taken-address}
-use Rattle.address_list.specs.Words.{found, capped, addressLen, phraseLen}
+use Rattle.phrase.specs.Words.{found, capped, addressLen, phraseLen}
 use Rattle.address_list.specs.Parts.{front, stray, alternativeAt, angledAt, namedAt, Part, partAt, partsFrom, partsOf}
 use Rattle.address_list.specs.declared.Front.{Front}
 use Rattle.address_list.specs.Table.{examined}

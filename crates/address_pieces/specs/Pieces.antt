@@ -12,7 +12,7 @@ use Rattle.line.specs.Line.{blank}
 use Rattle.letter_case.specs.LetterCase.{bytes}
 use Rattle.encoded_word.specs.Segments.{Segment}
 use Rattle.encoded_word.specs.Segments.Segment.{raw, words}
-use Rattle.address_list.specs.Words.{wordLen}
+use Rattle.phrase.specs.Words.{wordLen}
 use Rattle.address_list.specs.Parts.{Part}
 use Rattle.address_list.specs.declared.Kind.{Kind}
 use Rattle.address_list.specs.declared.Kind.the-variants.{Blank, Comma, Colon, Semicolon, Phrase, Address, Angled, Alternative, Stray}
@@ -23,37 +23,9 @@ piece text = raw (13 ∷ 10 ∷ 32 ∷ text)
 
 -- ---- a phrase
 
--- the length of the word at the front; bytes with no word at their front count as one word to the end
-unfoldable pub wordSize : List ℕ → ℕ
-wordSize t = cond (eqb (wordLen t) 0) (length t) (wordLen t)
-
--- the words of what is left of a phrase, after k bytes: a word, the blanks after it, and so on
-unfoldable pub wordsFrom : ℕ → List ℕ → List (List ℕ)
-wordsFrom k [] = []
-wordsFrom (suc k) (b ∷ t) = wordsFrom k t
-wordsFrom zero (b ∷ t) =
-    let word = wordSize (b ∷ t) in
-    take word (b ∷ t) ∷ wordsFrom (pred (word + run blank (drop word (b ∷ t)))) t
-
-unfoldable pub wordsOf : List ℕ → List (List ℕ)
-wordsOf phrase = wordsFrom 0 phrase
-
--- each text after a space (32)
-unfoldable pub afterSpaces : List (List ℕ) → List ℕ
-afterSpaces [] = []
-afterSpaces (text ∷ texts) = 32 ∷ (text ++ afterSpaces texts)
-
-unfoldable pub joinedBySpaces : List (List ℕ) → List ℕ
-joinedBySpaces [] = []
-joinedBySpaces (text ∷ texts) = text ++ afterSpaces texts
-
--- "its words without quoting and escapes, joined by single spaces"
-unfoldable pub phraseText : List ℕ → List ℕ
-phraseText phrase = joinedBySpaces (map unquoted (wordsOf phrase))
-
 -- "ASCII phrase: each word as it stands, a piece each. Other phrase: encoded words of its words .."
 unfoldable pub phrasePieces : List ℕ → List Segment
-phrasePieces phrase = cond (all isAscii phrase) (map piece (wordsOf phrase)) (words (phraseText phrase) ∷ [])
+phrasePieces phrase = cond (all isAscii phrase) (map piece (phraseWords phrase)) (words (phraseText phrase) ∷ [])
 
 -- ---- an address
 
