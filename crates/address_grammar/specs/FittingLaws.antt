@@ -22,10 +22,10 @@ use Rattle.address_list.specs.PartsLaws.{parts-front, parts-end, named-address,
 use Rattle.address_list.specs.Grammar.{unlessBlank, kindsOf}
 use Rattle.address_list.specs.Table.{after, complete, fits, examined}
 use Rattle.address_list.specs.TableLaws.{complete-unfit}
-use Rattle.address_list.specs.declared.Kind.{Kind}
-use Rattle.address_list.specs.declared.Kind.the-variants.{Blank, Comma, Colon, Semicolon, Phrase, Address, Angled, Alternative, Stray}
-use Rattle.address_list.specs.declared.Place.{Place}
-use Rattle.address_list.specs.declared.Place.the-variants.{ItemDue, ItemNamed, ItemDone, GroupOpen, MemberDue, MemberNamed, MemberDone, Unfit}
+use Rattle.address_list.specs.declared.PartKind.{PartKind}
+use Rattle.address_list.specs.declared.PartKind.the-variants.{Blank, Comma, Colon, Semicolon, Phrase, Address, Angled, Alternative, Stray}
+use Rattle.address_list.specs.declared.State.{State}
+use Rattle.address_list.specs.declared.State.the-variants.{ItemDue, ItemNamed, ItemDone, GroupOpen, MemberDue, MemberNamed, MemberDone, Unfit}
 use Rattle.address_list.specs.declared.Examined.the-variants.{DoesNotFit}
 use Rattle.address_grammar.specs.PartGrammar.{AddressText, Blanks, SomeBlanks, PhraseText, AngledText, AlternativeText, IsPart, EachIsPart, joinedParts, AddressList}
 use Rattle.address_grammar.specs.PartGrammarLaws.{parts-made, parts-joined}
@@ -51,7 +51,7 @@ after-mark : {t : List ℕ} (b : ℕ) (more y : List ℕ) → T (ending b) → t
 after-mark {t} b more y m e = record { gap = []; tail = t ++ y; made = refl; blanks = tt; ends = rw e m }
 
 -- the next part that is not blank opens with a mark
-ended-next : (k l : Kind) (t : List ℕ) (ps : List Part) → isMark k ≡ false → T (markBetween (k ∷ unlessBlank l (kindsOf ps))) → IsPart l t
+ended-next : (k l : PartKind) (t : List ℕ) (ps : List Part) → isMark k ≡ false → T (markBetween (k ∷ unlessBlank l (kindsOf ps))) → IsPart l t
     → (T (markBetween (k ∷ kindsOf ps)) → Ended (joinedParts ps)) → Ended (t ++ joinedParts ps)
 unfolding unlessBlank ending
 ended-next k Blank t ps n m p more = after-blank p (more m)
@@ -64,17 +64,17 @@ ended-next k Phrase t ps n m p more = absurd (rw n at m)
 ended-next k Address t ps n m p more = absurd (rw n at m)
 ended-next k Stray t ps n m p more = absurd (rw n at m)
 
-ended-rest : (k : Kind) (ps : List Part) → isMark k ≡ false → T (markBetween (k ∷ kindsOf ps)) → EachIsPart ps → Ended (joinedParts ps)
+ended-rest : (k : PartKind) (ps : List Part) → isMark k ≡ false → T (markBetween (k ∷ kindsOf ps)) → EachIsPart ps → Ended (joinedParts ps)
 unfolding kindsOf ending
 ended-rest k [] n m e = record { gap = []; tail = []; made = refl; blanks = tt; ends = tt }
 ended-rest k (p ∷ ps) n m e = ended-next k (p .kind) (p .text) ps n m (e .0) (λ h. ended-rest k ps n h (e .1))
 
 -- between the parts after the first
-marked-more : (k : Kind) (ks : List Kind) → T (markBetween (k ∷ ks)) → T (markBetween ks)
+marked-more : (k : PartKind) (ks : List PartKind) → T (markBetween (k ∷ ks)) → T (markBetween ks)
 marked-more k [] m = tt
 marked-more k (l ∷ ks) m = and-yes (isMark k || opensWithMark l) (markBetween (l ∷ ks)) m .1
 
-marked-rest : (k : Kind) (ks : List Kind) → T (markBetween (unlessBlank k ks)) → T (markBetween ks)
+marked-rest : (k : PartKind) (ks : List PartKind) → T (markBetween (unlessBlank k ks)) → T (markBetween ks)
 unfolding unlessBlank
 marked-rest Blank ks m = m
 marked-rest Comma ks m = marked-more Comma ks m
@@ -86,7 +86,7 @@ marked-rest (Angled start size) ks m = marked-more (Angled start size) ks m
 marked-rest (Alternative start size) ks m = marked-more (Alternative start size) ks m
 marked-rest Stray ks m = marked-more Stray ks m
 
-after-stray : (place : Place) → after place Stray ≡ Unfit
+after-stray : (state : State) → after state Stray ≡ Unfit
 unfolding after
 after-stray ItemDue = refl
 after-stray ItemNamed = refl
@@ -99,18 +99,18 @@ after-stray Unfit = refl
 
 -- ---- a part that the grammar makes is found
 
-record Found (s : List ℕ) (kind : Kind) (size : ℕ) : Type 0 where
+record Found (s : List ℕ) (kind : PartKind) (size : ℕ) : Type 0 where
   is : front kind size ≡ partAt s
   some : 0 < size
 
-whole-found : {s : List ℕ} (k : Kind) (n : ℕ) → front k n ≡ partAt s → 0 < n → Found s k n
+whole-found : {s : List ℕ} (k : PartKind) (n : ℕ) → front k n ≡ partAt s → 0 < n → Found s k n
 whole-found k n e p = record { is = e; some = p }
 
 blank-found : {t : List ℕ} → IsPart Blank t → (y : List ℕ) → Found (t ++ y) Blank (length t)
 unfolding partAt
 blank-found p y = rw (p .made) (whole-found Blank 1 (rw (yes-true (blank (p .byte)) (p .is))) (omega arith))
 
-mark-found : {t : List ℕ} (k : Kind) (b : ℕ) → t ≡ b ∷ [] → (y : List ℕ) → front k 1 ≡ partAt (b ∷ y) → Found (t ++ y) k (length t)
+mark-found : {t : List ℕ} (k : PartKind) (b : ℕ) → t ≡ b ∷ [] → (y : List ℕ) → front k 1 ≡ partAt (b ∷ y) → Found (t ++ y) k (length t)
 mark-found k b p y e = rw p (whole-found k 1 e (omega arith))
 
 named-part : (s : List ℕ) → T (starting (getD s 0 0)) → namedAt s ≡ partAt s
@@ -248,32 +248,32 @@ alternative-found {start} {size} {t} p y =
     ∙ angled-more s a n qs qn (no-address (p .first-is)) apart ∙ bracket-part (gap ++ (first ++ y₁)))
     (omega arith))
 
-part-found : (k : Kind) (t : List ℕ) (place : Place) (ps : List Part) → complete (after place k) ps ≡ true → T (markBetween (unlessBlank k (kindsOf ps)))
+part-found : (k : PartKind) (t : List ℕ) (state : State) (ps : List Part) → complete (after state k) ps ≡ true → T (markBetween (unlessBlank k (kindsOf ps)))
     → IsPart k t → EachIsPart ps → Found (t ++ joinedParts ps) k (length t)
 unfolding unlessBlank partAt blank
-part-found Blank t place ps h m p e = blank-found p (joinedParts ps)
-part-found Comma t place ps h m p e = mark-found Comma 44 p (joinedParts ps) refl
-part-found Colon t place ps h m p e = mark-found Colon 58 p (joinedParts ps) refl
-part-found Semicolon t place ps h m p e = mark-found Semicolon 59 p (joinedParts ps) refl
-part-found Phrase t place ps h m p e = phrase-part p (joinedParts ps) (ended-rest Phrase ps refl m e)
-part-found Address t place ps h m p e = bare-found p (joinedParts ps) (ended-rest Address ps refl m e)
-part-found (Angled start size) t place ps h m p e = angled-found p (joinedParts ps)
-part-found (Alternative start size) t place ps h m p e = alternative-found p (joinedParts ps)
-part-found Stray t place ps h m p e = false-true (sym (complete-unfit ps) ∙ (rw (after-stray place) at h))
+part-found Blank t state ps h m p e = blank-found p (joinedParts ps)
+part-found Comma t state ps h m p e = mark-found Comma 44 p (joinedParts ps) refl
+part-found Colon t state ps h m p e = mark-found Colon 58 p (joinedParts ps) refl
+part-found Semicolon t state ps h m p e = mark-found Semicolon 59 p (joinedParts ps) refl
+part-found Phrase t state ps h m p e = phrase-part p (joinedParts ps) (ended-rest Phrase ps refl m e)
+part-found Address t state ps h m p e = bare-found p (joinedParts ps) (ended-rest Address ps refl m e)
+part-found (Angled start size) t state ps h m p e = angled-found p (joinedParts ps)
+part-found (Alternative start size) t state ps h m p e = alternative-found p (joinedParts ps)
+part-found Stray t state ps h m p e = false-true (sym (complete-unfit ps) ∙ (rw (after-stray state) at h))
 
 -- ---- a list that the grammar makes fits
 
-joined-parts : (place : Place) (ps : List Part) → complete place ps ≡ true → T (markBetween (kindsOf ps)) → EachIsPart ps → partsFrom 0 (joinedParts ps) ≡ ps
+joined-parts : (state : State) (ps : List Part) → complete state ps ≡ true → T (markBetween (kindsOf ps)) → EachIsPart ps → partsFrom 0 (joinedParts ps) ≡ ps
 unfolding complete kindsOf
-joined-parts place [] h m e = parts-end [] 0 (omega arith)
-joined-parts place (p ∷ ps) h m e =
+joined-parts state [] h m e = parts-end [] 0 (omega arith)
+joined-parts state (p ∷ ps) h m e =
     let text = p .text in
     let rest = joinedParts ps in
     let s = text ++ rest in
     let n = length text in
-    let f = part-found (p .kind) text place ps h m (e .0) (e .1) in
+    let f = part-found (p .kind) text state ps h m (e .0) (e .1) in
     let long : 0 < length s = omega (arith, f .some, length-append text rest) in
-    let more = joined-parts (after place (p .kind)) ps h (marked-rest (p .kind) (kindsOf ps) m) (e .1) in
+    let more = joined-parts (after state (p .kind)) ps h (marked-rest (p .kind) (kindsOf ps) m) (e .1) in
     parts-front (front (p .kind) n) s (f .is) (f .some) long ∙ rw (take-append-seam text rest, drop-append-seam text rest, more)
 
 -- a text is such a list in one way only

@@ -13,8 +13,8 @@ use Rattle.address.specs.Grammar.{QuotedString, Address as AddressForm}
 use Rattle.phrase.specs.Words.{isWordByte}
 use Rattle.address_list.specs.Parts.{Part}
 use Rattle.address_list.specs.Grammar.{Items, kindsOf}
-use Rattle.address_list.specs.declared.Kind.{Kind}
-use Rattle.address_list.specs.declared.Kind.the-variants.{Blank, Comma, Colon, Semicolon, Phrase, Address, Angled, Alternative, Stray}
+use Rattle.address_list.specs.declared.PartKind.{PartKind}
+use Rattle.address_list.specs.declared.PartKind.the-variants.{Blank, Comma, Colon, Semicolon, Phrase, Address, Angled, Alternative, Stray}
 
 -- "a word is a quoted string or a run of atext, dots and non-ASCII characters"
 pub data WordForm : List ℕ → Type 0 where
@@ -80,7 +80,7 @@ pub record OneByte (f : ℕ → Type 0) (text : List ℕ) : Type 0 where
   pub is : f byte
 
 -- what the bytes of a part of each kind are: `,` is 44, `:` is 58, `;` is 59; of a stray byte nothing is said
-abbrev pub IsPart : Kind → List ℕ → Type 0
+abbrev pub IsPart : PartKind → List ℕ → Type 0
 IsPart Blank text = OneByte (λ b. T (blank b)) text
 IsPart Comma text = text ≡ 44 ∷ []
 IsPart Colon text = text ≡ 58 ∷ []

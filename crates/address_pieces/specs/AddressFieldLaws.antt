@@ -25,10 +25,10 @@ use Rattle.address_list.specs.Parts.{front, stray, alternativeAt, angledAt, nam
 use Rattle.address_list.specs.Table.{after, complete, examinedFrom, examined}
 use Rattle.address_list.specs.TableLaws.{complete-unfit}
 use Rattle.address_list.specs.declared.Front.{Front}
-use Rattle.address_list.specs.declared.Kind.{Kind}
-use Rattle.address_list.specs.declared.Kind.the-variants.{Blank, Comma, Colon, Semicolon, Phrase, Address, Angled, Alternative, Stray}
-use Rattle.address_list.specs.declared.Place.{Place}
-use Rattle.address_list.specs.declared.Place.the-variants.{ItemDue, ItemNamed, ItemDone, GroupOpen, MemberDue, MemberNamed, MemberDone, Unfit}
+use Rattle.address_list.specs.declared.PartKind.{PartKind}
+use Rattle.address_list.specs.declared.PartKind.the-variants.{Blank, Comma, Colon, Semicolon, Phrase, Address, Angled, Alternative, Stray}
+use Rattle.address_list.specs.declared.State.{State}
+use Rattle.address_list.specs.declared.State.the-variants.{ItemDue, ItemNamed, ItemDone, GroupOpen, MemberDue, MemberNamed, MemberDone, Unfit}
 use Rattle.address_list.specs.declared.Examined.{Examined}
 use Rattle.address_list.specs.declared.Examined.the-variants.{DoesNotFit, Kept, Changed}
 use Rattle.address_pieces.specs.Pieces.{pieces, piecesOf}
@@ -38,7 +38,7 @@ use Rattle.address_pieces.specs.SoundLaws.{Boundary, boundary-then, boun
 -- ---- the part at the front of a text that is UTF-8
 
 -- what is known of the address in a part
-abbrev addressKnown : Kind → List ℕ → Type 0
+abbrev addressKnown : PartKind → List ℕ → Type 0
 addressKnown Blank t = Unit
 addressKnown Comma t = Unit
 addressKnown Colon t = Unit
@@ -50,7 +50,7 @@ addressKnown (Alternative start size) t = T (all isAscii (take size (drop start 
 addressKnown Stray t = Unit
 
 -- a part other than a stray byte ends at a boundary
-abbrev endKnown : Kind → List ℕ → ℕ → Type 0
+abbrev endKnown : PartKind → List ℕ → ℕ → Type 0
 endKnown Blank s n = Boundary s n
 endKnown Comma s n = Boundary s n
 endKnown Colon s n = Boundary s n
@@ -164,7 +164,7 @@ part-known s h =
 
 -- ---- the pieces of a text that fits
 
-pieces-sound : (kind : Kind) (s : List ℕ) (n : ℕ) → (kind ≡ Stray → ⊥) → endKnown kind s n → addressKnown kind (take n s) → T (all sound (pieces kind (take n s))) × T (utf8 (drop n s))
+pieces-sound : (kind : PartKind) (s : List ℕ) (n : ℕ) → (kind ≡ Stray → ⊥) → endKnown kind s n → addressKnown kind (take n s) → T (all sound (pieces kind (take n s))) × T (utf8 (drop n s))
 unfolding pieces
 pieces-sound Blank s n p e a = (tt, e .after)
 pieces-sound Comma s n p e a = (tt, e .after)
@@ -176,7 +176,7 @@ pieces-sound (Angled start size) s n p e a = (angled-sound (take size (drop star
 pieces-sound (Alternative start size) s n p e a = (in-angles-sound (take size (drop start (take n s))) a, e .after)
 pieces-sound Stray s n p e a = absurd (p refl)
 
-after-stray : (place : Place) → after place Stray ≡ Unfit
+after-stray : (state : State) → after state Stray ≡ Unfit
 unfolding after
 after-stray ItemDue = refl
 after-stray ItemNamed = refl
@@ -187,19 +187,19 @@ after-stray MemberNamed = refl
 after-stray MemberDone = refl
 after-stray Unfit = refl
 
-not-stray : (place : Place) (kind : Kind) (ps : List Part) → T (complete (after place kind) ps) → kind ≡ Stray → ⊥
-not-stray place kind ps t e = rw (e, after-stray place, complete-unfit ps) at t
+not-stray : (state : State) (kind : PartKind) (ps : List Part) → T (complete (after state kind) ps) → kind ≡ Stray → ⊥
+not-stray state kind ps t e = rw (e, after-stray state, complete-unfit ps) at t
 
-parts-sound : (k : ℕ) (s : List ℕ) (place : Place) → T (utf8 (drop k s)) → T (complete place (partsFrom k s)) → T (all sound (piecesOf (partsFrom k s)))
+parts-sound : (k : ℕ) (s : List ℕ) (state : State) → T (utf8 (drop k s)) → T (complete state (partsFrom k s)) → T (all sound (piecesOf (partsFrom k s)))
 unfolding partsFrom piecesOf complete
-parts-sound k [] place h t = tt
-parts-sound (suc k) (b ∷ s) place h t = parts-sound k s place h t
-parts-sound zero (b ∷ s) place h t =
+parts-sound k [] state h t = tt
+parts-sound (suc k) (b ∷ s) state h t = parts-sound k s state h t
+parts-sound zero (b ∷ s) state h t =
     let f = partAt (b ∷ s) in
     let k = part-known (b ∷ s) h in
-    let part = pieces-sound (f .kind) (b ∷ s) (f .size) (not-stray place (f .kind) (partsFrom (pred (f .size)) s) t) (k .end) (k .address) in
+    let part = pieces-sound (f .kind) (b ∷ s) (f .size) (not-stray state (f .kind) (partsFrom (pred (f .size)) s) t) (k .end) (k .address) in
     all-append sound (pieces (f .kind) (take (f .size) (b ∷ s))) (piecesOf (partsFrom (pred (f .size)) s)) (part .0)
-    (parts-sound (pred (f .size)) s (after place (f .kind)) (rest (f .size) (k .some) (part .1)) t)
+    (parts-sound (pred (f .size)) s (after state (f .kind)) (rest (f .size) (k .some) (part .1)) t)
   where
     rest : (n : ℕ) → 0 < n → T (utf8 (drop n (b ∷ s))) → T (utf8 (drop (pred n) s))
     rest zero p u = absurd (not-suc-le-zero p)

@@ -32,8 +32,8 @@ use Rattle.address_list.specs.declared.Front.{Front}
 use Rattle.address_list.specs.Table.{examined}
 use Rattle.address_list.specs.declared.Examined.{Examined}
 use Rattle.address_list.specs.declared.Examined.the-variants.{DoesNotFit, Kept, Changed}
-use Rattle.address_list.specs.declared.Kind.{Kind}
-use Rattle.address_list.specs.declared.Kind.the-variants.{Blank, Comma, Colon, Semicolon, Phrase, Address, Angled, Alternative, Stray}
+use Rattle.address_list.specs.declared.PartKind.{PartKind}
+use Rattle.address_list.specs.declared.PartKind.the-variants.{Blank, Comma, Colon, Semicolon, Phrase, Address, Angled, Alternative, Stray}
 use Rattle.address_pieces.specs.Pieces.{piece, wordSize, wordsFrom, wordsOf, phraseText, phrasePieces, removed, inAngles, addressPieces, pieces, piecesOf}
 use Rattle.address_pieces.specs.PiecesLaws.{rendered-one, word-size-some, length-phrase-text}
 use Rattle.address_pieces.specs.AddressField.{rewrittenField, fieldBy, addressField}
@@ -79,7 +79,7 @@ part-le : (start size : ℕ) (t : List ℕ) → length (take size (drop start t)
 part-le start size t = omega (arith, length-take size (drop start t), length-drop start t)
 
 -- how many bytes a part has at least: a bare address 3, one in `< >` 5, any other part 1
-abbrev least : Kind → ℕ
+abbrev least : PartKind → ℕ
 least Blank = 1
 least Comma = 1
 least Colon = 1
@@ -91,7 +91,7 @@ least (Alternative start size) = 1
 least Stray = 1
 
 -- at most 25 bytes are written for each byte of a part
-pieces-le : (kind : Kind) (t : List ℕ) → least kind ≤ length t → length (rendered (pieces kind t)) ≤ 25 * length t
+pieces-le : (kind : PartKind) (t : List ℕ) → least kind ≤ length t → length (rendered (pieces kind t)) ≤ 25 * length t
 unfolding pieces rendered
 pieces-le Blank t h = zero-le
 pieces-le Comma t h = omega arith

@@ -14,8 +14,8 @@ use Rattle.encoded_word.specs.Segments.{Segment}
 use Rattle.encoded_word.specs.Segments.Segment.{raw, words}
 use Rattle.phrase.specs.Words.{wordLen}
 use Rattle.address_list.specs.Parts.{Part}
-use Rattle.address_list.specs.declared.Kind.{Kind}
-use Rattle.address_list.specs.declared.Kind.the-variants.{Blank, Comma, Colon, Semicolon, Phrase, Address, Angled, Alternative, Stray}
+use Rattle.address_list.specs.declared.PartKind.{PartKind}
+use Rattle.address_list.specs.declared.PartKind.the-variants.{Blank, Comma, Colon, Semicolon, Phrase, Address, Angled, Alternative, Stray}
 
 -- "CRLF, space, piece"
 abbrev pub piece : List ℕ → Segment
@@ -45,7 +45,7 @@ addressPieces asPiece address = cond (all isAscii address) (asPiece address ∷ 
 
 -- "an alternative replaces the first". "`:` (58) and `;` (59) of a group are pieces. A comma (44) joins the end of the piece before
 -- it." Blanks are not written; a text that fits has no stray byte.
-unfoldable pub pieces : Kind → List ℕ → List Segment
+unfoldable pub pieces : PartKind → List ℕ → List Segment
 pieces Blank t = []
 pieces Comma t = raw (44 ∷ []) ∷ []
 pieces Colon t = piece (58 ∷ []) ∷ []

@@ -24,8 +24,8 @@ use Rattle.phrase.specs.Words.{wordLen}
 use Rattle.address_list.specs.Parts.{Part, partsFrom, partsOf}
 use Rattle.address_list.specs.PartsLaws.{TookFrom, innerEnd, parts-step, parts-end}
 use Rattle.address_list.specs.declared.Front.{Front}
-use Rattle.address_list.specs.declared.Kind.{Kind}
-use Rattle.address_list.specs.declared.Kind.the-variants.{Blank, Comma, Colon, Semicolon, Phrase, Address, Angled, Alternative, Stray}
+use Rattle.address_list.specs.declared.PartKind.{PartKind}
+use Rattle.address_list.specs.declared.PartKind.the-variants.{Blank, Comma, Colon, Semicolon, Phrase, Address, Angled, Alternative, Stray}
 use Rattle.address_pieces.specs.Pieces.{piece, wordSize, wordsFrom, wordsOf, kept, escapes, unquotedFrom, unquoted, afterSpaces, joinedBySpaces, phraseText, phrasePieces, removed, inAngles, addressPieces, pieces, piecesOf}
 
 -- ---- rendered segments

@@ -10,7 +10,7 @@ use crate::phrase::add_phrase;
 use crate::piece::add_in_angles;
 use crate::piece::add_piece;
 use crate::piece::add_removed;
-use address_list::Kind;
+use address_list::PartKind;
 use address_list::part_from;
 
 // A bare address.
@@ -36,26 +36,26 @@ fn add_angled(out: &mut [u8], at: usize, address: &[u8]) -> usize
 }
 
 // The pieces of a part.
-fn add_part(out: &mut [u8], at: usize, t: &[u8], kind: Kind) -> usize
+fn add_part(out: &mut [u8], at: usize, t: &[u8], kind: PartKind) -> usize
     requires { ⌜ (length (now t) ≤ 32768) × (innerEnd kind ≤ length (now t)) ⌝ }
     ensures { λ r. ⌜ AppendedCapped (rendered (pieces kind (now (t .entry)))) at (now (out .entry)) (now (out .exit)) r ⌝ }
 {
     match kind {
-        Kind::Blank => at,
-        Kind::Comma => buffer::add_byte(out, at, b','),
-        Kind::Colon => add_piece(out, at, b":"),
-        Kind::Semicolon => add_piece(out, at, b";"),
-        Kind::Phrase => add_phrase(out, at, t),
-        Kind::Address => add_bare(out, at, t),
-        Kind::Angled(start, size) => {
+        PartKind::Blank => at,
+        PartKind::Comma => buffer::add_byte(out, at, b','),
+        PartKind::Colon => add_piece(out, at, b":"),
+        PartKind::Semicolon => add_piece(out, at, b";"),
+        PartKind::Phrase => add_phrase(out, at, t),
+        PartKind::Address => add_bare(out, at, t),
+        PartKind::Angled(start, size) => {
             let end = start + size;
             add_angled(out, at, &t[start..end])
         }
-        Kind::Alternative(start, size) => {
+        PartKind::Alternative(start, size) => {
             let end = start + size;
             add_in_angles(out, at, &t[start..end])
         }
-        Kind::Stray => at,
+        PartKind::Stray => at,
     }
 }
 
