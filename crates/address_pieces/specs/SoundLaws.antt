@@ -1,33 +1,41 @@
--- What an address field becomes is sound: bytes that stand as they are are ASCII, texts that are encoded are UTF-8. Assumes nothing.
+-- What an address field becomes is sound: bytes that stand as they are are ASCII, and texts that are encoded are UTF-8. Assumes nothing.
 use mathlib.Core.Path.{_≡_, refl, ap, sym, _∙_}
-use mathlib.Core.Bool.{Bool, true, false, cond, not, _&&_, _||_, and-false}
-use mathlib.Core.List.{List, [], _∷_, _++_, append-nil, map}
+use mathlib.Core.Bool.{Bool, true, false, cond, not, _&&_, _||_}
+use mathlib.Core.List.{List, [], _∷_, _++_, map}
 use Prim.Native.Nat.{ℕ, zero, suc, pred, _+_, _-_, _≤_, _<_}
 use native.Mathlib.Nat.{not-suc-le-zero}
 use native.Mathlib.Omega.{arith}
-use lib.Dec.{T, leb, ltb, eqb, eqb→eq, lt→ltb}
-use lib.ListN.{length, take, drop, getD, take-append-drop, length-drop, drop-of-length-le}
-use lib.Seq.{drop-drop, take-all, take-add}
-use mir.Facts.{and-yes, yes-and, ltb-yes, ltb-no, leb-yes, leb-no}
-use borrow.Author.Tests.{ne-eqb}
+use lib.Dec.{T, leb, ltb, eqb, eqb→eq}
+use lib.ListN.{length, take, drop, getD, take-append-drop}
+use mir.Facts.{and-yes, yes-and, ltb-yes}
 use Rattle.lists.specs.Byte.{isAscii}
-use Rattle.lists.specs.Lists.{by-test, yes-true, true-yes, no-false, cond-has, all, all-append, all-left, all-right, all-weaken, joined}
-use Rattle.lists.specs.Run.{run, run-all, run-after, run-le}
-use Rattle.utf8.specs.Utf8.{utf8, chars, charsAfter, isChar}
-use Rattle.utf8.specs.Utf8Laws.{chars-joined, char-some, char-high, utf8-of, utf8-right, utf8-append, utf8-char, utf8-ascii, utf8-cut}
+use Rattle.lists.specs.Lists.{cond-has, all, all-append, all-left}
+use Rattle.lists.specs.Run.{run}
+use Rattle.utf8.specs.Utf8.{utf8}
 use Rattle.line.specs.Line.{blank}
 use Rattle.letter_case.specs.LetterCase.{bytes}
-use Rattle.address.specs.AddressLaws.{front-byte}
-use Rattle.address.specs.declared.Scan.{Scan}
-use Rattle.address.specs.declared.Scan.the-variants.{To, Stop}
-use Rattle.address.specs.Address.{isAtomByte, isAtext, isHigh, quotedScan, addressScan}
-use Rattle.address.specs.GrammarLaws.{Cut, utf8-taken, quoted-cut, address-cut}
-use Rattle.phrase.specs.Words.{found, capped, isWordByte, addressLen, wordLen, nextWordLen, nextWordsLen, phraseLen}
-use Rattle.phrase.specs.WordsLaws.{words-front as next-words-front, words-none, next-word-le}
+use Rattle.rules.specs.Rules.{allowsAlternative, removalStart, removalEnd}
+use Rattle.rules.specs.declared.Rules.{Rules}
+use Rattle.rules.specs.declared.Rules.the-variants.{Spool, Current, Mailbox}
 use Rattle.encoded_word.specs.Segments.{Segment, sound}
 use Rattle.encoded_word.specs.Segments.Segment.{raw, words}
-use Rattle.address_pieces.specs.Pieces.{piece, wordSize, wordsFrom, phraseWords, kept, escapes, unquotedFrom, unquoted, afterSpaces, joinedBySpaces, phraseText, phrasePieces, removed, inAngles, addressPieces, pieces, piecesOf}
-use Rattle.address_pieces.specs.PiecesLaws.{words-front, word-size-some}
+use Rattle.field.specs.Field.{encodedField}
+use Rattle.field.specs.FieldLaws.{encoded-sound}
+use Rattle.phrase.specs.Words.{addressLen, phraseLen}
+use Rattle.phrase.specs.Phrase.{wordSize, wordsFrom, phraseWords, phraseText}
+use Rattle.phrase.specs.BoundaryLaws.{Boundary, boundary-then, boundary-first, boundary-byte, address-boundary, blank-low, blanks-boundary, phrase-boundary, phrase-text-utf8}
+use Rattle.address_list.specs.Parts.{front, stray, alternativeAt, angledAt, namedAt, partAt, Part, partsFrom, partsOf, anyChanges}
+use Rattle.address_list.specs.Table.{after, complete, examinedFrom, examined}
+use Rattle.address_list.specs.TableLaws.{after-stray, complete-unfit}
+use Rattle.address_list.specs.declared.Front.{Front}
+use Rattle.address_list.specs.declared.PartKind.{PartKind}
+use Rattle.address_list.specs.declared.PartKind.the-variants.{Blank, Comma, Colon, Semicolon, Phrase, Address, Angled, Alternative, Stray}
+use Rattle.address_list.specs.declared.State.{State}
+use Rattle.address_list.specs.declared.State.the-variants.{ItemDue}
+use Rattle.address_list.specs.declared.Examined.{Examined}
+use Rattle.address_list.specs.declared.Examined.the-variants.{DoesNotFit, Kept, Changed}
+use Rattle.address_pieces.specs.Pieces.{piece, phrasePieces, removed, inAngles, addressPieces, pieces, piecesOf}
+use Rattle.address_pieces.specs.AddressField.{rewrittenField, fieldBy, addressField}
 
 -- ---- a phrase
 
@@ -43,7 +51,7 @@ word-pieces-sound zero (b ∷ t) h =
     let k : ℕ = pred (word + run blank (drop word (b ∷ t))) in
     yes-and (all isAscii (take word (b ∷ t))) (all sound (map piece (wordsFrom k t))) (front-ascii word (b ∷ t) h) (word-pieces-sound k t (and-yes (isAscii b) (all isAscii t) h .1))
 
-pub phrase-sound : (t : List ℕ) → T (utf8 t) → T (all sound (phrasePieces t))
+phrase-sound : (t : List ℕ) → T (utf8 t) → T (all sound (phrasePieces t))
 unfolding phrasePieces phraseWords
 phrase-sound t h =
     cond-has (λ (ss : List Segment). T (all sound ss)) (all isAscii t) (map piece (wordsFrom 0 t)) (words (phraseText t) ∷ [])
@@ -52,23 +60,209 @@ phrase-sound t h =
 
 -- ---- an address
 
-removed-sound : (t : List ℕ) → T (utf8 t) → T (all sound (removed t))
-unfolding removed bytes
-removed-sound t h = yes-and (utf8 t) true h tt
+removed-sound : (rules : Rules) (t : List ℕ) → T (utf8 t) → T (all sound (removed rules t))
+unfolding removed removalStart removalEnd bytes
+removed-sound Spool t h = yes-and (utf8 t) true h tt
+removed-sound Current t h = yes-and (utf8 t) true h tt
+removed-sound Mailbox t h = yes-and (utf8 t) true h tt
 
-pub bare-sound : (t : List ℕ) → T (utf8 t) → T (all sound (addressPieces piece t))
+bare-sound : (rules : Rules) (t : List ℕ) → T (utf8 t) → T (all sound (addressPieces rules piece t))
 unfolding addressPieces
-bare-sound t h =
-    cond-has (λ (ss : List Segment). T (all sound ss)) (all isAscii t) (piece t ∷ []) (removed t)
+bare-sound rules t h =
+    cond-has (λ (ss : List Segment). T (all sound ss)) (all isAscii t) (piece t ∷ []) (removed rules t)
     (λ a. yes-and (all isAscii t) true a tt)
-    (λ a. removed-sound t h)
+    (λ a. removed-sound rules t h)
 
-pub in-angles-sound : (t : List ℕ) → T (all isAscii t) → T (all sound (inAngles t ∷ []))
+in-angles-sound : (t : List ℕ) → T (all isAscii t) → T (all sound (inAngles t ∷ []))
 in-angles-sound t a = yes-and (all isAscii (t ++ (62 ∷ []))) true (all-append isAscii t (62 ∷ []) a tt) tt
 
-pub angled-sound : (t : List ℕ) → T (utf8 t) → T (all sound (addressPieces inAngles t))
+angled-sound : (rules : Rules) (t : List ℕ) → T (utf8 t) → T (all sound (addressPieces rules inAngles t))
 unfolding addressPieces
-angled-sound t h =
-    cond-has (λ (ss : List Segment). T (all sound ss)) (all isAscii t) (inAngles t ∷ []) (removed t)
+angled-sound rules t h =
+    cond-has (λ (ss : List Segment). T (all sound ss)) (all isAscii t) (inAngles t ∷ []) (removed rules t)
     (λ a. in-angles-sound t a)
-    (λ a. removed-sound t h)
+    (λ a. removed-sound rules t h)
+
+-- ---- the part at the front of a text that is UTF-8
+
+-- what is known of the address in a part
+abbrev addressKnown : PartKind → List ℕ → Type 0
+addressKnown Blank t = Unit
+addressKnown Comma t = Unit
+addressKnown Colon t = Unit
+addressKnown Semicolon t = Unit
+addressKnown Phrase t = Unit
+addressKnown Address t = Unit
+addressKnown (Angled start size) t = T (utf8 (take size (drop start t)))
+addressKnown (Alternative start size) t = T (all isAscii (take size (drop start t)))
+addressKnown Stray t = Unit
+
+-- a part other than a stray byte ends at a boundary
+abbrev endKnown : PartKind → List ℕ → ℕ → Type 0
+endKnown Blank s n = Boundary s n
+endKnown Comma s n = Boundary s n
+endKnown Colon s n = Boundary s n
+endKnown Semicolon s n = Boundary s n
+endKnown Phrase s n = Boundary s n
+endKnown Address s n = Boundary s n
+endKnown (Angled start size) s n = Boundary s n
+endKnown (Alternative start size) s n = Boundary s n
+endKnown Stray s n = Unit
+
+record Known (s : List ℕ) (f : Front) : Type 0 where
+  some : 0 < f .size
+  end : endKnown (f .kind) s (f .size)
+  address : addressKnown (f .kind) (take (f .size) s)
+
+-- a part of the front is a part of the whole
+part-front : (b n m : ℕ) (s : List ℕ) → b + n ≤ m → take n (drop b (take m s)) ≡ take n (drop b s)
+part-front zero zero m s h = refl
+part-front zero (suc n) zero s h = absurd (not-suc-le-zero {n = n} (omega arith))
+part-front zero (suc n) (suc m) [] h = refl
+part-front zero (suc n) (suc m) (x ∷ s) h = ap (λ (l : List ℕ). x ∷ l) (part-front zero n m s (omega arith))
+part-front (suc b) n zero s h = absurd (not-suc-le-zero {n = b + n} (omega arith))
+part-front (suc b) n (suc m) [] h = refl
+part-front (suc b) n (suc m) (x ∷ s) h = part-front b n m s (omega arith)
+
+stray-known : (s : List ℕ) → Known s stray
+stray-known s = record { some = omega arith; end = tt; address = tt }
+
+-- four of seven tests that all hold
+tests : (p q r u v w x : Bool) → T (p && q && r && u && v && w && x) → T r × (T v × (T w × T x))
+tests p q r u v w x t =
+    let last = and-yes (p && q && r && u && v && w) x t in
+    let second = and-yes (p && q && r && u && v) w (last .0) in
+    let first = and-yes (p && q && r && u) v (second .0) in
+    let rest = and-yes (p && q && r) u (first .0) in
+    (and-yes (p && q) r (rest .0) .1, (first .1, (second .1, last .1)))
+
+-- `<address <alternative>>`: the first address ends at a boundary
+alternative-known : (s : List ℕ) (a b : ℕ) → Boundary s b → Known s (alternativeAt s a b)
+unfolding alternativeAt
+alternative-known s a b first =
+    let inner : ℕ = b + run blank (drop b s) in
+    let start : ℕ = inner + 1 + run blank (drop (inner + 1) s) in
+    let size : ℕ = addressLen (drop start s) in
+    let end : ℕ = start + size in
+    let alternative : List ℕ = take size (drop start s) in
+    cond-has (Known s)
+    (ltb b inner && not (all isAscii (take (b - a) (drop a s))) && eqb (getD s inner 0) 60 && ltb 0 size && eqb (getD s end 0) 62 && eqb (getD s (end + 1) 0) 62 && all isAscii alternative)
+    (front (Alternative start size) (end + 2)) stray
+    (λ t.
+    let q = tests (ltb b inner) (not (all isAscii (take (b - a) (drop a s)))) (eqb (getD s inner 0) 60) (ltb 0 size) (eqb (getD s end 0) 62) (eqb (getD s (end + 1) 0) 62) (all isAscii alternative) t in
+    let at-inner = boundary-then s b (run blank (drop b s)) first (blanks-boundary (drop b s) (first .after)) in
+    let opened = boundary-byte s inner 60 at-inner (eqb→eq (getD s inner 0) 60 (q .0)) (omega arith) in
+    let at-start = boundary-then s (inner + 1) (run blank (drop (inner + 1) s)) opened (blanks-boundary (drop (inner + 1) s) (opened .after)) in
+    let at-end = boundary-then s start size at-start (address-boundary (drop start s) (at-start .after)) in
+    let closed = boundary-byte s end 62 at-end (eqb→eq (getD s end 0) 62 (q .1 .0)) (omega arith) in
+    let twice = boundary-byte s (end + 1) 62 closed (eqb→eq (getD s (end + 1) 0) 62 (q .1 .1 .0)) (omega arith) in
+    let two : end + 1 + 1 ≡ end + 2 = omega arith in
+    record { some = omega arith; end = rw two at twice; address = rw (part-front start size (end + 2) s (omega arith)) (q .1 .1 .1) })
+    (λ t. stray-known s)
+
+angled-known : (rules : Rules) (s : List ℕ) → T (utf8 s) → getD s 0 0 ≡ 60 → Known s (angledAt rules s)
+unfolding angledAt
+angled-known rules s h e =
+    let start : ℕ = 1 + run blank (drop 1 s) in
+    let size : ℕ = addressLen (drop start s) in
+    let end : ℕ = start + size in
+    let opened = boundary-first s h (rw e (omega arith)) in
+    let at-start = boundary-then s 1 (run blank (drop 1 s)) opened (blanks-boundary (drop 1 s) (opened .after)) in
+    let address = address-boundary (drop start s) (at-start .after) in
+    let at-end = boundary-then s start size at-start address in
+    cond-has (Known s) (eqb size 0) stray (cond (eqb (getD s end 0) 62) (front (Angled start size) (end + 1)) (cond (allowsAlternative rules) (alternativeAt s start end) stray))
+    (λ t. stray-known s)
+    (λ t.
+    cond-has (Known s) (eqb (getD s end 0) 62) (front (Angled start size) (end + 1)) (cond (allowsAlternative rules) (alternativeAt s start end) stray)
+    (λ u. record {
+      some = omega arith;
+      end = boundary-byte s end 62 at-end (eqb→eq (getD s end 0) 62 u) (omega arith);
+      address = rw (part-front start size (end + 1) s (omega arith)) (address .before);
+    })
+    (λ u. cond-has (Known s) (allowsAlternative rules) (alternativeAt s start end) stray (λ v. alternative-known s start end at-end) (λ v. stray-known s)))
+
+named-known : (s : List ℕ) → T (utf8 s) → Known s (namedAt s)
+unfolding namedAt
+named-known s h =
+    let address : ℕ = addressLen s in
+    let phrase : ℕ = phraseLen s in
+    cond-has (Known s) (ltb 0 address) (front Address address) (cond (ltb 0 phrase) (front Phrase phrase) stray)
+    (λ t. record { some = ltb-yes t; end = address-boundary s h; address = tt })
+    (λ t.
+    cond-has (Known s) (ltb 0 phrase) (front Phrase phrase) stray
+    (λ u. record { some = ltb-yes u; end = phrase-boundary s h; address = tt })
+    (λ u. stray-known s))
+
+part-known : (rules : Rules) (s : List ℕ) → T (utf8 s) → Known s (partAt rules s)
+unfolding partAt
+part-known rules s h =
+    let first : ℕ = getD s 0 0 in
+    let mark : (b : ℕ) → b < 128 → T (eqb first b) → Boundary s 1 = (λ b k t. boundary-first s h (rw (eqb→eq first b t) k)) in
+    cond-has (Known s) (blank first) (front Blank 1) _
+    (λ t. record { some = omega arith; end = boundary-first s h (blank-low first t); address = tt })
+    (λ n0. cond-has (Known s) (eqb first 44) (front Comma 1) _
+    (λ t. record { some = omega arith; end = mark 44 (omega arith) t; address = tt })
+    (λ n1. cond-has (Known s) (eqb first 58) (front Colon 1) _
+    (λ t. record { some = omega arith; end = mark 58 (omega arith) t; address = tt })
+    (λ n2. cond-has (Known s) (eqb first 59) (front Semicolon 1) _
+    (λ t. record { some = omega arith; end = mark 59 (omega arith) t; address = tt })
+    (λ n3. cond-has (Known s) (eqb first 60) (angledAt rules s) (namedAt s)
+    (λ t. angled-known rules s h (eqb→eq first 60 t))
+    (λ t. named-known s h)))))
+
+-- ---- the pieces of a text that fits
+
+pieces-sound : (rules : Rules) (kind : PartKind) (s : List ℕ) (n : ℕ) → (kind ≡ Stray → ⊥) → endKnown kind s n → addressKnown kind (take n s) → T (all sound (pieces rules kind (take n s))) × T (utf8 (drop n s))
+unfolding pieces
+pieces-sound rules Blank s n p e a = (tt, e .after)
+pieces-sound rules Comma s n p e a = (tt, e .after)
+pieces-sound rules Colon s n p e a = (tt, e .after)
+pieces-sound rules Semicolon s n p e a = (tt, e .after)
+pieces-sound rules Phrase s n p e a = (phrase-sound (take n s) (e .before), e .after)
+pieces-sound rules Address s n p e a = (bare-sound rules (take n s) (e .before), e .after)
+pieces-sound rules (Angled start size) s n p e a = (angled-sound rules (take size (drop start (take n s))) a, e .after)
+pieces-sound rules (Alternative start size) s n p e a = (in-angles-sound (take size (drop start (take n s))) a, e .after)
+pieces-sound rules Stray s n p e a = absurd (p refl)
+
+not-stray : (state : State) (kind : PartKind) (ps : List Part) → T (complete (after state kind) ps) → kind ≡ Stray → ⊥
+not-stray state kind ps t e = rw (e, after-stray state, complete-unfit ps) at t
+
+parts-sound : (rules : Rules) (k : ℕ) (s : List ℕ) (state : State) → T (utf8 (drop k s)) → T (complete state (partsFrom rules k s)) → T (all sound (piecesOf rules (partsFrom rules k s)))
+unfolding partsFrom piecesOf complete
+parts-sound rules k [] state h t = tt
+parts-sound rules (suc k) (b ∷ s) state h t = parts-sound rules k s state h t
+parts-sound rules zero (b ∷ s) state h t =
+    let f = partAt rules (b ∷ s) in
+    let k = part-known rules (b ∷ s) h in
+    let part = pieces-sound rules (f .kind) (b ∷ s) (f .size) (not-stray state (f .kind) (partsFrom rules (pred (f .size)) s) t) (k .end) (k .address) in
+    all-append sound (pieces rules (f .kind) (take (f .size) (b ∷ s))) (piecesOf rules (partsFrom rules (pred (f .size)) s)) (part .0)
+    (parts-sound rules (pred (f .size)) s (after state (f .kind)) (rest (f .size) (k .some) (part .1)) t)
+  where
+    rest : (n : ℕ) → 0 < n → T (utf8 (drop n (b ∷ s))) → T (utf8 (drop (pred n) s))
+    rest zero p u = absurd (not-suc-le-zero p)
+    rest (suc n) p u = u
+
+-- ---- the field
+
+module _ (rules : Rules) (name text : List ℕ) (a : T (all isAscii name)) (u : T (utf8 text)) where
+  rewritten-sound : T (complete ItemDue (partsOf rules text)) → T (all sound (rewrittenField rules name text))
+  unfolding rewrittenField partsOf
+  rewritten-sound t =
+      let value = piecesOf rules (partsFrom rules 0 text) in
+      yes-and (all isAscii (name ++ (58 ∷ []))) (all sound (value ++ (raw (13 ∷ 10 ∷ []) ∷ [])))
+      (all-append isAscii name (58 ∷ []) a tt)
+      (all-append sound value (raw (13 ∷ 10 ∷ []) ∷ []) (parts-sound rules 0 text ItemDue u t) tt)
+
+  -- Every segment of an address field is sound.
+  pub address-field-sound : T (all sound (addressField rules name text))
+  unfolding addressField examined examinedFrom fieldBy
+  address-field-sound =
+      let ps = partsOf rules text in
+      let by : Examined → Type 0 = (λ e. T (all sound (fieldBy e rules name text))) in
+      let copy = encoded-sound true name text a u in
+      cond-has by (complete ItemDue ps) (cond (false || anyChanges ps) Changed Kept) DoesNotFit
+      (λ t.
+      cond-has by (false || anyChanges ps) Changed Kept
+      (λ v. all-append sound (rewrittenField rules name text) (encodedField true name text) (rewritten-sound t) copy)
+      (λ v. rewritten-sound t))
+      (λ t. copy)
