@@ -1,19 +1,18 @@
 -- How long a rewritten address field can be. Assumes nothing.
 use mathlib.Core.Path.{_≡_, refl, ap}
-use mathlib.Core.Bool.{Bool, true, false, cond, not, _&&_}
+use mathlib.Core.Bool.{Bool, true, false, cond}
 use mathlib.Core.List.{List, [], _∷_, _++_, map}
 use Prim.Native.Nat.{ℕ, zero, suc, pred, _+_, _-_, _*_, _≤_, _<_, zero-le}
 use native.Mathlib.Omega.{arith}
 use native.Mathlib.Nat.{not-suc-le-zero}
-use lib.Dec.{leb, ltb, eqb, eqb→eq}
-use mir.Facts.{ltb-yes, eqb-no}
-use lib.ListN.{length, take, drop, getD, length-drop, length-take, length-append}
+use lib.Dec.{leb}
+use lib.ListN.{length, take, drop, length-drop, length-take, length-append}
 use Rattle.lists.specs.Byte.{isAscii}
 use Rattle.lists.specs.Lists.{all, cond-has}
 use Rattle.lists.specs.Run.{run}
 use Rattle.line.specs.Line.{blank}
 use Rattle.letter_case.specs.LetterCase.{bytes}
-use Rattle.rules.specs.Rules.{allowsAlternative, removalStart, removalEnd}
+use Rattle.rules.specs.Rules.{removalStart, removalEnd}
 use Rattle.rules.specs.declared.Rules.{Rules}
 use Rattle.rules.specs.declared.Rules.the-variants.{Spool, Current, Mailbox}
 use Rattle.encoded_word.specs.StreamLaws.{length-row-le}
@@ -29,7 +28,8 @@ use Rattle.address.specs.TakenLaws.{Taken, AtLeast, taken-address}
 use Rattle.phrase.specs.Words.{found, capped, addressLen, phraseLen}
 use Rattle.phrase.specs.Phrase.{wordSize, wordsFrom, phraseWords, phraseText}
 use Rattle.phrase.specs.PhraseLaws.{word-size-some, length-phrase-text}
-use Rattle.address_list.specs.Parts.{front, stray, alternativeAt, angledAt, namedAt, Part, partAt, partsFrom, partsOf}
+use Rattle.address_list.specs.Parts.{partAt, partsFrom, partsOf}
+use Rattle.address_list.specs.PartCasesLaws.{Opened, Replaced, Cases, part-has}
 use Rattle.address_list.specs.declared.Front.{Front}
 use Rattle.address_list.specs.Table.{examined}
 use Rattle.address_list.specs.declared.Examined.{Examined}
@@ -126,9 +126,6 @@ record Enough (s : List ℕ) (f : Front) : Type 0 where
 front-length : (n m : ℕ) (s : List ℕ) → m ≤ n → m ≤ length s → m ≤ length (take n s)
 front-length n m s h k = omega (arith, length-take n s)
 
-stray-enough : (s : List ℕ) → 0 < length s → Enough s stray
-stray-enough s h = record { some = omega arith; bytes = front-length 1 1 s (omega arith) h }
-
 -- an address has at least 3 bytes, all of them in the text
 found-least : {s : List ℕ} (r : Scan) → Taken 3 s r → 0 < found r → (3 ≤ found r) × (found r ≤ length s)
 found-least (To n) t h = (t .some, t .covers .within)
@@ -141,57 +138,25 @@ address-least s =
     (λ t h. found-least (addressScan s) (taken-address s) h)
     (λ t h. absurd (not-suc-le-zero h))
 
-named-enough : (s : List ℕ) → 0 < length s → Enough s (namedAt s)
-unfolding namedAt
-named-enough s h =
-    let address : ℕ = addressLen s in
-    let phrase : ℕ = phraseLen s in
-    cond-has (Enough s) (ltb 0 address) (front Address address) (cond (ltb 0 phrase) (front Phrase phrase) stray)
-    (λ t. let a = address-least s (ltb-yes t) in record { some = ltb-yes t; bytes = front-length address 3 s (a .0) (omega (arith, a .0, a .1)) })
-    (λ t.
-    cond-has (Enough s) (ltb 0 phrase) (front Phrase phrase) stray
-    (λ u. record { some = ltb-yes u; bytes = front-length phrase 1 s (ltb-yes u) h })
-    (λ u. stray-enough s h))
-
-alternative-enough : (s : List ℕ) (a b : ℕ) → 0 < length s → Enough s (alternativeAt s a b)
-unfolding alternativeAt
-alternative-enough s a b h =
-    let inner : ℕ = b + run blank (drop b s) in
-    let start : ℕ = inner + 1 + run blank (drop (inner + 1) s) in
-    let size : ℕ = addressLen (drop start s) in
-    let end : ℕ = start + size in
-    cond-has (Enough s)
-    (ltb b inner && not (all isAscii (take (b - a) (drop a s))) && eqb (getD s inner 0) 60 && ltb 0 size && eqb (getD s end 0) 62 && eqb (getD s (end + 1) 0) 62 && all isAscii (take size (drop start s)))
-    (front (Alternative start size) (end + 2)) stray
-    (λ t. record { some = omega arith; bytes = front-length (end + 2) 1 s (omega arith) h })
-    (λ t. stray-enough s h)
-
-angled-enough : (rules : Rules) (s : List ℕ) → 0 < length s → Enough s (angledAt rules s)
-unfolding angledAt
-angled-enough rules s h =
-    let start : ℕ = 1 + run blank (drop 1 s) in
-    let size : ℕ = addressLen (drop start s) in
-    let end : ℕ = start + size in
-    cond-has (Enough s) (eqb size 0) stray (cond (eqb (getD s end 0) 62) (front (Angled start size) (end + 1)) (cond (allowsAlternative rules) (alternativeAt s start end) stray))
-    (λ t. stray-enough s h)
-    (λ t.
-    cond-has (Enough s) (eqb (getD s end 0) 62) (front (Angled start size) (end + 1)) (cond (allowsAlternative rules) (alternativeAt s start end) stray)
-    (λ u.
-    let three = address-least (drop start s) (omega (arith, eqb-no {a = size} {b = 0} t)) in
-    let inside : end < length s = byte-within s end 61 (eqb→eq (getD s end 0) 62 u) in
-    record { some = omega arith; bytes = front-length (end + 1) 5 s (omega (arith, three .0)) (omega (arith, three .0)) })
-    (λ u. cond-has (Enough s) (allowsAlternative rules) (alternativeAt s start end) stray (λ v. alternative-enough s start end h) (λ v. stray-enough s h)))
-
 part-enough : (rules : Rules) (s : List ℕ) → 0 < length s → Enough s (partAt rules s)
-unfolding partAt
-part-enough rules s h =
-    let first : ℕ = getD s 0 0 in
-    let one : 1 ≤ length (take 1 s) = front-length 1 1 s (omega arith) h in
-    cond-has (Enough s) (blank first) (front Blank 1) _ (λ t. record { some = omega arith; bytes = one })
-    (λ n0. cond-has (Enough s) (eqb first 44) (front Comma 1) _ (λ t. record { some = omega arith; bytes = one })
-    (λ n1. cond-has (Enough s) (eqb first 58) (front Colon 1) _ (λ t. record { some = omega arith; bytes = one })
-    (λ n2. cond-has (Enough s) (eqb first 59) (front Semicolon 1) _ (λ t. record { some = omega arith; bytes = one })
-    (λ n3. cond-has (Enough s) (eqb first 60) (angledAt rules s) (namedAt s) (λ t. angled-enough rules s h) (λ t. named-enough s h)))))
+part-enough rules s h = part-has (Enough s) rules s (record {
+  none = record { some = omega arith; bytes = one };
+  is-blank = λ t. record { some = omega arith; bytes = one };
+  comma = λ e. record { some = omega arith; bytes = one };
+  colon = λ e. record { some = omega arith; bytes = one };
+  semicolon = λ e. record { some = omega arith; bytes = one };
+  angled =
+      λ start size o close.
+      let three : 3 ≤ size = rw (o .size-is) (address-least (drop start s) (rw (o .size-is) at (o .some)) .0) in
+      let inside : start + size < length s = byte-within s (start + size) 61 close in
+      record { some = omega arith; bytes = front-length (start + size + 1) 5 s (omega (arith, o .start-is)) (omega (arith, o .start-is)) };
+  alternative = λ a n inner start size allowed o r. record { some = omega arith; bytes = front-length (start + size + 2) 1 s (omega arith) h };
+  address = λ some. let a = address-least s some in record { some = some; bytes = front-length (addressLen s) 3 s (a .0) (omega (arith, a .0, a .1)) };
+  phrase = λ some. record { some = some; bytes = front-length (phraseLen s) 1 s some h };
+})
+  where
+    one : 1 ≤ length (take 1 s)
+    one = front-length 1 1 s (omega arith) h
 
 -- ---- the value
 

@@ -1,20 +1,20 @@
 -- What an address field becomes is sound: bytes that stand as they are are ASCII, and texts that are encoded are UTF-8. Assumes nothing.
 use mathlib.Core.Path.{_≡_, refl, ap, sym, _∙_}
-use mathlib.Core.Bool.{Bool, true, false, cond, not, _&&_, _||_}
+use mathlib.Core.Bool.{true, false, cond, _||_}
 use mathlib.Core.List.{List, [], _∷_, _++_, map}
 use Prim.Native.Nat.{ℕ, zero, suc, pred, _+_, _-_, _≤_, _<_}
 use native.Mathlib.Nat.{not-suc-le-zero}
 use native.Mathlib.Omega.{arith}
-use lib.Dec.{T, leb, ltb, eqb, eqb→eq}
+use lib.Dec.{T}
 use lib.ListN.{length, take, drop, getD, take-append-drop}
-use mir.Facts.{and-yes, yes-and, ltb-yes}
+use mir.Facts.{and-yes, yes-and}
 use Rattle.lists.specs.Byte.{isAscii}
 use Rattle.lists.specs.Lists.{cond-has, all, all-append, all-left}
 use Rattle.lists.specs.Run.{run}
 use Rattle.utf8.specs.Utf8.{utf8}
 use Rattle.line.specs.Line.{blank}
 use Rattle.letter_case.specs.LetterCase.{bytes}
-use Rattle.rules.specs.Rules.{allowsAlternative, removalStart, removalEnd}
+use Rattle.rules.specs.Rules.{removalStart, removalEnd}
 use Rattle.rules.specs.declared.Rules.{Rules}
 use Rattle.rules.specs.declared.Rules.the-variants.{Spool, Current, Mailbox}
 use Rattle.encoded_word.specs.Segments.{Segment, sound}
@@ -24,7 +24,8 @@ use Rattle.field.specs.FieldLaws.{encoded-sound}
 use Rattle.phrase.specs.Words.{addressLen, phraseLen}
 use Rattle.phrase.specs.Phrase.{wordSize, wordsFrom, phraseWords, phraseText}
 use Rattle.phrase.specs.BoundaryLaws.{Boundary, boundary-then, boundary-first, boundary-byte, address-boundary, blank-low, blanks-boundary, phrase-boundary, phrase-text-utf8}
-use Rattle.address_list.specs.Parts.{front, stray, alternativeAt, angledAt, namedAt, partAt, Part, partsFrom, partsOf, anyChanges}
+use Rattle.address_list.specs.Parts.{partAt, Part, partsFrom, partsOf, anyChanges}
+use Rattle.address_list.specs.PartCasesLaws.{Opened, Replaced, Cases, part-has}
 use Rattle.address_list.specs.Table.{after, complete, examinedFrom, examined}
 use Rattle.address_list.specs.TableLaws.{after-stray, complete-unfit}
 use Rattle.address_list.specs.declared.Front.{Front}
@@ -124,91 +125,45 @@ part-front (suc b) n zero s h = absurd (not-suc-le-zero {n = b + n} (omega arith
 part-front (suc b) n (suc m) [] h = refl
 part-front (suc b) n (suc m) (x ∷ s) h = part-front b n m s (omega arith)
 
-stray-known : (s : List ℕ) → Known s stray
-stray-known s = record { some = omega arith; end = tt; address = tt }
-
--- four of seven tests that all hold
-tests : (p q r u v w x : Bool) → T (p && q && r && u && v && w && x) → T r × (T v × (T w × T x))
-tests p q r u v w x t =
-    let last = and-yes (p && q && r && u && v && w) x t in
-    let second = and-yes (p && q && r && u && v) w (last .0) in
-    let first = and-yes (p && q && r && u) v (second .0) in
-    let rest = and-yes (p && q && r) u (first .0) in
-    (and-yes (p && q) r (rest .0) .1, (first .1, (second .1, last .1)))
-
--- `<address <alternative>>`: the first address ends at a boundary
-alternative-known : (s : List ℕ) (a b : ℕ) → Boundary s b → Known s (alternativeAt s a b)
-unfolding alternativeAt
-alternative-known s a b first =
-    let inner : ℕ = b + run blank (drop b s) in
-    let start : ℕ = inner + 1 + run blank (drop (inner + 1) s) in
-    let size : ℕ = addressLen (drop start s) in
-    let end : ℕ = start + size in
-    let alternative : List ℕ = take size (drop start s) in
-    cond-has (Known s)
-    (ltb b inner && not (all isAscii (take (b - a) (drop a s))) && eqb (getD s inner 0) 60 && ltb 0 size && eqb (getD s end 0) 62 && eqb (getD s (end + 1) 0) 62 && all isAscii alternative)
-    (front (Alternative start size) (end + 2)) stray
-    (λ t.
-    let q = tests (ltb b inner) (not (all isAscii (take (b - a) (drop a s)))) (eqb (getD s inner 0) 60) (ltb 0 size) (eqb (getD s end 0) 62) (eqb (getD s (end + 1) 0) 62) (all isAscii alternative) t in
-    let at-inner = boundary-then s b (run blank (drop b s)) first (blanks-boundary (drop b s) (first .after)) in
-    let opened = boundary-byte s inner 60 at-inner (eqb→eq (getD s inner 0) 60 (q .0)) (omega arith) in
-    let at-start = boundary-then s (inner + 1) (run blank (drop (inner + 1) s)) opened (blanks-boundary (drop (inner + 1) s) (opened .after)) in
-    let at-end = boundary-then s start size at-start (address-boundary (drop start s) (at-start .after)) in
-    let closed = boundary-byte s end 62 at-end (eqb→eq (getD s end 0) 62 (q .1 .0)) (omega arith) in
-    let twice = boundary-byte s (end + 1) 62 closed (eqb→eq (getD s (end + 1) 0) 62 (q .1 .1 .0)) (omega arith) in
-    let two : end + 1 + 1 ≡ end + 2 = omega arith in
-    record { some = omega arith; end = rw two at twice; address = rw (part-front start size (end + 2) s (omega arith)) (q .1 .1 .1) })
-    (λ t. stray-known s)
-
-angled-known : (rules : Rules) (s : List ℕ) → T (utf8 s) → getD s 0 0 ≡ 60 → Known s (angledAt rules s)
-unfolding angledAt
-angled-known rules s h e =
-    let start : ℕ = 1 + run blank (drop 1 s) in
-    let size : ℕ = addressLen (drop start s) in
-    let end : ℕ = start + size in
-    let opened = boundary-first s h (rw e (omega arith)) in
-    let at-start = boundary-then s 1 (run blank (drop 1 s)) opened (blanks-boundary (drop 1 s) (opened .after)) in
-    let address = address-boundary (drop start s) (at-start .after) in
-    let at-end = boundary-then s start size at-start address in
-    cond-has (Known s) (eqb size 0) stray (cond (eqb (getD s end 0) 62) (front (Angled start size) (end + 1)) (cond (allowsAlternative rules) (alternativeAt s start end) stray))
-    (λ t. stray-known s)
-    (λ t.
-    cond-has (Known s) (eqb (getD s end 0) 62) (front (Angled start size) (end + 1)) (cond (allowsAlternative rules) (alternativeAt s start end) stray)
-    (λ u. record {
-      some = omega arith;
-      end = boundary-byte s end 62 at-end (eqb→eq (getD s end 0) 62 u) (omega arith);
-      address = rw (part-front start size (end + 1) s (omega arith)) (address .before);
-    })
-    (λ u. cond-has (Known s) (allowsAlternative rules) (alternativeAt s start end) stray (λ v. alternative-known s start end at-end) (λ v. stray-known s)))
-
-named-known : (s : List ℕ) → T (utf8 s) → Known s (namedAt s)
-unfolding namedAt
-named-known s h =
-    let address : ℕ = addressLen s in
-    let phrase : ℕ = phraseLen s in
-    cond-has (Known s) (ltb 0 address) (front Address address) (cond (ltb 0 phrase) (front Phrase phrase) stray)
-    (λ t. record { some = ltb-yes t; end = address-boundary s h; address = tt })
-    (λ t.
-    cond-has (Known s) (ltb 0 phrase) (front Phrase phrase) stray
-    (λ u. record { some = ltb-yes u; end = phrase-boundary s h; address = tt })
-    (λ u. stray-known s))
+-- `<` and blanks after it
+opened-boundary : (s : List ℕ) (start size : ℕ) → T (utf8 s) → Opened s start size → Boundary s start
+opened-boundary s start size h o =
+    let first = boundary-first s h (rw (o .opens) (omega arith)) in
+    rw (o .start-is) (boundary-then s 1 (run blank (drop 1 s)) first (blanks-boundary (drop 1 s) (first .after)))
 
 part-known : (rules : Rules) (s : List ℕ) → T (utf8 s) → Known s (partAt rules s)
-unfolding partAt
-part-known rules s h =
-    let first : ℕ = getD s 0 0 in
-    let mark : (b : ℕ) → b < 128 → T (eqb first b) → Boundary s 1 = (λ b k t. boundary-first s h (rw (eqb→eq first b t) k)) in
-    cond-has (Known s) (blank first) (front Blank 1) _
-    (λ t. record { some = omega arith; end = boundary-first s h (blank-low first t); address = tt })
-    (λ n0. cond-has (Known s) (eqb first 44) (front Comma 1) _
-    (λ t. record { some = omega arith; end = mark 44 (omega arith) t; address = tt })
-    (λ n1. cond-has (Known s) (eqb first 58) (front Colon 1) _
-    (λ t. record { some = omega arith; end = mark 58 (omega arith) t; address = tt })
-    (λ n2. cond-has (Known s) (eqb first 59) (front Semicolon 1) _
-    (λ t. record { some = omega arith; end = mark 59 (omega arith) t; address = tt })
-    (λ n3. cond-has (Known s) (eqb first 60) (angledAt rules s) (namedAt s)
-    (λ t. angled-known rules s h (eqb→eq first 60 t))
-    (λ t. named-known s h)))))
+part-known rules s h = part-has (Known s) rules s (record {
+  none = record { some = omega arith; end = tt; address = tt };
+  is-blank = λ t. record { some = omega arith; end = boundary-first s h (blank-low (getD s 0 0) t); address = tt };
+  comma = λ e. record { some = omega arith; end = mark 44 (omega arith) e; address = tt };
+  colon = λ e. record { some = omega arith; end = mark 58 (omega arith) e; address = tt };
+  semicolon = λ e. record { some = omega arith; end = mark 59 (omega arith) e; address = tt };
+  angled =
+      λ start size o close.
+      let begun = opened-boundary s start size h o in
+      let address = rw (← o .size-is) at (address-boundary (drop start s) (begun .after)) in
+      record {
+        some = omega arith;
+        end = boundary-byte s (start + size) 62 (boundary-then s start size begun address) close (omega arith);
+        address = rw (part-front start size (start + size + 1) s (omega arith)) (address .before);
+      };
+  alternative =
+      λ a n inner start size allowed o r.
+      let first = boundary-then s a n (opened-boundary s a n h o) (rw (← o .size-is) at (address-boundary (drop a s) (opened-boundary s a n h o .after))) in
+      let at-inner = rw (← r .inner-is) at (boundary-then s (a + n) (run blank (drop (a + n) s)) first (blanks-boundary (drop (a + n) s) (first .after))) in
+      let opens = boundary-byte s inner 60 at-inner (r .opens) (omega arith) in
+      let at-start = rw (← r .start-is) at (boundary-then s (inner + 1) (run blank (drop (inner + 1) s)) opens (blanks-boundary (drop (inner + 1) s) (opens .after))) in
+      let at-end = boundary-then s start size at-start (rw (← r .size-is) at (address-boundary (drop start s) (at-start .after))) in
+      let closed = boundary-byte s (start + size) 62 at-end (r .close) (omega arith) in
+      let twice = boundary-byte s (start + size + 1) 62 closed (r .close₂) (omega arith) in
+      let two : start + size + 1 + 1 ≡ start + size + 2 = omega arith in
+      record { some = omega arith; end = rw two at twice; address = rw (part-front start size (start + size + 2) s (omega arith)) (r .ascii) };
+  address = λ some. record { some = some; end = address-boundary s h; address = tt };
+  phrase = λ some. record { some = some; end = phrase-boundary s h; address = tt };
+})
+  where
+    mark : (b : ℕ) → b < 128 → getD s 0 0 ≡ b → Boundary s 1
+    mark b k e = boundary-first s h (rw e k)
 
 -- ---- the pieces of a text that fits
 
