@@ -12,6 +12,7 @@ use Rattle.address_list.specs.declared.State.{State}
 use Rattle.address_list.specs.declared.State.the-variants.{ItemDue, ItemNamed, ItemDone, GroupOpen, MemberDue, MemberNamed, MemberDone, Unfit}
 use Rattle.address_list.specs.declared.Examined.{Examined}
 use Rattle.address_list.specs.declared.Examined.the-variants.{DoesNotFit, Kept, Changed}
+use Rattle.rules.specs.declared.Rules.{Rules}
 use Rattle.address_list.specs.Parts.{Part, partsOf, anyChanges}
 use Rattle.address_list.specs.Grammar.{InAngles, Mailbox, Mailboxes, Item, Items, unlessBlank, kindsOf}
 use Rattle.address_list.specs.Table.{after, isDone, complete, fits, examinedFrom, examined}
@@ -147,9 +148,9 @@ made state [] h = ended state h
 made state (p ∷ ps) h = back state (p .kind) (kindsOf ps) (made (after state (p .kind)) ps h)
 
 -- a text that fits is a comma list of mailboxes or groups
-pub fits-made : (text : List ℕ) → fits text ≡ true → Items (kindsOf (partsOf text))
+pub fits-made : (rules : Rules) (text : List ℕ) → fits rules text ≡ true → Items (kindsOf (partsOf rules text))
 unfolding fits
-fits-made text h = made ItemDue (partsOf text) h
+fits-made rules text h = made ItemDue (partsOf rules text) h
 
 -- ---- what the grammar makes, the table takes
 
@@ -230,9 +231,9 @@ pub made-complete : (ps : List Part) → Items (kindsOf ps) → complete ItemDue
 made-complete ps e = complete-leads ItemDue ps ∙ items-lead e
 
 -- a comma list of mailboxes or groups fits
-pub made-fits : (text : List ℕ) → Items (kindsOf (partsOf text)) → fits text ≡ true
+pub made-fits : (rules : Rules) (text : List ℕ) → Items (kindsOf (partsOf rules text)) → fits rules text ≡ true
 unfolding fits
-made-fits text e = made-complete (partsOf text) e
+made-fits rules text e = made-complete (partsOf rules text) e
 
 -- ---- "runs of spaces and TABs allowed around `, : ; <`"
 
@@ -305,18 +306,18 @@ items-marked (Items.then {i} {is} a b) = mark-joins i Comma is tt tt (item-marke
 
 -- ---- what is told of a text
 
-module _ (text : List ℕ) where
-  pub examined-is : examined text ≡ cond (fits text) (cond (anyChanges (partsOf text)) Changed Kept) DoesNotFit
+module _ (rules : Rules) (text : List ℕ) where
+  pub examined-is : examined rules text ≡ cond (fits rules text) (cond (anyChanges (partsOf rules text)) Changed Kept) DoesNotFit
   unfolding examined examinedFrom fits
   examined-is = refl
 
-  pub examined-unfit : fits text ≡ false → examined text ≡ DoesNotFit
+  pub examined-unfit : fits rules text ≡ false → examined rules text ≡ DoesNotFit
   examined-unfit f = rw (examined-is, f)
 
-  pub examined-changed : fits text ≡ true → anyChanges (partsOf text) ≡ true → examined text ≡ Changed
+  pub examined-changed : fits rules text ≡ true → anyChanges (partsOf rules text) ≡ true → examined rules text ≡ Changed
   examined-changed f c = rw (examined-is, f, c)
 
-  pub examined-kept : fits text ≡ true → anyChanges (partsOf text) ≡ false → examined text ≡ Kept
+  pub examined-kept : fits rules text ≡ true → anyChanges (partsOf rules text) ≡ false → examined rules text ≡ Kept
   examined-kept f c = rw (examined-is, f, c)
 
   -- a number of each answer, so that no two are equal
@@ -325,27 +326,27 @@ module _ (text : List ℕ) where
   which Kept = 1
   which Changed = 2
 
-  pub unfit-examined : examined text ≡ DoesNotFit → fits text ≡ false
+  pub unfit-examined : examined rules text ≡ DoesNotFit → fits rules text ≡ false
   unfolding which
-  unfit-examined h = go (fits text) (anyChanges (partsOf text)) (sym examined-is ∙ h)
+  unfit-examined h = go (fits rules text) (anyChanges (partsOf rules text)) (sym examined-is ∙ h)
     where
       go : (f c : Bool) → cond f (cond c Changed Kept) DoesNotFit ≡ DoesNotFit → f ≡ false
       go false c h = refl
       go true true h = absurd (let z : _≡_ {A = ℕ} 2 0 = ap which h in omega arith)
       go true false h = absurd (let z : _≡_ {A = ℕ} 1 0 = ap which h in omega arith)
 
-  pub changed-examined : examined text ≡ Changed → (fits text ≡ true) × (anyChanges (partsOf text) ≡ true)
+  pub changed-examined : examined rules text ≡ Changed → (fits rules text ≡ true) × (anyChanges (partsOf rules text) ≡ true)
   unfolding which
-  changed-examined h = go (fits text) (anyChanges (partsOf text)) (sym examined-is ∙ h)
+  changed-examined h = go (fits rules text) (anyChanges (partsOf rules text)) (sym examined-is ∙ h)
     where
       go : (f c : Bool) → cond f (cond c Changed Kept) DoesNotFit ≡ Changed → (f ≡ true) × (c ≡ true)
       go true true h = (refl, refl)
       go true false h = absurd (let z : _≡_ {A = ℕ} 1 2 = ap which h in omega arith)
       go false c h = absurd (let z : _≡_ {A = ℕ} 0 2 = ap which h in omega arith)
 
-  pub kept-examined : examined text ≡ Kept → (fits text ≡ true) × (anyChanges (partsOf text) ≡ false)
+  pub kept-examined : examined rules text ≡ Kept → (fits rules text ≡ true) × (anyChanges (partsOf rules text) ≡ false)
   unfolding which
-  kept-examined h = go (fits text) (anyChanges (partsOf text)) (sym examined-is ∙ h)
+  kept-examined h = go (fits rules text) (anyChanges (partsOf rules text)) (sym examined-is ∙ h)
     where
       go : (f c : Bool) → cond f (cond c Changed Kept) DoesNotFit ≡ Kept → (f ≡ true) × (c ≡ false)
       go true false h = (refl, refl)
