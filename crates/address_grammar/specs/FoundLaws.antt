@@ -19,8 +19,8 @@ use Rattle.address.specs.declared.Scan.the-variants.{To, Stop}
 use Rattle.address.specs.Address.{later, byteThen, scanThen, isAtext, isAtomByte, dotAtomEnd, dotAtomFrom, dotAtomScan, domainScan, localScan, addressScan}
 use Rattle.address.specs.Grammar.{Atom, DotAtom, QuotedString, LocalPart, Address as AddressForm}
 use Rattle.address.specs.GrammarLaws.{Closed, quoted-string-complete, address-complete}
-use Rattle.address_list.specs.Words.{found, capped, isWordByte, addressLen, wordLen, nextWordLen, nextWordsLen, phraseLen}
-use Rattle.address_list.specs.WordsLaws.{capped-in, words-front, words-stop}
+use Rattle.phrase.specs.Words.{found, capped, isWordByte, addressLen, wordLen, nextWordLen, nextWordsLen, phraseLen}
+use Rattle.phrase.specs.WordsLaws.{capped-in, words-front, words-stop}
 use Rattle.address_grammar.specs.PartGrammar.{WordForm, WordText, AddressText, Blanks, SomeBlanks, PhraseText}
 
 -- ---- bytes
