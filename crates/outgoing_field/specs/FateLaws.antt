@@ -32,7 +32,7 @@ use Rattle.header_name.specs.declared.Kind.{Kind}
 use Rattle.header_name.specs.declared.Kind.the-variants.{Address, PlainText, Received, Commented, Parameterized, Held, Other}
 use Rattle.field.specs.Field.{encodedField}
 use Rattle.address_pieces.specs.AddressField.{addressField, fitting}
-use Rattle.address_pieces.specs.AddressFieldLaws.{fitting-short}
+use Rattle.address_pieces.specs.WritingLaws.{fitting-short}
 use Rattle.outgoing_field.specs.Fate.{Fate, kindFate, fateOf, segmentsOf, fieldSegments, headerSegments, limited, isHeld, heldFrom, heldOf}
 use Rattle.outgoing_field.specs.Fate.Fate.{held, written}
 use Rattle.outgoing_field.specs.declared.HeldField.the-variants.{Absent, At}

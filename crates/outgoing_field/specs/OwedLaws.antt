@@ -25,7 +25,8 @@ use Rattle.header_name.specs.declared.Kind.{Kind}
 use Rattle.header_name.specs.declared.Kind.the-variants.{Address, PlainText, Received, Commented, Parameterized, Held, Other}
 use Rattle.field.specs.Field.{encodedField}
 use Rattle.field.specs.FieldLaws.{encoded-sound, length-encoded}
-use Rattle.address_pieces.specs.AddressFieldLaws.{address-field-sound, length-address-field}
+use Rattle.address_pieces.specs.SoundLaws.{address-field-sound}
+use Rattle.address_pieces.specs.LengthLaws.{address-field-within}
 use Rattle.outgoing_field.specs.Fate.{Fate, kindFate, fateOf, segmentsOf, fieldSegments, headerSegments}
 use Rattle.outgoing_field.specs.Fate.Fate.{held, written}
 
@@ -54,7 +55,7 @@ module _ {field : List ℕ} (s : Shaped field) where
   unfolding kindFate segmentsOf
   owed-kind rules Address = record {
     sound-all = address-field-sound rules (nameOf field) (textOf field) (name-ascii field) (text-utf8 s);
-    short = length-address-field rules (nameOf field) (textOf field) (length-shaped s);
+    short = address-field-within rules (nameOf field) (textOf field) (length field) (length-shaped s);
   }
   owed-kind rules PlainText = owed-encoded false
   owed-kind rules Received = owed-held (length field)
