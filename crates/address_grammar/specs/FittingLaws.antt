@@ -32,7 +32,7 @@ use Rattle.address_list.specs.declared.Examined.the-variants.{DoesNotFit}
 use Rattle.address_grammar.specs.PartGrammar.{AddressText, Blanks, SomeBlanks, PhraseText, AngledText, AlternativeText, OneByte, IsPart, EachIsPart, joinedParts, AddressList}
 use Rattle.address_grammar.specs.PartGrammarLaws.{parts-made, parts-joined}
 use Rattle.address_grammar.specs.GrammarLaws.{false-true, isMark, opensWithMark, markBetween, items-marked, fits-made, made-complete, made-fits, examined-unfit, unfit-examined}
-use Rattle.address_grammar.specs.FoundLaws.{starting, starts, ending, Ended, ended-apart, stops-blanks, apart-closed, run-whole, phrase-starts, phrase-no-address, phrase-found, phrase-some, address-starts, address-some, address-found}
+use Rattle.address_grammar.specs.FoundLaws.{starting, starts, ending, Ended, ended-apart, stops-blanks, apart-closed, run-whole, some-length, phrase-starts, phrase-no-address, phrase-found, phrase-some, address-starts, address-some, address-found}
 
 -- a text that fits is such a list
 pub fitting-text : (rules : Rules) (text : List ℕ) → fits rules text ≡ true → AddressList rules text
@@ -170,10 +170,6 @@ bracket-no-blank = refl
 close-no-blank : (b : ℕ) → T (blank b) → b ≡ 62 → ⊥
 unfolding blank
 close-no-blank b t e = rw e at t
-
-some-length : (gap : List ℕ) → T (nonempty gap) → 0 < length gap
-some-length [] s = absurd s
-some-length (b ∷ gap) s = omega arith
 
 alternative-found : {rules : Rules} {start size : ℕ} {t : List ℕ} → AlternativeText rules start size t → (y : List ℕ) → Found rules (t ++ y) (Alternative start size) (length t)
 alternative-found {rules} {start} {size} {t} p y =

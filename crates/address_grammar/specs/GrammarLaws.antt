@@ -10,7 +10,6 @@ use Rattle.address_list.specs.declared.PartKind.{PartKind}
 use Rattle.address_list.specs.declared.PartKind.the-variants.{Blank, Comma, Colon, Semicolon, Phrase, Address, Angled, Alternative, Stray}
 use Rattle.address_list.specs.declared.State.{State}
 use Rattle.address_list.specs.declared.State.the-variants.{ItemDue, ItemNamed, ItemDone, GroupOpen, MemberDue, MemberNamed, MemberDone, Unfit}
-use Rattle.address_list.specs.declared.Examined.{Examined}
 use Rattle.address_list.specs.declared.Examined.the-variants.{DoesNotFit, Kept, Changed}
 use Rattle.rules.specs.declared.Rules.{Rules}
 use Rattle.address_list.specs.Parts.{Part, partsOf, anyChanges}
@@ -320,35 +319,26 @@ module _ (rules : Rules) (text : List ℕ) where
   pub examined-kept : fits rules text ≡ true → anyChanges (partsOf rules text) ≡ false → examined rules text ≡ Kept
   examined-kept f c = rw (examined-is, f, c)
 
-  -- a number of each answer, so that no two are equal
-  which : Examined → ℕ
-  which DoesNotFit = 0
-  which Kept = 1
-  which Changed = 2
-
   pub unfit-examined : examined rules text ≡ DoesNotFit → fits rules text ≡ false
-  unfolding which
   unfit-examined h = go (fits rules text) (anyChanges (partsOf rules text)) (sym examined-is ∙ h)
     where
       go : (f c : Bool) → cond f (cond c Changed Kept) DoesNotFit ≡ DoesNotFit → f ≡ false
       go false c h = refl
-      go true true h = absurd (let z : _≡_ {A = ℕ} 2 0 = ap which h in omega arith)
-      go true false h = absurd (let z : _≡_ {A = ℕ} 1 0 = ap which h in omega arith)
+      go true true h = absurd (let z : _≡_ {A = ℕ} 0 1 = cc in omega arith)
+      go true false h = absurd (let z : _≡_ {A = ℕ} 0 1 = cc in omega arith)
 
   pub changed-examined : examined rules text ≡ Changed → (fits rules text ≡ true) × (anyChanges (partsOf rules text) ≡ true)
-  unfolding which
   changed-examined h = go (fits rules text) (anyChanges (partsOf rules text)) (sym examined-is ∙ h)
     where
       go : (f c : Bool) → cond f (cond c Changed Kept) DoesNotFit ≡ Changed → (f ≡ true) × (c ≡ true)
       go true true h = (refl, refl)
-      go true false h = absurd (let z : _≡_ {A = ℕ} 1 2 = ap which h in omega arith)
-      go false c h = absurd (let z : _≡_ {A = ℕ} 0 2 = ap which h in omega arith)
+      go true false h = absurd (let z : _≡_ {A = ℕ} 0 1 = cc in omega arith)
+      go false c h = absurd (let z : _≡_ {A = ℕ} 0 1 = cc in omega arith)
 
   pub kept-examined : examined rules text ≡ Kept → (fits rules text ≡ true) × (anyChanges (partsOf rules text) ≡ false)
-  unfolding which
   kept-examined h = go (fits rules text) (anyChanges (partsOf rules text)) (sym examined-is ∙ h)
     where
       go : (f c : Bool) → cond f (cond c Changed Kept) DoesNotFit ≡ Kept → (f ≡ true) × (c ≡ false)
       go true false h = (refl, refl)
-      go true true h = absurd (let z : _≡_ {A = ℕ} 2 1 = ap which h in omega arith)
-      go false c h = absurd (let z : _≡_ {A = ℕ} 0 1 = ap which h in omega arith)
+      go true true h = absurd (let z : _≡_ {A = ℕ} 0 1 = cc in omega arith)
+      go false c h = absurd (let z : _≡_ {A = ℕ} 0 1 = cc in omega arith)

@@ -22,7 +22,7 @@ use Rattle.rules.specs.Rules.{allowsAlternative}
 use Rattle.rules.specs.declared.Rules.{Rules}
 use Rattle.phrase.specs.Words.{found, capped, isWordByte, addressLen, wordLen, nextWordLen, nextWordsLen, phraseLen}
 use Rattle.address_list.specs.Parts.{front, partAt, partsFrom, partsOf}
-use Rattle.address_list.specs.PartCasesLaws.{Opened, Replaced, Cases, part-has}
+use Rattle.address_list.specs.PartCasesLaws.{Opened, Replaced, part-has}
 use Rattle.address_list.specs.declared.PartKind.the-variants.{Angled, Alternative}
 use Rattle.address_list.specs.declared.Front.{Front}
 use Rattle.address_grammar.specs.PartGrammar.{WordForm, WordText, AddressText, SomeBlanks, PhraseText, AngledText, AlternativeText, IsPart, EachIsPart, joinedParts}

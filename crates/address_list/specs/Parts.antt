@@ -107,18 +107,6 @@ partsFrom rules zero (b ∷ s) = let f = partAt rules (b ∷ s) in record { kind
 unfoldable pub partsOf : Rules → List ℕ → List Part
 partsOf rules text = partsFrom rules 0 text
 
--- the address that is named in a part's bytes: a bare one, the one in `< >`, or the alternative
-unfoldable pub addressIn : PartKind → List ℕ → List ℕ
-addressIn Blank t = []
-addressIn Comma t = []
-addressIn Colon t = []
-addressIn Semicolon t = []
-addressIn Phrase t = []
-addressIn Address t = t
-addressIn (Angled start size) t = take size (drop start t)
-addressIn (Alternative start size) t = take size (drop start t)
-addressIn Stray t = []
-
 -- "If any address was replaced or removed": an alternative replaces an address, and one that is not ASCII without it is removed
 unfoldable pub changes : PartKind → List ℕ → Bool
 changes Blank t = false

@@ -1,7 +1,7 @@
 -- Laws of the parts of a text, as code finds them by position. Assumes nothing.
 use Rattle.line.specs.LineLaws.{part-rest}
-use mathlib.Core.Path.{_≡_, refl, ap, sym, _∙_}
-use mathlib.Core.Bool.{Bool, true, false, cond, _&&_, not, and-false}
+use mathlib.Core.Path.{_≡_, refl, ap, _∙_}
+use mathlib.Core.Bool.{true, false, cond, _&&_, not, and-false}
 use mathlib.Core.List.{List, [], _∷_}
 use Prim.Native.Nat.{ℕ, zero, suc, pred, _+_, _-_, _≤_, _<_, zero-le}
 use native.Mathlib.Nat.{not-suc-le-zero}
@@ -20,7 +20,7 @@ use Rattle.rules.specs.Rules.{allowsAlternative}
 use Rattle.rules.specs.declared.Rules.{Rules}
 use Rattle.address_list.specs.Parts.{front, stray, alternativeAt, angledAt, namedAt, partAt, innerEnd, Took, TookFrom, Part, partsFrom, changes}
 use Rattle.address_list.specs.declared.PartKind.{PartKind}
-use Rattle.address_list.specs.declared.PartKind.the-variants.{Blank, Comma, Colon, Semicolon, Phrase, Address, Angled, Alternative, Stray}
+use Rattle.address_list.specs.declared.PartKind.the-variants.{Blank, Comma, Colon, Semicolon, Phrase, Address, Angled, Alternative}
 use Rattle.address_list.specs.declared.Front.{Front}
 
 pub took-from : {rules : Rules} {s : List ℕ} {at : ℕ} {r : Front} → at < length s → Took (partAt rules (take (length s - at) (drop at s))) (take (length s - at) (drop at s)) r → TookFrom rules s at r

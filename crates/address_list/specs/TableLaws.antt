@@ -1,10 +1,12 @@
 -- A turn of the walk over the parts that decides whether a text fits. Assumes nothing.
-use mathlib.Core.Path.{_≡_, refl, ap, sym, _∙_}
+use mathlib.Core.Path.{_≡_, refl, sym, _∙_}
 use mathlib.Core.Bool.{Bool, true, false, cond, _||_, or-false, or-assoc}
 use mathlib.Core.List.{List, [], _∷_}
 use Prim.Native.Nat.{ℕ, _+_, _-_, _≤_, _<_}
 use native.Mathlib.Omega.{arith}
+use lib.Dec.{T}
 use lib.ListN.{length, take, drop}
+use Rattle.lists.specs.Lists.{true-yes}
 use Rattle.rules.specs.declared.Rules.{Rules}
 use Rattle.address_list.specs.Parts.{TookFrom, Part, partsFrom, partsOf, changes, anyChanges}
 use Rattle.address_list.specs.PartsLaws.{partIn, parts-step, parts-end}
@@ -47,15 +49,15 @@ after-stray MemberNamed = refl
 after-stray MemberDone = refl
 after-stray Unfit = refl
 
-unfit-state : (state : State) → isUnfit state ≡ true → state ≡ Unfit
+unfit-state : (state : State) → T (isUnfit state) → state ≡ Unfit
 unfit-state Unfit h = refl
-unfit-state ItemDue h = absurd (let z : _≡_ {A = ℕ} 0 1 = ap (λ (t : Bool). cond t 1 0) h in omega arith)
-unfit-state ItemNamed h = absurd (let z : _≡_ {A = ℕ} 0 1 = ap (λ (t : Bool). cond t 1 0) h in omega arith)
-unfit-state ItemDone h = absurd (let z : _≡_ {A = ℕ} 0 1 = ap (λ (t : Bool). cond t 1 0) h in omega arith)
-unfit-state GroupOpen h = absurd (let z : _≡_ {A = ℕ} 0 1 = ap (λ (t : Bool). cond t 1 0) h in omega arith)
-unfit-state MemberDue h = absurd (let z : _≡_ {A = ℕ} 0 1 = ap (λ (t : Bool). cond t 1 0) h in omega arith)
-unfit-state MemberNamed h = absurd (let z : _≡_ {A = ℕ} 0 1 = ap (λ (t : Bool). cond t 1 0) h in omega arith)
-unfit-state MemberDone h = absurd (let z : _≡_ {A = ℕ} 0 1 = ap (λ (t : Bool). cond t 1 0) h in omega arith)
+unfit-state ItemDue h = absurd h
+unfit-state ItemNamed h = absurd h
+unfit-state ItemDone h = absurd h
+unfit-state GroupOpen h = absurd h
+unfit-state MemberDue h = absurd h
+unfit-state MemberNamed h = absurd h
+unfit-state MemberDone h = absurd h
 
 module _ {rules : Rules} {s : List ℕ} {i : ℕ} {state : State} {changed : Bool} (g : Walked rules s i state changed) where
   module _ {f : Front} (h : i < length s) (w : TookFrom rules s i f) where
@@ -65,7 +67,7 @@ module _ {rules : Rules} {s : List ℕ} {i : ℕ} {state : State} {changed : Boo
     pub walked-unfit : {p : State} → p ≡ after state (f .kind) → isUnfit p ≡ true → DoesNotFit ≡ examined rules s
     unfolding examinedFrom
     walked-unfit {p} q u =
-        let unfit : after state (f .kind) ≡ Unfit = sym q ∙ unfit-state p u in
+        let unfit : after state (f .kind) ≡ Unfit = sym q ∙ unfit-state p (true-yes (isUnfit p) u) in
         sym (walked-part ∙ rw (unfit, complete-unfit (partsFrom rules 0 (drop (i + f .size) s))))
 
     pub walked-next : {p : State} {e : ℕ} {c : Bool} → p ≡ after state (f .kind) → e ≡ i + f .size → c ≡ (changed || changes (f .kind) (take (e - i) (drop i s))) → Walked rules s e p c

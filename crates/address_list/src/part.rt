@@ -1,7 +1,7 @@
 // The parts of an address field's text.
 ghost use mathlib.Core.Path.{_≡_};
 ghost use Prim.Native.Nat.{_+_, _≤_, _<_};
-ghost use lib.ListN.{length, drop};
+ghost use lib.ListN.{length};
 ghost use Rattle.address_list.specs.Parts.{alternativeAt, angledAt, namedAt, partAt, stray, Took, TookFrom};
 use crate::Front;
 use crate::PartKind;

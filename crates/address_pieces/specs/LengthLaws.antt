@@ -1,7 +1,7 @@
 -- How long a rewritten address field can be. Assumes nothing.
-use mathlib.Core.Path.{_≡_, refl, ap}
+use mathlib.Core.Path.{ap}
 use mathlib.Core.Bool.{Bool, true, false, cond}
-use mathlib.Core.List.{List, [], _∷_, _++_, map}
+use mathlib.Core.List.{List, [], _∷_, map}
 use Prim.Native.Nat.{ℕ, zero, suc, pred, _+_, _-_, _*_, _≤_, _<_, zero-le}
 use native.Mathlib.Omega.{arith}
 use native.Mathlib.Nat.{not-suc-le-zero}
@@ -24,12 +24,12 @@ use Rattle.address.specs.AddressLaws.{byte-within}
 use Rattle.address.specs.declared.Scan.{Scan}
 use Rattle.address.specs.declared.Scan.the-variants.{To, Stop}
 use Rattle.address.specs.Address.{addressScan}
-use Rattle.address.specs.TakenLaws.{Taken, AtLeast, taken-address}
+use Rattle.address.specs.TakenLaws.{Taken, taken-address}
 use Rattle.phrase.specs.Words.{found, capped, addressLen, phraseLen}
 use Rattle.phrase.specs.Phrase.{wordSize, wordsFrom, phraseWords, phraseText}
 use Rattle.phrase.specs.PhraseLaws.{word-size-some, length-phrase-text}
 use Rattle.address_list.specs.Parts.{partAt, partsFrom, partsOf}
-use Rattle.address_list.specs.PartCasesLaws.{Opened, Replaced, Cases, part-has}
+use Rattle.address_list.specs.PartCasesLaws.{part-has}
 use Rattle.address_list.specs.declared.Front.{Front}
 use Rattle.address_list.specs.Table.{examined}
 use Rattle.address_list.specs.declared.Examined.{Examined}

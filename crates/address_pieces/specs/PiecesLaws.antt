@@ -1,5 +1,5 @@
 -- Laws of the pieces, as code writes them. Assumes nothing.
-use mathlib.Core.Path.{_≡_, refl, sym, _∙_}
+use mathlib.Core.Path.{_≡_, sym, _∙_}
 use mathlib.Core.Bool.{true, false}
 use mathlib.Core.List.{List, [], _∷_, _++_, append-nil, map}
 use Prim.Native.Nat.{ℕ, _+_, _-_, _*_, _≤_, _<_}
@@ -13,7 +13,7 @@ use Rattle.line.specs.Line.{blank}
 use Rattle.rules.specs.declared.Rules.{Rules}
 use Rattle.encoded_word.specs.Row.{row}
 use Rattle.encoded_word.specs.Segments.{Segment, bytesOf, rendered}
-use Rattle.encoded_word.specs.Segments.Segment.{raw, words}
+use Rattle.encoded_word.specs.Segments.Segment.{words}
 use Rattle.encoded_word.specs.SegmentsLaws.{rendered-append}
 use Rattle.phrase.specs.Phrase.{wordSize, wordsFrom, phraseWords, phraseText}
 use Rattle.phrase.specs.PhraseLaws.{phrase-words-next, phrase-words-end}

@@ -1,12 +1,12 @@
 -- What an address field becomes is sound: bytes that stand as they are are ASCII, and texts that are encoded are UTF-8. Assumes nothing.
-use mathlib.Core.Path.{_≡_, refl, ap, sym, _∙_}
+use mathlib.Core.Path.{_≡_, refl, ap}
 use mathlib.Core.Bool.{true, false, cond, _||_}
 use mathlib.Core.List.{List, [], _∷_, _++_, map}
 use Prim.Native.Nat.{ℕ, zero, suc, pred, _+_, _-_, _≤_, _<_}
 use native.Mathlib.Nat.{not-suc-le-zero}
 use native.Mathlib.Omega.{arith}
 use lib.Dec.{T}
-use lib.ListN.{length, take, drop, getD, take-append-drop}
+use lib.ListN.{take, drop, getD, take-append-drop}
 use mir.Facts.{and-yes, yes-and}
 use Rattle.lists.specs.Byte.{isAscii}
 use Rattle.lists.specs.Lists.{cond-has, all, all-append, all-left}
@@ -21,11 +21,10 @@ use Rattle.encoded_word.specs.Segments.{Segment, sound}
 use Rattle.encoded_word.specs.Segments.Segment.{raw, words}
 use Rattle.field.specs.Field.{encodedField}
 use Rattle.field.specs.FieldLaws.{encoded-sound}
-use Rattle.phrase.specs.Words.{addressLen, phraseLen}
 use Rattle.phrase.specs.Phrase.{wordSize, wordsFrom, phraseWords, phraseText}
 use Rattle.phrase.specs.BoundaryLaws.{Boundary, boundary-then, boundary-first, boundary-byte, address-boundary, blank-low, blanks-boundary, phrase-boundary, phrase-text-utf8}
 use Rattle.address_list.specs.Parts.{partAt, Part, partsFrom, partsOf, anyChanges}
-use Rattle.address_list.specs.PartCasesLaws.{Opened, Replaced, Cases, part-has}
+use Rattle.address_list.specs.PartCasesLaws.{Opened, part-has}
 use Rattle.address_list.specs.Table.{after, complete, examinedFrom, examined}
 use Rattle.address_list.specs.TableLaws.{after-stray, complete-unfit}
 use Rattle.address_list.specs.declared.Front.{Front}

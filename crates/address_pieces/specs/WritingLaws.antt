@@ -93,7 +93,7 @@ module _ (rules : Rules) (name text : List ℕ) where
       capped-same (sym rewritten-bytes) (capped-then label value k)
 
   module _ (h : length text ≤ 32768) where
-    pub copy-added : {before after : List ℕ} {at r : ℕ} → AppendedCapped (rendered (encodedField true name (bounded text))) at before after r
+    copy-added : {before after : List ℕ} {at r : ℕ} → AppendedCapped (rendered (encodedField true name (bounded text))) at before after r
         → AppendedCapped (rendered (encodedField true name text)) at before after r
     copy-added a = rw (bounded-short text (omega arith)) at a
 

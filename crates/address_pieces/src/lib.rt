@@ -16,7 +16,14 @@ use address_list::Examined;
 use rules::Rules;
 
 // The field with its value rewritten.
-fn add_rewritten(out: &mut [u8], at: usize, rules: Rules, name: &[u8], text: &[u8], scratch: &mut [u8]) -> usize
+fn add_rewritten(
+    out: &mut [u8],
+    at: usize,
+    rules: Rules,
+    name: &[u8],
+    text: &[u8],
+    scratch: &mut [u8],
+) -> usize
     requires { ⌜ (length (now text) ≤ 32768) × (2 * length (now text) ≤ length (now scratch)) ⌝ }
     ensures { λ r. ⌜ AppendedCapped (rendered (rewrittenField rules (now (name .entry)) (now (text .entry)))) at (now (out .entry)) (now (out .exit)) r ⌝ }
 {
@@ -27,7 +34,14 @@ fn add_rewritten(out: &mut [u8], at: usize, rules: Rules, name: &[u8], text: &[u
 }
 
 // The same, and the field with its original text encoded after it.
-fn add_with_copy(out: &mut [u8], at: usize, rules: Rules, name: &[u8], text: &[u8], scratch: &mut [u8]) -> usize
+fn add_with_copy(
+    out: &mut [u8],
+    at: usize,
+    rules: Rules,
+    name: &[u8],
+    text: &[u8],
+    scratch: &mut [u8],
+) -> usize
     requires { ⌜ (length (now text) ≤ 32768) × (2 * length (now text) ≤ length (now scratch)) ⌝ }
     ensures { λ r. ⌜ AppendedCapped (rendered (fieldBy Changed rules (now (name .entry)) (now (text .entry)))) at (now (out .entry)) (now (out .exit)) r ⌝ }
 {
@@ -36,7 +50,14 @@ fn add_with_copy(out: &mut [u8], at: usize, rules: Rules, name: &[u8], text: &[u
 }
 
 // The field by what its text is found to be.
-fn add_by_text(out: &mut [u8], at: usize, rules: Rules, name: &[u8], text: &[u8], scratch: &mut [u8]) -> usize
+fn add_by_text(
+    out: &mut [u8],
+    at: usize,
+    rules: Rules,
+    name: &[u8],
+    text: &[u8],
+    scratch: &mut [u8],
+) -> usize
     requires { ⌜ (length (now text) ≤ 32768) × (2 * length (now text) ≤ length (now scratch)) ⌝ }
     ensures { λ r. ⌜ AppendedCapped (rendered (addressField rules (now (name .entry)) (now (text .entry)))) at (now (out .entry)) (now (out .exit)) r ⌝ }
 {
@@ -62,7 +83,14 @@ fn fitting_len(room: usize, n: usize) -> usize
 
 // Writes what an address field becomes by the rules from a place on, as far as it fits; answers the place after it. The scratch is
 // where the text of a phrase is made: at least twice as long as the field's text.
-pub fn add_field(out: &mut [u8], at: usize, rules: Rules, name: &[u8], text: &[u8], scratch: &mut [u8]) -> usize
+pub fn add_field(
+    out: &mut [u8],
+    at: usize,
+    rules: Rules,
+    name: &[u8],
+    text: &[u8],
+    scratch: &mut [u8],
+) -> usize
     ensures { λ r. ⌜ AppendedCapped (rendered (addressField rules (now (name .entry)) (fitting (length (now (scratch .entry))) (now (text .entry))))) at (now (out .entry)) (now (out .exit)) r ⌝ }
 {
     let end = fitting_len(scratch.len(), text.len());

@@ -60,7 +60,13 @@ fn put_part(out: &mut [u8], rules: Rules, t: &[u8], kind: PartKind, scratch: &mu
 }
 
 // The pieces of a text, part by part: the rest of the output is lent on from the place reached.
-pub(crate) fn add_parts(out: &mut [u8], at: usize, rules: Rules, text: &[u8], scratch: &mut [u8]) -> usize
+pub(crate) fn add_parts(
+    out: &mut [u8],
+    at: usize,
+    rules: Rules,
+    text: &[u8],
+    scratch: &mut [u8],
+) -> usize
     requires { ⌜ (length (now text) ≤ 32768) × (2 * length (now text) ≤ length (now scratch)) ⌝ }
     ensures { λ r. ⌜ AppendedCapped (rendered (piecesOf rules (partsOf rules (now (text .entry))))) at (now (out .entry)) (now (out .exit)) r ⌝ }
 {
@@ -71,7 +77,10 @@ pub(crate) fn add_parts(out: &mut [u8], at: usize, rules: Rules, text: &[u8], sc
         let kind = f.kind;
         let e = i + f.size;
         let a = buffer::clip(next, out.len());
-        next = buffer::place_after(next, put_part(&mut out[a..], rules, &text[i..e], kind, scratch));
+        next = buffer::place_after(
+            next,
+            put_part(&mut out[a..], rules, &text[i..e], kind, scratch),
+        );
         i = e;
     }
     next

@@ -1,6 +1,5 @@
 use mathlib.Core.Path.{refl}
 use Rattle.unquote.specs.Unquote.{escapes}
-use borrow.Author.Needs.{needs}
 use Rattle.unquote.proofs.escapes.Statement.{statement}
 use Rattle.unquote.proofs.escapes.Tie as tie
 

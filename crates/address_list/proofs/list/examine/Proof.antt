@@ -1,7 +1,6 @@
 use Rattle.address_list.specs.Parts.{changes}
-use mathlib.Core.Bool.{_||_}
-use mathlib.Core.Path.{_≡_, refl, sym, _∙_}
-use Prim.Native.Nat.{_+_, _-_, _≤_}
+use mathlib.Core.Path.{refl, sym, _∙_}
+use Prim.Native.Nat.{_-_}
 use native.Mathlib.Omega.{arith}
 use lib.ListN.{length}
 use Rattle.address_list.specs.TableLaws.{Walked, walked-start, walked-unfit, walked-next, walked-end}

@@ -2,7 +2,7 @@ use borrow.Author.Tests.{not-true, not-false}
 use Rattle.address_list.specs.PartsLaws.{took-stray, took-as, angled-none, angled-there, angled-more, angled-refused}
 use native.Mathlib.Omega.{arith}
 use Prim.Native.Nat.{_+_}
-use mathlib.Core.Path.{_≡_, refl, sym, _∙_}
+use mathlib.Core.Path.{sym, _∙_}
 use Rattle.address.specs.AddressLaws.{byte-within}
 use borrow.Author.Needs.{needs}
 use Rattle.address_list.proofs.part.angled.Statement.{statement}
@@ -31,11 +31,11 @@ add-t9 c = search needs
 
 returns-2 : tie.Need-returns-2
 returns-2 c = record {
-      is = angled-there _ (c .before .before .before .before .before .before .args .t .now) _ _ (c .before .before .before .before .blanks-end .ensures) (c .before .before .before .address-len .ensures .0) (c .before .before .if1 .left) (sym (c .before .byte-at .ensures) ∙ c .if2 .taken);
-      some = omega arith;
-      within = omega (arith, byte-within (c .before .before .before .before .before .before .args .t .now) (c .before .before .before .before .blanks-end .result + c .before .before .before .address-len .result) 61 (sym (c .before .byte-at .ensures) ∙ c .if2 .taken));
-      inner = omega arith;
-    }
+  is = angled-there _ (c .before .before .before .before .before .before .args .t .now) _ _ (c .before .before .before .before .blanks-end .ensures) (c .before .before .before .address-len .ensures .0) (c .before .before .if1 .left) (sym (c .before .byte-at .ensures) ∙ c .if2 .taken);
+  some = omega arith;
+  within = omega (arith, byte-within (c .before .before .before .before .before .before .args .t .now) (c .before .before .before .before .blanks-end .result + c .before .before .before .address-len .result) 61 (sym (c .before .byte-at .ensures) ∙ c .if2 .taken));
+  inner = omega arith;
+}
 
 allows-alternative-requires : tie.Need-allows-alternative-requires
 allows-alternative-requires c κs = search needs

@@ -1,4 +1,3 @@
-use mathlib.Core.Path.{_≡_, refl, sym, _∙_}
 use native.Mathlib.Omega.{arith}
 use Rattle.address_list.specs.PartsLaws.{took-stray, named-address, named-phrase, named-none}
 use borrow.Author.Needs.{needs}

@@ -1,4 +1,4 @@
-use mathlib.Core.Path.{_≡_, refl, sym, _∙_}
+use mathlib.Core.Path.{refl, sym, _∙_}
 use Rattle.address_list.specs.declared.PartKind.the-variants.{Blank, Comma, Colon, Semicolon}
 use Rattle.address_list.specs.PartsLaws.{took-mark, took-as, part-blank, part-comma, part-colon, part-semicolon, part-angled, part-named}
 use borrow.Author.Needs.{needs}

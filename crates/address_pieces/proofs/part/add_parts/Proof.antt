@@ -9,7 +9,7 @@ use Rattle.buffer.specs.Buffer.{ReachedCapped}
 use lib.ListN.{length, drop}
 use native.Mathlib.Omega.{arith}
 use Prim.Native.Nat.{_-_}
-use mathlib.Core.Path.{_≡_, refl, sym, _∙_}
+use mathlib.Core.Path.{_≡_, refl}
 use Rattle.address_pieces.proofs.part.add_parts.Statement.{statement}
 use Rattle.address_pieces.proofs.part.add_parts.Tie as tie
 

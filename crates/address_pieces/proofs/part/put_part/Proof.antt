@@ -6,7 +6,7 @@ use Rattle.encoded_word.specs.Segments.Segment.{raw}
 use Rattle.buffer.specs.BufferLaws.{wrote-nothing}
 use native.Mathlib.Omega.{arith}
 use mathlib.Core.List.{[], _∷_}
-use mathlib.Core.Path.{sym, _∙_}
+use mathlib.Core.Path.{sym}
 use borrow.Author.Needs.{needs}
 use Rattle.address_pieces.proofs.part.put_part.Statement.{statement}
 use Rattle.address_pieces.proofs.part.put_part.Tie as tie

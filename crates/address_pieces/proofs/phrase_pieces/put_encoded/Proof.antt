@@ -1,5 +1,4 @@
 use Rattle.address_pieces.specs.WritingLaws.{phrase-within, phrase-size, phrase-encoded}
-use native.Mathlib.Omega.{arith}
 use borrow.Author.Needs.{needs}
 use Rattle.address_pieces.proofs.phrase_pieces.put_encoded.Statement.{statement}
 use Rattle.address_pieces.proofs.phrase_pieces.put_encoded.Tie as tie

@@ -1,7 +1,6 @@
 use Rattle.address_pieces.specs.WritingLaws.{wrote-then}
 use Rattle.buffer.specs.BufferLaws.{capped-then}
 use mathlib.Core.List.{[], _∷_}
-use Prim.Native.Nat.{_+_}
 use lib.ListN.{length-append}
 use native.Mathlib.Omega.{arith}
 use borrow.Author.Needs.{needs}
