@@ -5,9 +5,9 @@ ghost use lib.ListN.{length};
 ghost use Rattle.address_list.specs.Parts.{alternativeAt, angledAt, namedAt, partAt, stray, Took, TookFrom};
 use crate::Front;
 use crate::PartKind;
+use line::blanks_end;
 use line::byte_at;
 use phrase::address_len;
-use phrase::blanks_end;
 use phrase::phrase_len;
 use rules::Rules;
 

@@ -5,5 +5,4 @@ mod word;
 pub use text::add_text;
 pub use text::word_end;
 pub use word::address_len;
-pub use word::blanks_end;
 pub use word::phrase_len;

@@ -4,8 +4,8 @@ ghost use lib.ListN.{drop};
 ghost use Rattle.buffer.specs.Buffer.{AppendedCapped};
 ghost use Rattle.unquote.specs.Unquote.{unquoted};
 ghost use Rattle.phrase.specs.Phrase.{WordEnd, wordsFrom, afterSpaces, phraseText};
-use crate::word::blanks_end;
 use crate::word::word_len;
+use line::blanks_end;
 
 // Where the word at a place of a phrase ends.
 pub fn word_end(phrase: &[u8], at: usize) -> usize

@@ -3,11 +3,10 @@ ghost use mathlib.Core.Path.{_≡_};
 ghost use Prim.Native.Nat.{_+_, _-_, _≤_};
 ghost use lib.ListN.{length, drop};
 ghost use Rattle.lists.specs.Run.{run};
-ghost use Rattle.line.specs.Line.{blank};
 ghost use Rattle.address.specs.Address.{quotedScan};
 ghost use Rattle.phrase.specs.Words.{found, capped, isWordByte, addressLen, wordLen, nextWordLen, phraseLen};
 use address::Scan;
-use line::is_blank;
+use line::blanks_end;
 
 // A length; none where it exceeds 900.
 fn capped(n: usize) -> usize
@@ -49,20 +48,6 @@ fn run_end(s: &[u8], at: usize) -> usize
     let mut i = at;
     while i < s.len() {
         if !is_word_byte(s[i]) {
-            return i;
-        }
-        i += 1;
-    }
-    i
-}
-
-// Where the spaces and TABs from a place on end.
-pub fn blanks_end(s: &[u8], at: usize) -> usize
-    ensures { λ r. ⌜ r ≡ at + run blank (drop at (now (s .entry))) ⌝ }
-{
-    let mut i = at;
-    while i < s.len() {
-        if !is_blank(s[i]) {
             return i;
         }
         i += 1;
