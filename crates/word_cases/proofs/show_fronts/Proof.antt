@@ -1,17 +1,17 @@
--- Each front lies within the text, and each turn leaves less of the text.
-use lib.ListN.{length-take}
-use native.Mathlib.Omega.{arith}
+use lib.ListN.{length}
 use Prim.Native.Nat.{_-_}
 use borrow.Author.Needs.{needs}
-use lib.ListN.{length}
-use Rattle.word_cases.proofs.prefixes.Statement.{statement}
-use Rattle.word_cases.proofs.prefixes.Tie as tie
+use Rattle.word_cases.proofs.show_fronts.Statement.{statement}
+use Rattle.word_cases.proofs.show_fronts.Tie as tie
 
 abbrev Inv-loop : tie.InvT-loop
 Inv-loop label text first step end₀ t6 t7 end = Unit {0}
 
 abbrev μ-loop : tie.MeasureT-loop
 μ-loop label text first step end₀ t6 t7 end = length text - end
+
+returns : tie.Need-returns Inv-loop μ-loop
+returns c = search needs
 
 loop-holds : tie.Need-loop-holds Inv-loop μ-loop
 loop-holds c = search needs
@@ -31,17 +31,17 @@ number-requires c κs = search needs
 slice-aggregate-show : tie.Need-slice-aggregate-show Inv-loop μ-loop
 slice-aggregate-show c = search needs
 
-slice-aggregate-show-2 : tie.Need-slice-aggregate-show-2 Inv-loop μ-loop
-slice-aggregate-show-2 c = rw length-take (omega (arith, c .before .before .before .before .before .before .loop-test .taken))
+part-requires : tie.Need-part-requires Inv-loop μ-loop
+part-requires c κs = search needs
 
 show-requires : tie.Need-show-requires Inv-loop μ-loop
 show-requires c κs = search needs
 
-sub-if1 : tie.Need-sub-if1 Inv-loop μ-loop
-sub-if1 c = search needs
+sub-if2 : tie.Need-sub-if2 Inv-loop μ-loop
+sub-if2 c = search needs
 
-returns : tie.Need-returns Inv-loop μ-loop
-returns c = search needs
+returns-2 : tie.Need-returns-2 Inv-loop μ-loop
+returns-2 c = search needs
 
 add-end : tie.Need-add-end Inv-loop μ-loop
 add-end c = search needs
@@ -52,26 +52,27 @@ loop-less c = search needs
 loop-again : tie.Need-loop-again Inv-loop μ-loop
 loop-again c = search needs
 
-returns-2 : tie.Need-returns-2 Inv-loop μ-loop
-returns-2 c = search needs
+returns-3 : tie.Need-returns-3 Inv-loop μ-loop
+returns-3 c = search needs
 
-pub prefixes-spec : {M : Type 1} → statement M
-prefixes-spec =
+pub show-fronts-spec : {M : Type 1} → statement M
+show-fronts-spec =
     tie.close
     (tie.spec
     Inv-loop
     μ-loop
+    returns
     loop-holds
     say-requires
     slice-aggregate-say
     say-requires-2
     number-requires
     slice-aggregate-show
-    slice-aggregate-show-2
+    part-requires
     show-requires
-    sub-if1
-    returns
+    sub-if2
+    returns-2
     add-end
     loop-less
     loop-again
-    returns-2)
+    returns-3)
