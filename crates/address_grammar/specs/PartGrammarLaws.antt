@@ -11,8 +11,10 @@ use lib.ListN.{length, take, drop, getD, length-append, length-drop, take-append
 use lib.Seq.{drop-cons, drop-drop, drop-append-seam, drop-at, take-add, take-nil, take-append-seam, length-take-le}
 use mir.Facts.{and-yes, ltb-yes, leb-yes, eqb-no}
 use Rattle.lists.specs.Byte.{isAscii}
-use Rattle.lists.specs.Lists.{cond-has, all, nonempty}
-use Rattle.lists.specs.Run.{run, run-le, run-all}
+use Rattle.lists.specs.Lists.{all, nonempty}
+use Rattle.lists.specs.ListsLaws.{cond-has}
+use Rattle.lists.specs.Run.{run}
+use Rattle.lists.specs.RunLaws.{run-le, run-all}
 use Rattle.line.specs.Line.{blank}
 use Rattle.address.specs.declared.Scan.{Scan}
 use Rattle.address.specs.declared.Scan.the-variants.{To, Stop}

@@ -9,7 +9,8 @@ use lib.Dec.{T, leb, ltb, eqb, eqb→eq}
 use lib.ListN.{length, take, drop, getD}
 use mir.Facts.{and-yes, yes-and, ltb-yes, ltb-no}
 use Rattle.lists.specs.Byte.{isAscii}
-use Rattle.lists.specs.Lists.{yes-true, true-yes, cond-has, all, all-append}
+use Rattle.lists.specs.Lists.{all}
+use Rattle.lists.specs.ListsLaws.{yes-true, true-yes, cond-has, all-append}
 use Rattle.lists.specs.Run.{run}
 use Rattle.utf8.specs.Utf8.{utf8}
 use Rattle.line.specs.Line.{blank}

@@ -10,7 +10,8 @@ use lib.Dec.{leb, ltb, eqb, eqb→eq}
 use mir.Facts.{ltb-yes, eqb-no}
 use lib.ListN.{length, take, drop, getD, length-drop, length-take, length-append}
 use Rattle.lists.specs.Byte.{isAscii}
-use Rattle.lists.specs.Lists.{all, cond-has}
+use Rattle.lists.specs.Lists.{all}
+use Rattle.lists.specs.ListsLaws.{cond-has}
 use Rattle.lists.specs.Run.{run}
 use Rattle.line.specs.Line.{blank}
 use Rattle.header.specs.Fields.{nameOf, textOf}

@@ -11,8 +11,10 @@ use lib.Seq.{drop-drop, take-all, take-add}
 use mir.Facts.{and-yes, yes-and, ltb-yes, ltb-no, leb-yes, leb-no}
 use borrow.Author.Tests.{ne-eqb}
 use Rattle.lists.specs.Byte.{isAscii}
-use Rattle.lists.specs.Lists.{by-test, yes-true, true-yes, no-false, cond-has, all, all-append, all-left, all-right, all-weaken, joined}
-use Rattle.lists.specs.Run.{run, run-all, run-after, run-le}
+use Rattle.lists.specs.Lists.{all, joined}
+use Rattle.lists.specs.ListsLaws.{by-test, yes-true, true-yes, no-false, cond-has, all-append, all-left, all-right, all-weaken}
+use Rattle.lists.specs.Run.{run}
+use Rattle.lists.specs.RunLaws.{run-all, run-after, run-le}
 use Rattle.utf8.specs.Utf8.{utf8, chars, charsAfter, isChar}
 use Rattle.utf8.specs.Utf8Laws.{chars-joined, char-some, char-high, utf8-of, utf8-right, utf8-append, utf8-char, utf8-ascii, utf8-cut}
 use Rattle.line.specs.Line.{blank}

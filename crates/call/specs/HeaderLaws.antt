@@ -10,7 +10,8 @@ use mir.Facts.{and-yes}
 use Rattle.buffer.specs.Buffer.{Wrote, Appended, AppendedCapped, Reached, greatest}
 use Rattle.buffer.specs.BufferLaws.{wrote-nothing, appended-of, reached-start, reached-then, reached-end, length-reached, reached-within}
 use Rattle.lists.specs.Byte.{isAscii}
-use Rattle.lists.specs.Lists.{all, joined, cond-has, true-yes}
+use Rattle.lists.specs.Lists.{all, joined}
+use Rattle.lists.specs.ListsLaws.{cond-has, true-yes}
 use Rattle.letter_case.specs.LetterCase.{bytes}
 use Rattle.encoded_word.specs.Segments.{Segment, rendered}
 use Rattle.encoded_word.specs.SegmentsLaws.{rendered-append}

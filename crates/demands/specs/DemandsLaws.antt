@@ -9,7 +9,8 @@ use lib.ListN.{length, drop}
 use mir.Facts.{ltb-yes, ltb-no, yes-and}
 use Rattle.lists.specs.Byte.{isAscii}
 use Rattle.utf8.specs.Utf8.{utf8}
-use Rattle.lists.specs.Lists.{by-test, all, all-append, joined}
+use Rattle.lists.specs.Lists.{all, joined}
+use Rattle.lists.specs.ListsLaws.{by-test, all-append}
 use Rattle.buffer.specs.Buffer.{overlay}
 use Rattle.buffer.specs.BufferLaws.{length-overlay, overlay-front, overlay-past}
 use Rattle.encoded_word.specs.Row.{row}

@@ -8,7 +8,8 @@ use native.Mathlib.Omega.{arith}
 use lib.ListN.{length, length-append, length-map}
 use lib.Dec.{T, leb→le, le→leb, lit≤}
 use mir.Facts.{and-yes}
-use Rattle.lists.specs.Lists.{all, all-append, all-joined, all-mem, nonempty, joined, joined-append, joined-map}
+use Rattle.lists.specs.Lists.{all, nonempty, joined}
+use Rattle.lists.specs.ListsLaws.{all-append, all-joined, all-mem, joined-append, joined-map}
 use Rattle.lists.specs.Byte.{isByte}
 use Rattle.utf8.specs.Utf8.{isChar, chars, utf8}
 use Rattle.utf8.specs.Utf8Laws.{chars-joined, chars-of, utf8-of, utf8-bytes, char-length}

@@ -8,8 +8,9 @@ use native.Mathlib.Omega.{arith}
 use lib.Dec.{T, eqb, eqb→eq}
 use lib.ListN.{drop}
 use mir.Facts.{and-yes, no-eqb, eqb-no}
-use Rattle.lists.specs.Lists.{cond-yes, cond-no}
-use Rattle.lists.specs.Byte.{within, within-low, within-high, to-within}
+use Rattle.lists.specs.ListsLaws.{cond-yes, cond-no}
+use Rattle.lists.specs.Byte.{within}
+use Rattle.lists.specs.ByteLaws.{within-low, within-high, to-within}
 use Rattle.encoded_word.specs.Reading.{Word, standing, wordBytes, opening, closing, State, role, hexValue, stepBetween, stepOpens, stepInWord, stepDigit, stepSecond, step, reading, finish, wordsOf}
 use Rattle.encoded_word.specs.Reading.State.{fault, between, afterCr, opens, inWord, afterEquals, afterDigit, closes}
 use Rattle.encoded_word.specs.Reading.Role.{itself}

@@ -8,8 +8,10 @@ use native.Mathlib.Nat.{div-add-mod'}
 use native.Mathlib.Omega.{arith}
 use lib.Dec.{T, eqb, eqb→eq, ltb→lt}
 use mir.Facts.{and-yes}
-use Rattle.lists.specs.Lists.{by-test, all}
-use Rattle.lists.specs.Byte.{below, implies, isByte, within, within-low, within-high}
+use Rattle.lists.specs.Lists.{all}
+use Rattle.lists.specs.ListsLaws.{by-test}
+use Rattle.lists.specs.Byte.{isByte, within}
+use Rattle.lists.specs.ByteLaws.{below, implies, within-low, within-high}
 use Rattle.encoded_word.specs.Spelling.{bare, hexDigit, spellByte, spell}
 use Rattle.encoded_word.specs.SpellingLaws.{spell-bare, spell-space, spell-hex}
 use Rattle.encoded_word.specs.Reading.{Word, standing, hexValue, wordsOf, textOf, readsAs}

@@ -6,8 +6,10 @@ use Prim.Native.Nat.{ℕ, _+_, _/_, _%_, _<_}
 use native.Mathlib.Omega.{arith}
 use lib.Dec.{T, ltb→lt}
 use mir.Facts.{and-yes, yes-and}
-use Rattle.lists.specs.Byte.{isByte, isAscii, below}
-use Rattle.lists.specs.Lists.{all, all-append, all-joined, all-mem, joined, joined-map}
+use Rattle.lists.specs.Byte.{isByte, isAscii}
+use Rattle.lists.specs.ByteLaws.{below}
+use Rattle.lists.specs.Lists.{all, joined}
+use Rattle.lists.specs.ListsLaws.{all-append, all-joined, all-mem, joined-map}
 use Rattle.utf8.specs.Utf8.{chars, utf8}
 use Rattle.utf8.specs.Utf8Laws.{chars-joined, utf8-bytes}
 use Rattle.encoded_word.specs.Spelling.{bare, hexDigit, spellByte, spell}

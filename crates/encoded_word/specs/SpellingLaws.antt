@@ -9,8 +9,9 @@ use lib.ListN.{length, drop, getD, length-append, drop-of-length-le}
 use lib.Seq.{drop-cons}
 use lib.Dec.{T, eqb, eqb→eq, lit≤}
 use mir.Facts.{and-yes, no-eqb}
-use Rattle.lists.specs.Lists.{by-test, cond-yes, cond-no, all, joined, joined-append}
-use Rattle.lists.specs.Byte.{within-low, within-high, below, implies}
+use Rattle.lists.specs.Lists.{all, joined}
+use Rattle.lists.specs.ListsLaws.{by-test, cond-yes, cond-no, joined-append}
+use Rattle.lists.specs.ByteLaws.{within-low, within-high, below, implies}
 use Rattle.encoded_word.specs.Spelling.{bare, high, escape, spellByte, spell}
 
 pub spell-bare : (b : ℕ) → T (bare b) → spellByte b ≡ b ∷ []

@@ -11,8 +11,9 @@ use lib.Seq.{drop-cons}
 use lib.Dec.{T, leb, ltb, eqb, eqb→eq, leb→le, le→leb, lit≤, lt→ltb}
 use mir.Facts.{and-yes, yes-and, leb-yes, leb-no, ltb-yes, ltb-no}
 use borrow.Author.Tests.{le-leb, lt-leb, leb-true, ltb-true, eqb-true, eqb-false, not-true}
-use Rattle.lists.specs.Lists.{by-test, cond-yes, cond-no, all, all-weaken, joined, joined-append, nonempty}
-use Rattle.lists.specs.Byte.{to-within}
+use Rattle.lists.specs.Lists.{all, joined, nonempty}
+use Rattle.lists.specs.ListsLaws.{by-test, cond-yes, cond-no, all-weaken, joined-append}
+use Rattle.lists.specs.ByteLaws.{to-within}
 use Rattle.utf8.specs.Utf8.{charLen, charsAfter, chars}
 use Rattle.buffer.specs.Buffer.{Wrote, Appended, AppendedCapped, Reached, greatest}
 use Rattle.buffer.specs.BufferLaws.{overlay-front, wrote-from, appended-from, appended-of, appended-then, length-appended, reached-then, reached-last}

@@ -9,7 +9,7 @@ use lib.ListN.{length, take, length-take, length-append}
 use lib.Seq.{take-length, length-take-le}
 use mir.Facts.{leb-yes}
 use borrow.Author.Tests.{le-leb}
-use Rattle.lists.specs.Lists.{cond-has}
+use Rattle.lists.specs.ListsLaws.{cond-has}
 use Rattle.buffer.specs.Buffer.{Wrote, Appended, AppendedCapped}
 use Rattle.buffer.specs.BufferLaws.{appended-from, appended-of, appended-then, wrote-from}
 use Rattle.encoded_word.specs.Row.{row}

@@ -6,9 +6,11 @@ use Prim.Native.Nat.{ℕ}
 use native.Mathlib.Omega.{arith}
 use lib.Dec.{T, lt→ltb}
 use mir.Facts.{and-yes, yes-and}
-use Rattle.lists.specs.Byte.{isAscii, within, within-high}
-use Rattle.lists.specs.Lists.{cond-has, yes-true, all, all-append, all-weaken, joined}
-use Rattle.lists.specs.Run.{run-all}
+use Rattle.lists.specs.Byte.{isAscii, within}
+use Rattle.lists.specs.ByteLaws.{within-high}
+use Rattle.lists.specs.Lists.{all, joined}
+use Rattle.lists.specs.ListsLaws.{cond-has, yes-true, all-append, all-weaken}
+use Rattle.lists.specs.RunLaws.{run-all}
 use Rattle.utf8.specs.Utf8.{utf8}
 use Rattle.encoded_word.specs.Row.{row}
 use Rattle.encoded_word.specs.Demand3.{Demand3}

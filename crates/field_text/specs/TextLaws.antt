@@ -10,8 +10,10 @@ use lib.Dec.{T, eqb, eqb→eq}
 use lib.ListN.{length, take, drop, getD, length-append, length-take, length-drop, take-append-drop, drop-of-length-le, List·getD-eq-default}
 use lib.Seq.{drop-cons, drop-drop, getD-drop, take-suc, take-all, take-add}
 use mir.Facts.{and-yes}
-use Rattle.lists.specs.Lists.{by-test, cond-has, yes-true, true-yes, no-false, all}
-use Rattle.lists.specs.Run.{run, run-le, run-all}
+use Rattle.lists.specs.Lists.{all}
+use Rattle.lists.specs.ListsLaws.{by-test, cond-has, yes-true, true-yes, no-false}
+use Rattle.lists.specs.Run.{run}
+use Rattle.lists.specs.RunLaws.{run-le, run-all}
 use Rattle.buffer.specs.Buffer.{Wrote, AppendedCapped, Reached, greatest}
 use Rattle.buffer.specs.BufferLaws.{overlay-front, length-wrote, appended-of, reached-start, reached-then, reached-within, reached-end, length-reached, wrote-from, wrote-nothing}
 use Rattle.encoded_word.specs.Row.{row, bounded}

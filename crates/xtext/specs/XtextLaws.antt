@@ -11,8 +11,10 @@ use Rattle.address.specs.TakenLaws.{ascii-address-bytes}
 use lib.ListN.{length, take, drop, getD, length-drop, drop-of-length-le, List·getD-eq-default}
 use lib.Seq.{drop-drop, getD-drop}
 use mir.Facts.{and-yes}
-use Rattle.lists.specs.Lists.{by-test, cond-yes, cond-no, cond-has, yes-true, no-false, true-yes, all}
-use Rattle.lists.specs.Byte.{within, within-low, within-high}
+use Rattle.lists.specs.Lists.{all}
+use Rattle.lists.specs.ListsLaws.{by-test, cond-yes, cond-no, cond-has, yes-true, no-false, true-yes}
+use Rattle.lists.specs.Byte.{within}
+use Rattle.lists.specs.ByteLaws.{within-low, within-high}
 use Rattle.buffer.specs.Buffer.{Wrote, AppendedCapped, Reached, greatest}
 use Rattle.buffer.specs.BufferLaws.{reached-start, reached-then, reached-end, reached-within, length-reached, appended-of, wrote-from, overlay-front}
 use Rattle.address.specs.Address.{isAsciiAddress}

@@ -1,6 +1,6 @@
 use Rattle.line.specs.LineLaws.{notCr}
 use Rattle.lists.specs.Lists.{all}
-use Rattle.lists.specs.Run.{Tested, tested-none, tested-more, tested-all}
+use Rattle.lists.specs.RunLaws.{Tested, tested-none, tested-more, tested-all}
 use lib.Seq.{take-length}
 use lib.ListN.{length}
 use native.Mathlib.Omega.{arith}
