@@ -51,8 +51,8 @@ unfoldable pub role : ℕ → Role
 role b = cond (eqb b 95) underscore (cond (eqb b 61) equals (cond (eqb b 63) question (cond (within 33 126 b) itself other)))
 
 -- the value of a hex digit in any case: 0 to 9, A to F, a to f
-unfoldable pub hexValue : ℕ → Option ℕ
-hexValue b = cond (within 48 57 b) (some (b - 48)) (cond (within 65 70 b) (some (b - 55)) (cond (within 97 102 b) (some (b - 87)) none))
+unfoldable pub anyCaseValue : ℕ → Option ℕ
+anyCaseValue b = cond (within 48 57 b) (some (b - 48)) (cond (within 65 70 b) (some (b - 55)) (cond (within 97 102 b) (some (b - 87)) none))
 
 -- "Between words: CRLF and spaces add nothing. `=?UTF-8?Q?` opens a word; straight after the `?=` of another it is a fault."
 -- 32 is the space, 13 is CR, 61 is `=`.
@@ -95,8 +95,8 @@ step (between straight ws) b = stepBetween straight ws b
 step (afterCr ws) b = cond (eqb b 10) (between false ws) fault
 step (opens more ws) b = stepOpens more ws b
 step (inWord ws w) b = stepInWord (role b) ws w b
-step (afterEquals ws w) b = stepDigit (hexValue b) ws w b
-step (afterDigit ws w first high) b = stepSecond (hexValue b) ws w first high b
+step (afterEquals ws w) b = stepDigit (anyCaseValue b) ws w b
+step (afterDigit ws w first high) b = stepSecond (anyCaseValue b) ws w first high b
 step (closes ws w) b = cond (eqb b 61) (between true (ws ++ (w ∷ []))) fault
 
 -- the bytes of a row read one after another

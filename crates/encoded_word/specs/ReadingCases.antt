@@ -8,8 +8,9 @@ use lib.ListN.{take, replicate}
 use Rattle.lists.specs.Lists.{joined}
 use Rattle.utf8.specs.Utf8.{leadingOnes, charLen, charsAfter, chars}
 use Rattle.cut.specs.Cut.{cut}
-use Rattle.encoded_word.specs.Spelling.{bare, hexDigit, spellByte, spell}
-use Rattle.encoded_word.specs.Reading.{opening, closing, role, hexValue, step, reading, wordsOf, readsAs}
+use Rattle.hex.specs.Hex.{hexDigit}
+use Rattle.encoded_word.specs.Spelling.{bare, spellByte, spell}
+use Rattle.encoded_word.specs.Reading.{opening, closing, role, anyCaseValue, step, reading, wordsOf, readsAs}
 use Rattle.encoded_word.specs.Row.{runs, word, lines, rowIn, row}
 
 -- a row, and the text that it reads back as, or none
@@ -103,5 +104,5 @@ cases =
     ∷ []
 
 pub cases-right : map (λ (c : Case). readsAs (c .given)) cases ≡ map (λ (c : Case). c .answer) cases
-unfolding readsAs wordsOf reading step role hexValue rowIn runs cut lines word spell spellByte bare hexDigit chars charsAfter charLen leadingOnes leadingZeros
+unfolding readsAs wordsOf reading step role anyCaseValue rowIn runs cut lines word spell spellByte bare hexDigit chars charsAfter charLen leadingOnes leadingZeros
 cases-right = refl

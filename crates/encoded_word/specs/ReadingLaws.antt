@@ -12,9 +12,10 @@ use Rattle.lists.specs.Lists.{all}
 use Rattle.lists.specs.ListsLaws.{by-test}
 use Rattle.lists.specs.Byte.{isByte, within}
 use Rattle.lists.specs.ByteLaws.{below, implies, within-low, within-high}
-use Rattle.encoded_word.specs.Spelling.{bare, hexDigit, spellByte, spell}
+use Rattle.hex.specs.Hex.{hexDigit}
+use Rattle.encoded_word.specs.Spelling.{bare, spellByte, spell}
 use Rattle.encoded_word.specs.SpellingLaws.{spell-bare, spell-space, spell-hex}
-use Rattle.encoded_word.specs.Reading.{Word, standing, hexValue, wordsOf, textOf, readsAs}
+use Rattle.encoded_word.specs.Reading.{Word, standing, anyCaseValue, wordsOf, textOf, readsAs}
 use Rattle.encoded_word.specs.Layout.{Adds, AllAdd, LaidAfter}
 use Rattle.encoded_word.specs.Layout.LaidAfter.{empty, space, crlf}
 use Rattle.encoded_word.specs.LayoutLaws.{laid-reads}
@@ -38,9 +39,9 @@ is-value none n t = absurd t
 is-value (some m) n t = ap some (eqb→eq m n t)
 
 -- a hex digit that we write reads as its value
-pub hex-back : (d : ℕ) → d < 16 → hexValue (hexDigit d) ≡ some d
-unfolding isValue hexValue hexDigit
-hex-back d h = is-value _ d (below (λ k. isValue (hexValue (hexDigit k)) k) 16 tt d h)
+pub hex-back : (d : ℕ) → d < 16 → anyCaseValue (hexDigit d) ≡ some d
+unfolding isValue anyCaseValue hexDigit
+hex-back d h = is-value _ d (below (λ k. isValue (anyCaseValue (hexDigit k)) k) 16 tt d h)
 
 -- our spelling of a byte adds it
 spelling-adds : (b : ℕ) → b < 256 → Adds (spellByte b) b

@@ -2,9 +2,10 @@
 -- two uppercase hex digits." Assumes nothing.
 use mathlib.Core.Bool.{Bool, cond, _||_}
 use mathlib.Core.List.{List, [], _∷_, _++_}
-use Prim.Native.Nat.{ℕ, _+_, _/_, _%_}
-use lib.Dec.{eqb, ltb}
+use Prim.Native.Nat.{ℕ, _/_, _%_}
+use lib.Dec.{eqb}
 use Rattle.lists.specs.Byte.{within}
+use Rattle.hex.specs.Hex.{hexDigit}
 
 -- the bytes that stand for themselves: letters, digits and !*+-/
 unfoldable pub bare : ℕ → Bool
@@ -13,10 +14,6 @@ bare b = within 65 90 b || within 97 122 b || within 48 57 b || eqb b 33 || eqb 
 -- a byte that is not ASCII
 abbrev pub high : ℕ → Bool
 high b = within 128 255 b
-
--- an uppercase hex digit: 0 to 9, A to F
-unfoldable pub hexDigit : ℕ → ℕ
-hexDigit d = cond (ltb d 10) (d + 48) (d + 55)
 
 -- `=` (61) and two uppercase hex digits
 abbrev pub escape : ℕ → List ℕ

@@ -8,7 +8,8 @@ use lib.ListN.{length, take, drop, getD}
 use Rattle.lists.specs.Lists.{all}
 use Rattle.utf8.specs.Utf8.{chars, charLen}
 use Rattle.buffer.specs.Buffer.{Appended, Reached}
-use Rattle.encoded_word.specs.Spelling.{bare, high, hexDigit, spellByte, spell}
+use Rattle.hex.specs.Hex.{hexDigit}
+use Rattle.encoded_word.specs.Spelling.{bare, high, spellByte, spell}
 use Rattle.encoded_word.specs.Reading.{opening, closing}
 
 -- how many characters of a word some bytes take, and a byte takes

@@ -11,16 +11,17 @@ use lib.Seq.{drop-cons}
 use lib.Dec.{T, leb, ltb, eqb, eqb→eq, leb→le, le→leb, lit≤, lt→ltb}
 use mir.Facts.{and-yes, yes-and, leb-yes, leb-no, ltb-yes, ltb-no}
 use borrow.Author.Tests.{le-leb, lt-leb, leb-true, ltb-true, eqb-true, eqb-false, not-true}
-use Rattle.lists.specs.Lists.{all, joined, nonempty}
+use Rattle.lists.specs.Lists.{all, joined}
 use Rattle.lists.specs.ListsLaws.{by-test, cond-yes, cond-no, all-weaken, joined-append}
 use Rattle.lists.specs.ByteLaws.{to-within}
 use Rattle.utf8.specs.Utf8.{charLen, charsAfter, chars}
 use Rattle.buffer.specs.Buffer.{Wrote, Appended, AppendedCapped, Reached, greatest}
 use Rattle.buffer.specs.BufferLaws.{overlay-front, wrote-from, appended-from, appended-of, appended-then, length-appended, reached-then, reached-last}
-use Rattle.utf8.specs.Utf8Laws.{char-len-some, char-len-le, chars-cons, chars-at, chars-end, chars-nil, chars-joined, chars-some}
+use Rattle.utf8.specs.Utf8Laws.{char-len-some, char-len-le, chars-cons, chars-at, chars-end, chars-nil, chars-joined}
 use Rattle.cut.specs.Cut.{cut}
 use Rattle.cut.specs.CutLaws.{cut-more, cut-next}
-use Rattle.encoded_word.specs.Spelling.{bare, high, hexDigit, escape, spellByte, spell}
+use Rattle.hex.specs.Hex.{hexDigit}
+use Rattle.encoded_word.specs.Spelling.{bare, high, escape, spellByte, spell}
 use Rattle.encoded_word.specs.SpellingLaws.{spell-append, spell-bare, spell-space, spell-hex, spell-one, spell-at, spell-end, length-spell, escapes, spell-high, length-escapes}
 use Rattle.encoded_word.specs.Reading.{closing}
 use Rattle.encoded_word.specs.Row.{fitsRoom, runs, word, lines, rowIn, bounded}

@@ -5,7 +5,8 @@ ghost use Prim.Native.Nat.{_+_, _*_, _≤_, _<_, min};
 ghost use lib.ListN.{length, getD};
 ghost use Rattle.utf8.specs.Utf8.{charLen};
 ghost use Rattle.buffer.specs.Buffer.{Appended};
-ghost use Rattle.encoded_word.specs.Spelling.{hexDigit, escape, spellByte, spell};
+ghost use Rattle.hex.specs.Hex.{hexDigit};
+ghost use Rattle.encoded_word.specs.Spelling.{escape, spellByte, spell};
 ghost use Rattle.encoded_word.specs.Stream.{firstChar, firstChars, hexDigits, byteCost, cost, HighChar};
 
 fn wide(b: u8) -> usize

@@ -12,7 +12,8 @@ use Rattle.utf8.specs.Utf8.{leadingOnes, charLen, secondLow, secondHigh, isChar
 use Rattle.address.specs.declared.Scan.{Scan}
 use Rattle.address.specs.declared.Scan.the-variants.{To, Stop}
 use Rattle.address.specs.Address.{later, byteThen, scanThen, isAtext, isAtomByte, isQuotedByte, isLiteralByte, dotAtomFrom, dotAtomScan, quotedFrom, quotedScan, literalFrom, literalScan, domainScan, localScan, addressScan, isAddress, isAsciiAddress}
-use Rattle.xtext.specs.Xtext.{isXchar, isHexDigit, hexValue, isHexchar, unitLen, unitByte, decodingAfter, decoding, isXtext, decoded, xtextDecode, isAltAddress, altAddress}
+use Rattle.xtext.specs.Xtext.{isXchar, isHexchar, unitLen, unitByte, decodingAfter, decoding, isXtext, decoded, xtextDecode, isAltAddress, altAddress}
+use Rattle.hex.specs.Hex.{isHexDigit, hexValue}
 
 -- the bytes of an ASCII string
 abbrev bytes : String → List ℕ

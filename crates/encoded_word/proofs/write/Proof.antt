@@ -1,5 +1,6 @@
 use Rattle.encoded_word.specs.Stream.{from, firstChar, firstChars, hexDigits}
-use Rattle.encoded_word.specs.Spelling.{bare, hexDigit}
+use Rattle.hex.specs.Hex.{hexDigit}
+use Rattle.encoded_word.specs.Spelling.{bare}
 use mathlib.Core.Path.{refl}
 use Rattle.buffer.specs.BufferLaws.{wrote-nothing}
 use Rattle.encoded_word.specs.StreamLaws.{row-long, bounded-short}
