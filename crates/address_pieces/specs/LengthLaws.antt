@@ -16,7 +16,7 @@ use Rattle.lists.specs.Run.{run}
 use Rattle.line.specs.Line.{blank}
 use Rattle.header.specs.Fields.{nameOf, textOf}
 use Rattle.letter_case.specs.LetterCase.{bytes}
-use Rattle.encoded_word.specs.StreamLaws.{length-row-le}
+use Rattle.row.specs.RowLaws.{length-row-le}
 use Rattle.encoded_word.specs.SegmentsLaws.{rendered-append}
 use Rattle.encoded_word.specs.Segments.{Segment, bytesOf, rendered}
 use Rattle.encoded_word.specs.Segments.Segment.{raw, words}

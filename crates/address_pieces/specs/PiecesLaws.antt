@@ -15,8 +15,8 @@ use Rattle.lists.specs.Lists.{all}
 use Rattle.lists.specs.Run.{run}
 use Rattle.buffer.specs.Buffer.{AppendedCapped, greatest}
 use Rattle.line.specs.Line.{blank}
-use Rattle.encoded_word.specs.Row.{row, bounded}
-use Rattle.encoded_word.specs.StreamLaws.{bounded-short}
+use Rattle.row.specs.Row.{row, bounded}
+use Rattle.row.specs.RowLaws.{bounded-short}
 use Rattle.encoded_word.specs.Segments.{Segment, bytesOf, rendered}
 use Rattle.encoded_word.specs.Segments.Segment.{raw, words}
 use Rattle.encoded_word.specs.SegmentsLaws.{rendered-append}

@@ -9,7 +9,7 @@ use Rattle.buffer.specs.Buffer.{Wrote, Appended, AppendedCapped, greatest}
 use Rattle.buffer.specs.BufferLaws.{appended-from, appended-of, appended-then, capped-then, length-wrote, length-added, wrote-from, wrote-of}
 use Rattle.header_line.specs.Lines.{nameLen}
 use Rattle.header.specs.Fields.{nameOf, textOf}
-use Rattle.encoded_word.specs.Row.{row}
+use Rattle.row.specs.Row.{row}
 use Rattle.encoded_word.specs.SegmentsLaws.{rendered-append}
 use Rattle.encoded_word.specs.Segments.{rendered, bytesOf}
 use Rattle.field.specs.Field.{encodedField, boundedField}

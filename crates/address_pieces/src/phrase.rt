@@ -5,7 +5,7 @@ ghost use mathlib.Core.Bool.{false};
 ghost use Prim.Native.Nat.{_+_, _≤_, _<_};
 ghost use lib.ListN.{length, drop};
 ghost use Rattle.buffer.specs.Buffer.{Wrote, AppendedCapped};
-ghost use Rattle.encoded_word.specs.Row.{row};
+ghost use Rattle.row.specs.Row.{row};
 ghost use Rattle.encoded_word.specs.Segments.{rendered};
 ghost use Rattle.address_pieces.specs.Pieces.{piece, wordSize, wordsFrom, wordsOf, afterSpaces, kept, escapes, unquoted, phraseText, phrasePieces};
 use crate::piece::add_piece;

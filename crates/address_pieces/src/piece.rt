@@ -2,7 +2,7 @@
 ghost use Prim.Native.Nat.{_≤_};
 ghost use lib.ListN.{length};
 ghost use Rattle.buffer.specs.Buffer.{AppendedCapped};
-ghost use Rattle.encoded_word.specs.Row.{row};
+ghost use Rattle.row.specs.Row.{row};
 ghost use Rattle.encoded_word.specs.Segments.{bytesOf, rendered};
 ghost use Rattle.address_pieces.specs.Pieces.{piece, inAngles, removed};
 

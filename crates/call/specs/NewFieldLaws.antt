@@ -6,8 +6,8 @@ use native.Mathlib.Omega.{arith}
 use lib.ListN.{length, take, length-append}
 use Rattle.buffer.specs.Buffer.{Wrote, AppendedCapped, greatest}
 use Rattle.buffer.specs.BufferLaws.{capped-none, capped-then, length-added, overlay-front, length-wrote, wrote-of}
-use Rattle.encoded_word.specs.Row.{row, bounded}
-use Rattle.encoded_word.specs.StreamLaws.{bounded-short, length-row-le}
+use Rattle.row.specs.Row.{row, bounded}
+use Rattle.row.specs.RowLaws.{bounded-short, length-row-le}
 use Rattle.encoded_word.specs.Segments.{rendered}
 use Rattle.call.specs.OutgoingHeader.{newField}
 

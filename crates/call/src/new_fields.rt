@@ -2,7 +2,7 @@
 ghost use Prim.Native.Nat.{_≤_};
 ghost use lib.ListN.{length};
 ghost use Rattle.buffer.specs.Buffer.{AppendedCapped};
-ghost use Rattle.encoded_word.specs.Row.{row, bounded};
+ghost use Rattle.row.specs.Row.{row, bounded};
 ghost use Rattle.encoded_word.specs.Segments.{rendered};
 ghost use Rattle.call.specs.OutgoingHeader.{newField};
 

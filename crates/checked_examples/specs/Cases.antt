@@ -9,8 +9,8 @@ use Rattle.lists.specs.Run.{run}
 use Rattle.utf8.specs.Utf8.{leadingOnes, charLen, secondLow, secondHigh, isChar, charsAfter, chars, utf8}
 use Rattle.letter_case.specs.LetterCase.{bytes, lower, sameAnyCase}
 use Rattle.cut.specs.Cut.{cut}
-use Rattle.encoded_word.specs.Spelling.{bare, spellByte, spell}
-use Rattle.encoded_word.specs.Row.{runs, word, lines, rowIn, row}
+use Rattle.word_spelling.specs.Spelling.{bare, spellByte, spell}
+use Rattle.row.specs.Row.{runs, word, lines, rowIn, row}
 use Rattle.envelope.specs.Envelope.{checked, numberOf, placeOf, frontFault, thenNext, rcptFault, rcptsFrom, faultNumber}
 use Rattle.header_line.specs.Lines.{lineAnswer, checkedLines, lineByte, nameByte, nameLen, named, continuation, wellFormed, lineOk, linesFrom}
 use Rattle.line.specs.Line.{blank}

@@ -13,7 +13,7 @@ use Rattle.lists.specs.Lists.{all, joined}
 use Rattle.lists.specs.ListsLaws.{by-test, all-append}
 use Rattle.buffer.specs.Buffer.{overlay}
 use Rattle.buffer.specs.BufferLaws.{length-overlay, overlay-front, overlay-past}
-use Rattle.encoded_word.specs.Row.{row}
+use Rattle.row.specs.Row.{row}
 use Rattle.encoded_word.specs.Segments.{Segment, rendered, sound}
 use Rattle.encoded_word.specs.Segments.Segment.{raw, words}
 use Rattle.encoded_word.specs.SegmentsLaws.{rendered-append, rendered-ascii, words-demand-3}

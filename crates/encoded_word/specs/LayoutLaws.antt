@@ -11,7 +11,8 @@ use mir.Facts.{and-yes, no-eqb, eqb-no}
 use Rattle.lists.specs.ListsLaws.{cond-yes, cond-no}
 use Rattle.lists.specs.Byte.{within}
 use Rattle.lists.specs.ByteLaws.{within-low, within-high, to-within}
-use Rattle.encoded_word.specs.Reading.{Word, standing, wordBytes, opening, closing, State, role, anyCaseValue, stepBetween, stepOpens, stepInWord, stepDigit, stepSecond, step, reading, finish, wordsOf}
+use Rattle.encoded_word.specs.Reading.{Word, standing, wordBytes, State, role, anyCaseValue, stepBetween, stepOpens, stepInWord, stepDigit, stepSecond, step, reading, finish, wordsRead}
+use Rattle.row.specs.Row.{opening, closing}
 use Rattle.encoded_word.specs.Reading.State.{fault, between, afterCr, opens, inWord, afterEquals, afterDigit, closes}
 use Rattle.encoded_word.specs.Reading.Role.{itself}
 use Rattle.encoded_word.specs.Layout.{Adds, AllAdd, LaidAfter, Laid}
@@ -65,8 +66,8 @@ laid-finish vs (word {row} {w} h l) =
     rw (read-word vs w row h, laid-finish (vs ++ (w ∷ [])) l, append-assoc) refl
 
 -- a row laid out so reads as its words
-pub laid-reads : {row : List ℕ} {ws : List Word} → Laid row ws → wordsOf row ≡ some ws
-unfolding wordsOf
+pub laid-reads : {row : List ℕ} {ws : List Word} → Laid row ws → wordsRead row ≡ some ws
+unfolding wordsRead
 laid-reads l = laid-finish [] l
 
 -- ---- from the reading to the layout
@@ -201,6 +202,6 @@ back s [] ws e = back-end s ws e
 back s (b ∷ row) ws e = back-step row ws s b (back (step s b) row ws e)
 
 -- a row that reads is laid out so
-pub laid-out : (row : List ℕ) (ws : List Word) → wordsOf row ≡ some ws → Laid row ws
-unfolding wordsOf
+pub laid-out : (row : List ℕ) (ws : List Word) → wordsRead row ≡ some ws → Laid row ws
+unfolding wordsRead
 laid-out row ws e = let l = back (between false []) row ws e in rw (l .are) (l .laid)

@@ -8,6 +8,7 @@ use lib.Dec.{eqb}
 use lib.ListN.{drop}
 use Rattle.lists.specs.Byte.{within}
 use Rattle.lists.specs.Lists.{joined}
+use Rattle.row.specs.Row.{opening, closing}
 
 -- the bytes that stand in a word for one byte that it adds, and that byte
 abbrev pub Addition : Type 0
@@ -16,14 +17,6 @@ Addition = List ℕ × ℕ
 -- what a word adds, in order
 abbrev pub Word : Type 0
 Word = List Addition
-
--- `=?UTF-8?Q?`
-abbrev pub opening : List ℕ
-opening = 61 ∷ 63 ∷ 85 ∷ 84 ∷ 70 ∷ 45 ∷ 56 ∷ 63 ∷ 81 ∷ 63 ∷ []
-
--- `?=`
-abbrev pub closing : List ℕ
-closing = 63 ∷ 61 ∷ []
 
 -- The state of the reading, with the words closed so far and, in a word, what it has added so far. A row without a fault
 -- closes every word that it opens, so the words closed at its end are those that it opens.
@@ -116,8 +109,8 @@ finish (afterDigit ws w first high) = none
 finish (closes ws w) = none
 
 -- the words of a row of bytes, or none where it has a fault
-unfoldable pub wordsOf : List ℕ → Option (List Word)
-wordsOf row = finish (reading (between false []) row)
+unfoldable pub wordsRead : List ℕ → Option (List Word)
+wordsRead row = finish (reading (between false []) row)
 
 -- the bytes that a word adds
 abbrev pub added : Word → List ℕ
@@ -139,4 +132,4 @@ textOf ws = joined (map added ws)
 
 -- "A row with a fault reads back as no text; any other reads back as the bytes added, in order."
 unfoldable pub readsAs : List ℕ → Option (List ℕ)
-readsAs row = Option·map textOf (wordsOf row)
+readsAs row = Option·map textOf (wordsRead row)

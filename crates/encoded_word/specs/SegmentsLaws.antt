@@ -11,9 +11,8 @@ use Rattle.lists.specs.ListsLaws.{all-append, all-joined, all-mem, joined-map}
 use Rattle.utf8.specs.Utf8.{chars, utf8}
 use Rattle.utf8.specs.Utf8Laws.{chars-joined, utf8-bytes}
 use Rattle.hex.specs.Hex.{hexDigit}
-use Rattle.encoded_word.specs.Spelling.{bare, spellByte, spell}
-use Rattle.encoded_word.specs.Reading.{closing}
-use Rattle.encoded_word.specs.Row.{runs, word, lines, rowIn, row}
+use Rattle.word_spelling.specs.Spelling.{bare, spellByte, spell}
+use Rattle.row.specs.Row.{closing, runs, word, lines, rowIn, row}
 use Rattle.encoded_word.specs.Demand3.{Demand3}
 use Rattle.encoded_word.specs.Demand3Laws.{runs-joined, demand-3}
 use Rattle.encoded_word.specs.Segments.{Segment, bytesOf, rendered, sound}

@@ -12,8 +12,8 @@ use borrow.Author.Tests.{le-leb}
 use Rattle.lists.specs.ListsLaws.{cond-has}
 use Rattle.buffer.specs.Buffer.{Wrote, Appended, AppendedCapped}
 use Rattle.buffer.specs.BufferLaws.{appended-from, appended-of, appended-then, wrote-from}
-use Rattle.encoded_word.specs.Row.{row}
-use Rattle.encoded_word.specs.StreamLaws.{length-row-le}
+use Rattle.row.specs.Row.{row}
+use Rattle.row.specs.RowLaws.{length-row-le}
 use Rattle.encoded_word.specs.Segments.{rendered}
 use Rattle.header_line.specs.Lines.{nameLen}
 use Rattle.header.specs.Fields.{nameOf, valueOf, textOf}

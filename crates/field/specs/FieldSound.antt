@@ -12,7 +12,7 @@ use Rattle.lists.specs.Lists.{all, joined}
 use Rattle.lists.specs.ListsLaws.{cond-has, yes-true, all-append, all-weaken}
 use Rattle.lists.specs.RunLaws.{run-all}
 use Rattle.utf8.specs.Utf8.{utf8}
-use Rattle.encoded_word.specs.Row.{row}
+use Rattle.row.specs.Row.{row}
 use Rattle.encoded_word.specs.Demand3.{Demand3}
 use Rattle.encoded_word.specs.Segments.{Segment, rendered, sound}
 use Rattle.encoded_word.specs.Segments.Segment.{raw, words}

@@ -7,7 +7,7 @@ ghost use Prim.Native.Nat.{_≤_};
 ghost use lib.Dec.{leb};
 ghost use lib.ListN.{length};
 ghost use Rattle.buffer.specs.Buffer.{Wrote, AppendedCapped};
-ghost use Rattle.encoded_word.specs.Row.{row};
+ghost use Rattle.row.specs.Row.{row};
 ghost use Rattle.encoded_word.specs.Segments.{rendered};
 ghost use Rattle.header.specs.Fields.{textOf};
 ghost use Rattle.field.specs.Field.{prefix, encodedField, boundedField};

@@ -16,8 +16,8 @@ use Rattle.lists.specs.Run.{run}
 use Rattle.lists.specs.RunLaws.{run-le, run-all}
 use Rattle.buffer.specs.Buffer.{Wrote, AppendedCapped, Reached, greatest}
 use Rattle.buffer.specs.BufferLaws.{overlay-front, length-wrote, appended-of, reached-start, reached-then, reached-within, reached-end, length-reached, wrote-from, wrote-nothing}
-use Rattle.encoded_word.specs.Row.{row, bounded}
-use Rattle.encoded_word.specs.StreamLaws.{bounded-short, row-nil}
+use Rattle.row.specs.Row.{row, bounded}
+use Rattle.row.specs.RowLaws.{bounded-short, row-nil}
 use Rattle.header_line.specs.Lines.{nameLen}
 use Rattle.line.specs.Line.{blank}
 use Rattle.line.specs.Line.{crlf}

@@ -4,7 +4,7 @@ ghost use Prim.Native.Nat.{_≤_, _<_};
 ghost use lib.ListN.{length, drop};
 ghost use Rattle.lists.specs.Lists.{all};
 ghost use Rattle.buffer.specs.Buffer.{Wrote};
-ghost use Rattle.encoded_word.specs.Row.{row};
+ghost use Rattle.row.specs.Row.{row};
 ghost use Rattle.header.specs.Fields.{fold, unfoldedAfter, trimmed, textOf};
 ghost use Rattle.line.specs.LineLaws.{notCr};
 ghost use Rattle.field_text.specs.TextLaws.{BlankStep, TextStart, PieceEnd};
