@@ -6,7 +6,8 @@ use Prim.Native.Nat.{ℕ}
 use lib.Count.{leadingZeros}
 use lib.ListN.{take, replicate}
 use Rattle.lists.specs.Lists.{joined}
-use Rattle.utf8.specs.Utf8.{leadingOnes, charLen, charsAfter, chars}
+use Rattle.utf8.specs.Utf8.{leadingOnes, charLen, chars}
+use Rattle.lists.specs.CutBy.{cutAfter, cutBy}
 use Rattle.cut.specs.Cut.{cut}
 use Rattle.hex.specs.Hex.{hexDigit}
 use Rattle.word_spelling.specs.Spelling.{bare, spellByte, spell}
@@ -104,5 +105,5 @@ cases =
     ∷ []
 
 pub cases-right : map (λ (c : Case). readsAs (c .given)) cases ≡ map (λ (c : Case). c .answer) cases
-unfolding readsAs wordsRead reading step role anyCaseValue rowIn runs cut lines word spell spellByte bare hexDigit chars charsAfter charLen leadingOnes leadingZeros
+unfolding readsAs wordsRead reading step role anyCaseValue rowIn runs cut lines word spell spellByte bare hexDigit chars cutBy cutAfter charLen leadingOnes leadingZeros
 cases-right = refl

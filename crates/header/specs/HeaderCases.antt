@@ -7,7 +7,8 @@ use lib.Count.{leadingZeros}
 use lib.ListN.{replicate}
 use Rattle.lists.specs.Lists.{joined}
 use Rattle.lists.specs.Run.{run}
-use Rattle.utf8.specs.Utf8.{leadingOnes, charLen, charsAfter, chars, isChar, secondLow, secondHigh, utf8}
+use Rattle.utf8.specs.Utf8.{leadingOnes, charLen, chars, isChar, secondLow, secondHigh, utf8}
+use Rattle.lists.specs.CutBy.{cutAfter, cutBy}
 use Rattle.header_name.specs.Names.{six, addressNames, plainTextNames, heldNames, among, kindOf}
 use Rattle.letter_case.specs.LetterCase.{bytes, lower, sameAnyCase}
 use Rattle.header_line.specs.Lines.{lineByte, nameByte, nameLen, named, continuation, wellFormed, lineOk, linesFrom, checkedLines}
@@ -74,7 +75,7 @@ lineCases =
     ∷ []
 
 pub line-cases-right : AllRight lineCases
-unfolding bytes run crlf lineLen lineByte blank nameByte nameLen named continuation wellFormed lineOk linesFrom checkedLines utf8 isChar chars charsAfter charLen leadingOnes leadingZeros secondLow secondHigh
+unfolding bytes run crlf lineLen lineByte blank nameByte nameLen named continuation wellFormed lineOk linesFrom checkedLines utf8 isChar chars cutBy cutAfter charLen leadingOnes leadingZeros secondLow secondHigh
 line-cases-right = (refl, (refl, (refl, (refl, (refl, (refl, (refl, (refl, (refl, (refl, (refl, (refl, (refl, (refl, (refl, (refl, (refl, (refl, (refl, (refl, (refl, tt)))))))))))))))))))))
 
 abbrev pub fieldCases : List Case

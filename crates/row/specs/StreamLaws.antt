@@ -2,17 +2,17 @@
 use mathlib.Core.Path.{_≡_, refl, sym, ap, _∙_}
 use mathlib.Core.Bool.{Bool, true, false, cond}
 use mathlib.Core.List.{List, [], _∷_, _++_, append-assoc, append-nil, map}
-use Prim.Native.Nat.{ℕ, zero, suc, pred, _+_, _-_, _≤_, _<_, min}
+use Prim.Native.Nat.{ℕ, zero, suc, _+_, _-_, _≤_, _<_, min}
 use native.Mathlib.Numerals.{unary-clauses}
 use native.Mathlib.Omega.{arith}
 use lib.ListN.{length, take, drop, getD, length-append, length-take, length-drop}
 use lib.Dec.{T, leb, leb→le, le→leb, lit≤}
-use mir.Facts.{and-yes, yes-and, leb-yes, leb-no}
+use mir.Facts.{and-yes, leb-yes, leb-no}
 use borrow.Author.Tests.{le-leb, lt-leb}
 use Rattle.lists.specs.Lists.{all, joined}
 use Rattle.lists.specs.ListsLaws.{by-test, all-weaken, joined-append}
-use Rattle.utf8.specs.Utf8.{charLen, charsAfter, chars}
-use Rattle.utf8.specs.Utf8Laws.{char-len-some, char-len-le, chars-at, chars-end}
+use Rattle.utf8.specs.Utf8.{charLen, chars}
+use Rattle.utf8.specs.Utf8Laws.{chars-short, char-len-some, chars-at, chars-end}
 use Rattle.cut.specs.Cut.{cut}
 use Rattle.cut.specs.CutLaws.{cut-more, cut-next}
 use Rattle.word_spelling.specs.Spelling.{spellByte, spell, byteCost, cost}
@@ -116,20 +116,9 @@ module _ (room : ℕ) where
 -- ---- every character fits a word, UTF-8 or not
 
 -- a character by its first byte has at most 8 bytes
-after-fit : (k : ℕ) (text : List ℕ) → T (all (λ c. leb (cost c) 24) (charsAfter k text))
-unfolding charsAfter
-after-fit zero [] = tt
-after-fit (suc k) [] = tt
-after-fit (suc k) (b ∷ text) = after-fit k text
-after-fit zero (b ∷ text) =
-    let c = take (charLen b) (b ∷ text) in
-    yes-and (leb (cost c) 24) (all (λ c. leb (cost c) 24) (charsAfter (pred (charLen b)) text))
-    (le→leb (cost c) 24 (omega (arith, length-spell c, length-take (charLen b) (b ∷ text), char-len-le b)))
-    (after-fit (pred (charLen b)) text)
-
 pub chars-small : (text : List ℕ) → T (all (λ c. leb (cost c) 24) (chars text))
-unfolding chars
-chars-small text = after-fit 0 text
+chars-small text =
+    all-weaken (λ c. leb (length c) 8) (λ c. leb (cost c) 24) (λ c t. le→leb (cost c) 24 (omega (arith, length-spell c, leb-yes {a = length c} {b = 8} t))) (chars text) (chars-short text)
 
 -- so every character fits a word
 pub chars-fit : (text : List ℕ) → T (all (λ c. leb (cost c) 63) (chars text))
