@@ -10,7 +10,8 @@ use lib.ListN.{length, take, drop, getD, length-append}
 use lib.Seq.{drop-append-seam, drop-drop, getD-drop, getD-append-seam, take-append-seam}
 use mir.Facts.{and-yes, yes-and}
 use Rattle.lists.specs.Byte.{isAscii}
-use Rattle.lists.specs.Lists.{yes-true, no-false, all, nonempty}
+use Rattle.lists.specs.Lists.{all, nonempty}
+use Rattle.lists.specs.ListsLaws.{yes-true, no-false}
 use Rattle.lists.specs.Run.{run}
 use Rattle.line.specs.Line.{blank}
 use Rattle.address.specs.Address.{isAtext, isAtomByte}

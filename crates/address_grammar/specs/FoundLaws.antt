@@ -11,8 +11,10 @@ use borrow.Author.Tests.{lt-ltb, ne-eqb}
 use lib.ListN.{length, drop, getD, length-append}
 use lib.Seq.{drop-append-seam, drop-at}
 use mir.Facts.{and-yes, or-no}
-use Rattle.lists.specs.Lists.{cond-has, by-test, yes-true, no-false, all, nonempty}
-use Rattle.lists.specs.Run.{run, run-past}
+use Rattle.lists.specs.Lists.{all, nonempty}
+use Rattle.lists.specs.ListsLaws.{cond-has, by-test, yes-true, no-false}
+use Rattle.lists.specs.Run.{run}
+use Rattle.lists.specs.RunLaws.{run-past}
 use Rattle.line.specs.Line.{blank}
 use Rattle.address.specs.declared.Scan.{Scan}
 use Rattle.address.specs.declared.Scan.the-variants.{To, Stop}

@@ -10,8 +10,10 @@ use lib.Dec.{T, ltb, leb, eqb}
 use lib.ListN.{length, take, drop, getD, length-append, length-drop, take-append-drop}
 use lib.Seq.{drop-cons, drop-drop, drop-append-seam, drop-at, take-add, take-nil, take-append-seam, length-take-le}
 use mir.Facts.{and-yes, ltb-yes, leb-yes}
-use Rattle.lists.specs.Lists.{cond-has, nonempty}
-use Rattle.lists.specs.Run.{run, run-le, run-all}
+use Rattle.lists.specs.ListsLaws.{cond-has}
+use Rattle.lists.specs.Lists.{nonempty}
+use Rattle.lists.specs.Run.{run}
+use Rattle.lists.specs.RunLaws.{run-le, run-all}
 use Rattle.line.specs.Line.{blank}
 use Rattle.address.specs.declared.Scan.{Scan}
 use Rattle.address.specs.declared.Scan.the-variants.{To, Stop}

@@ -8,7 +8,8 @@ use lib.Dec.{T, ltb, eqb, eqb→eq}
 use lib.ListN.{take, drop, getD}
 use mir.Facts.{and-yes, ltb-yes, eqb-no}
 use Rattle.lists.specs.Byte.{isAscii}
-use Rattle.lists.specs.Lists.{cond-has, all}
+use Rattle.lists.specs.ListsLaws.{cond-has}
+use Rattle.lists.specs.Lists.{all}
 use Rattle.lists.specs.Run.{run}
 use Rattle.line.specs.Line.{blank}
 use Rattle.rules.specs.Rules.{allowsAlternative}

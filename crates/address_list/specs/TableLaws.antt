@@ -6,7 +6,7 @@ use Prim.Native.Nat.{ℕ, _+_, _-_, _≤_, _<_}
 use native.Mathlib.Omega.{arith}
 use lib.Dec.{T}
 use lib.ListN.{length, take, drop}
-use Rattle.lists.specs.Lists.{true-yes}
+use Rattle.lists.specs.ListsLaws.{true-yes}
 use Rattle.rules.specs.declared.Rules.{Rules}
 use Rattle.address_list.specs.Parts.{TookFrom, Part, partsFrom, partsOf, changes, anyChanges}
 use Rattle.address_list.specs.PartsLaws.{partIn, parts-step, parts-end}

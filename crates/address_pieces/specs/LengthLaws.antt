@@ -8,14 +8,15 @@ use native.Mathlib.Nat.{not-suc-le-zero}
 use lib.Dec.{leb}
 use lib.ListN.{length, take, drop, length-drop, length-take, length-append}
 use Rattle.lists.specs.Byte.{isAscii}
-use Rattle.lists.specs.Lists.{all, cond-has}
+use Rattle.lists.specs.Lists.{all}
+use Rattle.lists.specs.ListsLaws.{cond-has}
 use Rattle.lists.specs.Run.{run}
 use Rattle.line.specs.Line.{blank}
 use Rattle.letter_case.specs.LetterCase.{bytes}
 use Rattle.rules.specs.Rules.{removalStart, removalEnd}
 use Rattle.rules.specs.declared.Rules.{Rules}
 use Rattle.rules.specs.declared.Rules.the-variants.{Spool, Current, Mailbox}
-use Rattle.encoded_word.specs.StreamLaws.{length-row-le}
+use Rattle.row.specs.RowLaws.{length-row-le}
 use Rattle.encoded_word.specs.SegmentsLaws.{rendered-append}
 use Rattle.encoded_word.specs.Segments.{Segment, bytesOf, rendered}
 use Rattle.encoded_word.specs.Segments.Segment.{raw, words}

@@ -11,7 +11,7 @@ use Rattle.lists.specs.Lists.{all}
 use Rattle.lists.specs.Run.{run}
 use Rattle.line.specs.Line.{blank}
 use Rattle.rules.specs.declared.Rules.{Rules}
-use Rattle.encoded_word.specs.Row.{row}
+use Rattle.row.specs.Row.{row}
 use Rattle.encoded_word.specs.Segments.{Segment, bytesOf, rendered}
 use Rattle.encoded_word.specs.Segments.Segment.{words}
 use Rattle.encoded_word.specs.SegmentsLaws.{rendered-append}

@@ -9,7 +9,8 @@ use lib.Dec.{T}
 use lib.ListN.{take, drop, getD, take-append-drop}
 use mir.Facts.{and-yes, yes-and}
 use Rattle.lists.specs.Byte.{isAscii}
-use Rattle.lists.specs.Lists.{cond-has, all, all-append, all-left}
+use Rattle.lists.specs.ListsLaws.{cond-has, all-append, all-left}
+use Rattle.lists.specs.Lists.{all}
 use Rattle.lists.specs.Run.{run}
 use Rattle.utf8.specs.Utf8.{utf8}
 use Rattle.line.specs.Line.{blank}

@@ -3,7 +3,7 @@ ghost use mathlib.Core.List.{map};
 ghost use Prim.Native.Nat.{_*_, _≤_};
 ghost use lib.ListN.{length};
 ghost use Rattle.buffer.specs.Buffer.{Wrote};
-ghost use Rattle.encoded_word.specs.Row.{row};
+ghost use Rattle.row.specs.Row.{row};
 ghost use Rattle.encoded_word.specs.Segments.{rendered};
 ghost use Rattle.phrase.specs.Phrase.{phraseWords, phraseText};
 ghost use Rattle.address_pieces.specs.Pieces.{piece, phrasePieces};

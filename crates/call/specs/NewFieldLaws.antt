@@ -6,8 +6,8 @@ use native.Mathlib.Omega.{arith}
 use lib.ListN.{length, take}
 use Rattle.buffer.specs.Buffer.{Wrote, AppendedCapped, greatest}
 use Rattle.buffer.specs.BufferLaws.{capped-none, overlay-front, length-wrote, wrote-of}
-use Rattle.encoded_word.specs.Row.{bounded}
-use Rattle.encoded_word.specs.StreamLaws.{bounded-short}
+use Rattle.row.specs.Row.{bounded}
+use Rattle.row.specs.RowLaws.{bounded-short}
 use Rattle.encoded_word.specs.Segments.{rendered}
 use Rattle.field.specs.Field.{labelledField}
 use Rattle.field.specs.FieldLaws.{length-labelled}

@@ -6,17 +6,19 @@ use lib.Count.{leadingZeros}
 use lib.ListN.{length, replicate}
 use Rattle.lists.specs.Lists.{joined}
 use Rattle.lists.specs.Run.{run}
-use Rattle.utf8.specs.Utf8.{leadingOnes, charLen, secondLow, secondHigh, isChar, charsAfter, chars, utf8}
+use Rattle.utf8.specs.Utf8.{leadingOnes, charLen, secondLow, secondHigh, isChar, chars, utf8}
+use Rattle.lists.specs.CutBy.{cutAfter, cutBy}
 use Rattle.letter_case.specs.LetterCase.{bytes, lower, sameAnyCase}
 use Rattle.cut.specs.Cut.{cut}
-use Rattle.encoded_word.specs.Spelling.{bare, hexDigit, spellByte, spell}
-use Rattle.encoded_word.specs.Row.{runs, word, lines, rowIn, row}
+use Rattle.word_spelling.specs.Spelling.{bare, spellByte, spell}
+use Rattle.row.specs.Row.{runs, word, lines, rowIn, row}
 use Rattle.envelope.specs.Envelope.{checked, numberOf, placeOf, frontFault, thenNext, rcptFault, rcptsFrom, faultNumber}
 use Rattle.header_line.specs.Lines.{lineAnswer, checkedLines, lineByte, nameByte, nameLen, named, continuation, wellFormed, lineOk, linesFrom}
 use Rattle.line.specs.Line.{blank}
 use Rattle.line.specs.Line.{crlf, lineLen}
 use Rattle.address.specs.Address.{later, byteThen, scanThen, isAtext, isAtomByte, isQuotedByte, isLiteralByte, dotAtomFrom, dotAtomScan, quotedFrom, quotedScan, literalFrom, literalScan, domainScan, localScan, addressScan, isAddress, isAsciiAddress}
-use Rattle.xtext.specs.Xtext.{isXchar, isHexDigit, hexValue, isHexchar, unitLen, unitByte, decodingAfter, decoding, isXtext, decoded, isAltAddress}
+use Rattle.xtext.specs.Xtext.{isXchar, isHexchar, unitLen, unitByte, decodingAfter, decoding, isXtext, decoded, isAltAddress}
+use Rattle.hex.specs.Hex.{hexDigit, isHexDigit, hexValue}
 use Rattle.envelope_line.specs.EnvelopeLine.{verb, hasVerb, pathScan, pathLen, path, hasPath, tail, paramsAfter, params, spaced, isKeywordByte, keywordLen, keyword, hasValue, value, isOrcpt, isAlt, isValueByte, isParam, alts, altsOk, wellFormed as wellFormedLine, altFault, lineFault}
 
 -- a case and its answer
@@ -123,5 +125,5 @@ cases =
     ∷ []
 
 pub cases-right : AllRight cases
-unfolding rowIn runs cut lines word spell spellByte bare hexDigit bytes lower sameAnyCase crlf lineLen later byteThen scanThen isAtext isAtomByte isQuotedByte isLiteralByte dotAtomFrom dotAtomScan quotedFrom quotedScan literalFrom literalScan domainScan localScan addressScan isAddress isAsciiAddress run utf8 chars charsAfter charLen leadingOnes leadingZeros isChar secondLow secondHigh isXchar isHexDigit hexValue isHexchar unitLen unitByte decodingAfter decoding isXtext decoded isAltAddress verb hasVerb pathScan pathLen path hasPath tail paramsAfter params spaced isKeywordByte keywordLen keyword hasValue value isOrcpt isAlt isValueByte isParam alts altsOk wellFormed altFault lineFault frontFault thenNext rcptFault rcptsFrom checked faultNumber numberOf placeOf lineByte blank nameByte nameLen named continuation lineOk linesFrom checkedLines lineAnswer wellFormedLine
+unfolding rowIn runs cut lines word spell spellByte bare hexDigit bytes lower sameAnyCase crlf lineLen later byteThen scanThen isAtext isAtomByte isQuotedByte isLiteralByte dotAtomFrom dotAtomScan quotedFrom quotedScan literalFrom literalScan domainScan localScan addressScan isAddress isAsciiAddress run utf8 chars cutBy cutAfter charLen leadingOnes leadingZeros isChar secondLow secondHigh isXchar isHexDigit hexValue isHexchar unitLen unitByte decodingAfter decoding isXtext decoded isAltAddress verb hasVerb pathScan pathLen path hasPath tail paramsAfter params spaced isKeywordByte keywordLen keyword hasValue value isOrcpt isAlt isValueByte isParam alts altsOk wellFormed altFault lineFault frontFault thenNext rcptFault rcptsFrom checked faultNumber numberOf placeOf lineByte blank nameByte nameLen named continuation lineOk linesFrom checkedLines lineAnswer wellFormedLine
 cases-right = (refl, (refl, (refl, (refl, (refl, (refl, ((refl, refl), ((refl, refl), ((refl, refl), ((refl, refl), ((refl, refl), ((refl, refl), ((refl, refl), ((refl, refl), (refl, (refl, tt))))))))))))))))

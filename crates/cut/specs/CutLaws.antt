@@ -8,7 +8,8 @@ use native.Mathlib.Omega.{arith}
 use lib.ListN.{length}
 use lib.Dec.{T, T-not}
 use mir.Facts.{and-yes, yes-and}
-use Rattle.lists.specs.Lists.{by-test, cond-yes, cond-no, all, nonempty, joined}
+use Rattle.lists.specs.Lists.{all, nonempty, joined}
+use Rattle.lists.specs.ListsLaws.{by-test, cond-yes, cond-no}
 use Rattle.cut.specs.Cut.{cut, AllFit}
 
 module _ {A : Type 0} where

@@ -6,7 +6,7 @@ use Prim.Native.Nat.{ℕ}
 use Rattle.lists.specs.Byte.{isAscii}
 use Rattle.lists.specs.Lists.{all}
 use Rattle.utf8.specs.Utf8.{utf8}
-use Rattle.encoded_word.specs.Row.{row}
+use Rattle.row.specs.Row.{row}
 
 pub data Segment : Type 0 where
   raw : List ℕ → Segment

@@ -1,18 +1,18 @@
 -- Of segments that are sound: what is written is all ASCII, and demand 3 holds of each text that is encoded. Assumes nothing.
-use mathlib.Core.Path.{_≡_, refl, sym, ap, _∙_}
-use mathlib.Core.Bool.{Bool, true, false, not, cond, _&&_, _||_}
+use mathlib.Core.Path.{_≡_, refl, sym}
 use mathlib.Core.List.{List, [], _∷_, _++_, append-assoc, List·Memᴰ, map}
-use Prim.Native.Nat.{ℕ, _+_, _/_, _%_, _<_}
-use native.Mathlib.Omega.{arith}
+use Prim.Native.Nat.{ℕ, _+_, _<_}
 use lib.Dec.{T, ltb→lt}
-use mir.Facts.{and-yes, yes-and}
-use Rattle.lists.specs.Byte.{isByte, isAscii, below}
-use Rattle.lists.specs.Lists.{all, all-append, all-joined, all-mem, joined, joined-map}
+use mir.Facts.{and-yes}
+use Rattle.lists.specs.Byte.{isByte, isAscii}
+use Rattle.lists.specs.ByteLaws.{below}
+use Rattle.lists.specs.Lists.{all, joined}
+use Rattle.lists.specs.ListsLaws.{all-append, all-joined, all-mem, joined-map}
 use Rattle.utf8.specs.Utf8.{chars, utf8}
 use Rattle.utf8.specs.Utf8Laws.{chars-joined, utf8-bytes}
-use Rattle.encoded_word.specs.Spelling.{bare, hexDigit, spellByte, spell}
-use Rattle.encoded_word.specs.Reading.{closing}
-use Rattle.encoded_word.specs.Row.{runs, word, lines, rowIn, row}
+use Rattle.hex.specs.Hex.{hexDigit}
+use Rattle.word_spelling.specs.Spelling.{bare, spellByte, spell}
+use Rattle.row.specs.Row.{closing, runs, word, lines, rowIn, row}
 use Rattle.encoded_word.specs.Demand3.{Demand3}
 use Rattle.encoded_word.specs.Demand3Laws.{runs-joined, demand-3}
 use Rattle.encoded_word.specs.Segments.{Segment, bytesOf, rendered, sound}

@@ -9,7 +9,8 @@ use lib.Dec.{T}
 use lib.ListN.{take, drop}
 use lib.Seq.{drop-drop}
 use borrow.Author.Tests.{ne-eqb}
-use Rattle.lists.specs.Lists.{by-test, yes-true, true-yes, no-false, all, joined, all-append}
+use Rattle.lists.specs.Lists.{all, joined}
+use Rattle.lists.specs.ListsLaws.{by-test, yes-true, true-yes, no-false, all-append}
 use Rattle.lists.specs.Byte.{isAscii}
 use Rattle.line.specs.Line.{crlf, lineLen}
 use Rattle.envelope_line.specs.declared.Fault.{Fault}

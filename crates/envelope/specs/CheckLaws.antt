@@ -12,7 +12,7 @@ use lib.Seq.{drop-cons, drop-drop}
 use borrow.Author.Tests.{eq-eqb, ne-eqb, lt-ltb, le-ltb}
 use mir.Facts.{and-yes, ltb-yes}
 use Rattle.address.specs.AddressLaws.{byte-within}
-use Rattle.lists.specs.Lists.{by-test, true-yes, no-false}
+use Rattle.lists.specs.ListsLaws.{by-test, true-yes, no-false}
 use Rattle.buffer.specs.Buffer.{overlay, Reached}
 use Rattle.buffer.specs.BufferLaws.{reached-start, reached-then, reached-end, appended-byte, wrote-from}
 use Rattle.line.specs.Line.{lineLen}

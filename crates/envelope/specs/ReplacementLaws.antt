@@ -6,7 +6,7 @@ use Prim.Native.Nat.{ℕ, zero, suc, _+_, _≤_}
 use native.Mathlib.Omega.{arith}
 use lib.Dec.{T}
 use lib.ListN.{length, drop}
-use Rattle.lists.specs.Lists.{by-test, yes-true, no-false}
+use Rattle.lists.specs.ListsLaws.{by-test, yes-true, no-false}
 use Rattle.utf8.specs.Utf8.{utf8}
 use Rattle.utf8.specs.Utf8Laws.{utf8-ascii}
 use Rattle.line.specs.Line.{lineLen}

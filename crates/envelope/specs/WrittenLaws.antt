@@ -7,7 +7,8 @@ use native.Mathlib.Numerals.{add-one}
 use native.Mathlib.Omega.{arith}
 use lib.ListN.{length, take, drop, getD, length-append}
 use lib.Seq.{take-suc}
-use Rattle.lists.specs.Lists.{joined, joined-append, by-test, yes-true, no-false}
+use Rattle.lists.specs.Lists.{joined}
+use Rattle.lists.specs.ListsLaws.{joined-append, by-test, yes-true, no-false}
 use Rattle.buffer.specs.Buffer.{overlay, AppendedCapped, greatest}
 use Rattle.buffer.specs.BufferLaws.{length-overlay, overlay-front, capped-none, capped-then, capped-same}
 use Rattle.line.specs.Line.{lineLen}

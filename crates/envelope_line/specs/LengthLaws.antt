@@ -7,7 +7,8 @@ use native.Mathlib.Omega.{arith}
 use lib.Dec.{T, leb}
 use lib.ListN.{length, take, drop, length-append, length-take, length-drop}
 use mir.Facts.{and-yes, yes-and, leb-yes, yes-leb}
-use Rattle.lists.specs.Lists.{all, cond-has}
+use Rattle.lists.specs.Lists.{all}
+use Rattle.lists.specs.ListsLaws.{cond-has}
 use Rattle.lists.specs.Byte.{isAscii}
 use Rattle.lists.specs.Run.{run}
 use Rattle.xtext.specs.XtextLaws.{decoded-le}

@@ -15,7 +15,8 @@ use Rattle.lists.specs.Byte.{isAscii}
 use Rattle.buffer.specs.Buffer.{greatest}
 use Rattle.letter_case.specs.LetterCase.{bytes, sameAnyCase}
 use Rattle.line.specs.LineLaws.{drop-capped, part-rest}
-use Rattle.lists.specs.Run.{run, run-le}
+use Rattle.lists.specs.Run.{run}
+use Rattle.lists.specs.RunLaws.{run-le}
 use Rattle.envelope_line.specs.EnvelopeLine.{notSpace, paramsAfter, params, spaced, isKeywordByte, keywordLen, keyword, hasValue, value, isOrcpt, isAlt, isValueByte, isParam, alts, alt, altPlace, orcptClean}
 
 -- ---- one parameter after another

@@ -8,12 +8,13 @@ use lib.Dec.{T, lit≤}
 use lib.ListN.{length, length-append}
 use mir.Facts.{yes-and}
 use Rattle.lists.specs.Byte.{isAscii}
-use Rattle.lists.specs.Lists.{all, all-append}
+use Rattle.lists.specs.Lists.{all}
+use Rattle.lists.specs.ListsLaws.{all-append}
 use Rattle.utf8.specs.Utf8.{utf8}
 use Rattle.buffer.specs.Buffer.{AppendedCapped, greatest}
 use Rattle.buffer.specs.BufferLaws.{capped-then, capped-same, length-added}
-use Rattle.encoded_word.specs.Row.{row}
-use Rattle.encoded_word.specs.StreamLaws.{length-row-le}
+use Rattle.row.specs.Row.{row}
+use Rattle.row.specs.RowLaws.{length-row-le}
 use Rattle.encoded_word.specs.Segments.{Segment, rendered, sound}
 use Rattle.encoded_word.specs.Segments.Segment.{raw}
 use Rattle.letter_case.specs.LetterCase.{bytes}

@@ -11,8 +11,10 @@ use lib.ListN.{length, take, drop, getD, length-append, length-take, length-drop
 use lib.Seq.{drop-cons, drop-drop, getD-drop, take-suc, take-all, take-add, take-length}
 use mir.Facts.{and-yes, ltb-yes}
 use borrow.Author.Tests.{lt-ltb, le-ltb}
-use Rattle.lists.specs.Lists.{by-test, cond-has, yes-true, true-yes, no-false, all, all-at}
-use Rattle.lists.specs.Run.{run, run-le, run-all, run-after}
+use Rattle.lists.specs.ListsLaws.{by-test, cond-has, yes-true, true-yes, no-false, all-at}
+use Rattle.lists.specs.Lists.{all}
+use Rattle.lists.specs.Run.{run}
+use Rattle.lists.specs.RunLaws.{run-le, run-all, run-after}
 use Rattle.buffer.specs.Buffer.{Wrote, AppendedCapped, Reached, greatest}
 use Rattle.buffer.specs.BufferLaws.{overlay-front, length-wrote, appended-of, reached-start, reached-then, reached-within, reached-end, length-reached, wrote-from, wrote-nothing}
 use Rattle.header_line.specs.Lines.{nameLen}

@@ -8,9 +8,11 @@ use lib.Dec.{T, leb, eqb, eqb→eq}
 use lib.ListN.{length, take, drop, getD, length-append, length-take, length-drop, take-append-drop, drop-of-length-le}
 use lib.Seq.{take-all, take-add, drop-drop}
 use mir.Facts.{and-yes, leb-yes, leb-no}
-use Rattle.lists.specs.Lists.{by-test, cond-has, yes-true, true-yes, no-false, all, all-left, all-right, all-joined, joined}
+use Rattle.lists.specs.ListsLaws.{by-test, cond-has, yes-true, true-yes, no-false, all-left, all-right, all-joined}
+use Rattle.lists.specs.Lists.{all, joined}
 use Rattle.lists.specs.Byte.{isAscii}
-use Rattle.lists.specs.Run.{run, run-le, run-all}
+use Rattle.lists.specs.Run.{run}
+use Rattle.lists.specs.RunLaws.{run-le, run-all}
 use Rattle.utf8.specs.Utf8.{asciiRun}
 use Rattle.header_line.specs.Lines.{nameLen}
 use Rattle.header.specs.Fields.{fold, fieldLen, fieldsOf, valueOf}

@@ -10,10 +10,12 @@ use lib.Dec.{T, eqb}
 use lib.ListN.{length, take, drop, getD, length-drop, length-take, take-append-drop, drop-of-length-le}
 use lib.Seq.{drop-cons, drop-drop, getD-drop, length-take-le, take-nil}
 use mir.Facts.{and-yes}
-use Rattle.lists.specs.Lists.{cond-has, yes-true, true-yes, no-false, all, joined}
+use Rattle.lists.specs.Lists.{all, joined}
+use Rattle.lists.specs.ListsLaws.{cond-has, yes-true, true-yes, no-false}
 use Rattle.lists.specs.Byte.{isAscii}
 use Rattle.lists.specs.CutByLaws.{cut-nil, cut-front, cut-next, cut-joined, cut-few}
-use Rattle.lists.specs.Run.{run, run-le, run-all}
+use Rattle.lists.specs.Run.{run}
+use Rattle.lists.specs.RunLaws.{run-le, run-all}
 use Rattle.header_line.specs.Lines.{nameByte, nameLen}
 use Rattle.line.specs.Line.{blank}
 use Rattle.line.specs.Line.{crlf}

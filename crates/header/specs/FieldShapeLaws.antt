@@ -9,9 +9,12 @@ use lib.Dec.{T, leb, eqb, eqb→eq, lt→ltb}
 use lib.ListN.{length, take, drop, getD, length-append, length-drop, take-append-drop, List·getD-eq-default}
 use lib.Seq.{drop-drop, length-take-le, split-at, take-at, drop-at}
 use mir.Facts.{and-yes, yes-and, leb-yes, leb-no}
-use Rattle.lists.specs.Lists.{by-test, yes-true, no-false, all, all-append, all-right, all-past, all-weaken, joined}
-use Rattle.lists.specs.Byte.{isAscii, within, within-high}
-use Rattle.lists.specs.Run.{run, run-all, run-past}
+use Rattle.lists.specs.ListsLaws.{by-test, yes-true, no-false, all-append, all-right, all-past, all-weaken}
+use Rattle.lists.specs.Lists.{all, joined}
+use Rattle.lists.specs.Byte.{isAscii, within}
+use Rattle.lists.specs.ByteLaws.{within-high}
+use Rattle.lists.specs.Run.{run}
+use Rattle.lists.specs.RunLaws.{run-all, run-past}
 use Rattle.utf8.specs.Utf8.{utf8}
 use Rattle.utf8.specs.Utf8Laws.{utf8-right, utf8-append, utf8-ascii, utf8-cut}
 use Rattle.header_line.specs.Lines.{lineByte, nameByte, nameLen, named, continuation, wellFormed, lineOk, linesFrom, checkedLines}

@@ -70,7 +70,7 @@ lineCases =
     ∷ []
 
 pub line-cases-right : AllRight lineCases
-unfolding bytes run crlf lineLen lineByte blank nameByte nameLen named continuation wellFormed lineOk linesFrom checkedLines utf8 isChar chars charsAfter charLen leadingOnes leadingZeros secondLow secondHigh
+unfolding bytes run crlf lineLen lineByte blank nameByte nameLen named continuation wellFormed lineOk linesFrom checkedLines utf8 isChar chars cutBy cutAfter charLen leadingOnes leadingZeros secondLow secondHigh
 line-cases-right = (refl, (refl, (refl, (refl, (refl, (refl, (refl, (refl, (refl, (refl, (refl, (refl, (refl, (refl, (refl, (refl, (refl, (refl, (refl, (refl, (refl, tt)))))))))))))))))))))
 
 abbrev pub fieldCases : List Case

@@ -8,7 +8,8 @@ use lib.Dec.{T, leb, eqb}
 use lib.ListN.{length, take}
 use lib.Seq.{take-append-add}
 use mir.Facts.{and-yes, leb-yes, leb-no}
-use Rattle.lists.specs.Lists.{by-test, no-false, all}
+use Rattle.lists.specs.Lists.{all}
+use Rattle.lists.specs.ListsLaws.{by-test, no-false}
 use Rattle.header_line.specs.Lines.{lineByte, lineOk, linesFrom, checkedLines}
 use Rattle.line.specs.Line.{crlf}
 use Rattle.header_line.specs.LineLaws.{front-bad}

@@ -11,12 +11,14 @@ use lib.ListN.{length, take, drop, getD, length-drop, length-take, take-append-d
 use lib.Seq.{drop-cons, drop-drop, getD-drop, getD-take, take-take, take-append-add, drop-append-add, length-take-le}
 use borrow.Author.Tests.{ne-eqb}
 use mir.Facts.{and-yes, yes-and, leb-yes, leb-no, ltb-no}
-use Rattle.lists.specs.Lists.{by-test, cond-yes, cond-has, yes-true, true-yes, no-false, all, all-past, all-weaken}
+use Rattle.lists.specs.Lists.{all}
+use Rattle.lists.specs.ListsLaws.{by-test, cond-yes, cond-has, yes-true, true-yes, no-false, all-past, all-weaken}
 use Rattle.lists.specs.Byte.{isAscii, within}
-use Rattle.lists.specs.Run.{run, run-le, run-all, run-step}
+use Rattle.lists.specs.Run.{run}
+use Rattle.lists.specs.RunLaws.{run-le, run-all, run-step}
 use Rattle.utf8.specs.Utf8.{charLen, isChar, charAt, utf8}
 use Rattle.utf8.specs.Utf8Laws.{char-len-some, char-high, utf8-right, utf8-ascii, utf8-char, utf8-of}
-use Rattle.utf8.specs.Utf8At.{whole-char, char-at-some, char-at-within, utf8-stop}
+use Rattle.utf8.specs.Utf8AtLaws.{whole-char, char-at-some, char-at-within, utf8-stop}
 use Rattle.header_line.specs.Lines.{lineByte, nameByte, nameLen, named, continuation, wellFormed, lineOk, linesFrom, checkedLines}
 use Rattle.line.specs.Line.{blank}
 use Rattle.line.specs.Line.{crlf, lineLen}

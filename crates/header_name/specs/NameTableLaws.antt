@@ -9,8 +9,8 @@ use lib.Dec.{T, leb, eqb, leb→le, eqb→eq}
 use lib.ListN.{length, take, drop, getD, drop-of-length-le}
 use lib.Seq.{drop-cons}
 use mir.Facts.{and-yes}
-use Rattle.lists.specs.Lists.{by-test, yes-true, no-false}
-use Rattle.lists.specs.Byte.{below}
+use Rattle.lists.specs.ListsLaws.{by-test, yes-true, no-false}
+use Rattle.lists.specs.ByteLaws.{below}
 use Rattle.header_name.specs.declared.Kind.{Kind}
 use Rattle.header_name.specs.declared.Kind.the-variants.{Address, PlainText, Received, Commented, Parameterized, Held, Other}
 use Rattle.header_name.specs.Names.{Group, six, addressNames, plainTextNames, receivedNames, commentedNames, parameterizedNames, heldNames, groups, among, kindAmong, kindOf}

@@ -10,8 +10,9 @@ use lib.Dec.{leb, ltb, eqb, eqb→eq}
 use lib.ListN.{length, take, drop, getD, length-drop, drop-of-length-le, List·getD-eq-default}
 use lib.Seq.{take-all, take-nil, drop-cons, drop-drop, getD-drop}
 use borrow.Author.Tests.{not-false}
-use Rattle.lists.specs.Lists.{by-test, cond-has, yes-true, no-false, true-yes}
-use Rattle.lists.specs.Run.{run, run-after}
+use Rattle.lists.specs.ListsLaws.{by-test, cond-has, yes-true, no-false, true-yes}
+use Rattle.lists.specs.Run.{run}
+use Rattle.lists.specs.RunLaws.{run-after}
 use mir.Facts.{and-yes, leb-yes, leb-no, ltb-yes, ltb-no}
 use Rattle.buffer.specs.Buffer.{greatest}
 use Rattle.line.specs.Line.{crlf, lineLen}

@@ -1,12 +1,15 @@
 -- Laws of lists cut into parts. Assumes nothing.
 use mathlib.Core.Path.{_≡_, refl, ap, _∙_}
+use mathlib.Core.Bool.{Bool}
 use mathlib.Core.List.{List, [], _∷_}
 use Prim.Native.Nat.{ℕ, zero, suc, pred, _+_, _-_, _≤_, _<_}
 use native.Mathlib.Nat.{not-suc-le-zero}
 use native.Mathlib.Omega.{arith}
 use lib.ListN.{length, take, drop, length-drop, take-append-drop}
 use lib.Seq.{drop-drop}
-use Rattle.lists.specs.Lists.{joined}
+use lib.Dec.{T}
+use mir.Facts.{yes-and}
+use Rattle.lists.specs.Lists.{all, joined, nonempty}
 use Rattle.lists.specs.CutBy.{cutAfter, cutBy}
 
 module _ (size : List ℕ → ℕ) where
@@ -61,3 +64,23 @@ module _ (size : List ℕ → ℕ) where
   pub cut-few : (s : List ℕ) → length (cutBy size s) ≤ length s
   unfolding cutBy
   cut-few s = after-few 0 s
+
+  -- what holds of the front of every list holds of every part
+  after-all : (f : List ℕ → Bool) → ((s : List ℕ) → 0 < length s → T (f (take (suc (pred (size s))) s))) → (k : ℕ) (s : List ℕ) → T (all f (cutAfter size k s))
+  unfolding cutAfter
+  after-all f fronts k [] = tt
+  after-all f fronts (suc k) (b ∷ rest) = after-all f fronts k rest
+  after-all f fronts zero (b ∷ rest) =
+      let more = pred (size (b ∷ rest)) in
+      yes-and (f (take (suc more) (b ∷ rest))) (all f (cutAfter size more rest)) (fronts (b ∷ rest) (omega arith)) (after-all f fronts more rest)
+
+  pub cut-all : (f : List ℕ → Bool) → ((s : List ℕ) → 0 < length s → T (f (take (suc (pred (size s))) s))) → (s : List ℕ) → T (all f (cutBy size s))
+  unfolding cutBy
+  cut-all f fronts s = after-all f fronts 0 s
+
+  front-some : (s : List ℕ) → 0 < length s → T (nonempty (take (suc (pred (size s))) s))
+  front-some [] k = absurd (not-suc-le-zero k)
+  front-some (b ∷ rest) k = tt
+
+  pub cut-some : (s : List ℕ) → T (all nonempty (cutBy size s))
+  cut-some s = cut-all nonempty front-some s

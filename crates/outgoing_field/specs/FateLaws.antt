@@ -10,11 +10,12 @@ use lib.Seq.{length-take-le, take-length}
 use mir.Facts.{and-yes, leb-yes}
 use borrow.Author.Tests.{le-leb}
 use Rattle.lists.specs.Byte.{isAscii}
-use Rattle.lists.specs.Lists.{cond-has, yes-true, true-yes, all, joined}
+use Rattle.lists.specs.ListsLaws.{cond-has, yes-true, true-yes}
+use Rattle.lists.specs.Lists.{all, joined}
 use Rattle.buffer.specs.Buffer.{Wrote, AppendedCapped, ReachedCapped, greatest}
 use Rattle.buffer.specs.BufferLaws.{length-wrote, capped-none, capped-start, length-capped, capped-turn, capped-end}
-use Rattle.encoded_word.specs.Row.{bounded}
-use Rattle.encoded_word.specs.StreamLaws.{bounded-short}
+use Rattle.row.specs.Row.{bounded}
+use Rattle.row.specs.RowLaws.{bounded-short}
 use Rattle.encoded_word.specs.Segments.{Segment, rendered}
 use Rattle.encoded_word.specs.Segments.Segment.{raw}
 use Rattle.encoded_word.specs.SegmentsLaws.{rendered-append}

@@ -8,7 +8,8 @@ use lib.Dec.{T}
 use lib.ListN.{length, length-append}
 use mir.Facts.{yes-and}
 use Rattle.lists.specs.Byte.{isAscii}
-use Rattle.lists.specs.Lists.{cond-has, all, all-append, joined}
+use Rattle.lists.specs.ListsLaws.{cond-has, all-append}
+use Rattle.lists.specs.Lists.{all, joined}
 use Rattle.encoded_word.specs.Segments.{Segment, rendered, sound}
 use Rattle.encoded_word.specs.Segments.Segment.{raw}
 use Rattle.encoded_word.specs.SegmentsLaws.{rendered-append}

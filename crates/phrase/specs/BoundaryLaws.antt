@@ -10,8 +10,10 @@ use lib.ListN.{length, take, drop, getD, take-append-drop, length-drop}
 use lib.Seq.{drop-drop, take-all, take-add}
 use mir.Facts.{and-yes, yes-and, ltb-yes, ltb-no, leb-no}
 use Rattle.lists.specs.Byte.{isAscii}
-use Rattle.lists.specs.Lists.{by-test, no-false, cond-has, all, all-weaken}
-use Rattle.lists.specs.Run.{run, run-all, run-after, run-le}
+use Rattle.lists.specs.ListsLaws.{by-test, no-false, cond-has, all-weaken}
+use Rattle.lists.specs.Lists.{all}
+use Rattle.lists.specs.Run.{run}
+use Rattle.lists.specs.RunLaws.{run-all, run-after, run-le}
 use Rattle.utf8.specs.Utf8.{utf8, chars, charsAfter}
 use Rattle.utf8.specs.Utf8Laws.{utf8-right, utf8-append, utf8-ascii}
 use Rattle.line.specs.Line.{blank}

@@ -12,7 +12,8 @@ use lib.ListN.{length, drop, getD, drop-of-length-le, length-append}
 use lib.Seq.{drop-cons}
 use mir.Facts.{and-yes, leb-yes}
 use borrow.Author.Tests.{ne-eqb}
-use Rattle.lists.specs.Lists.{cond-has, all, joined}
+use Rattle.lists.specs.ListsLaws.{cond-has}
+use Rattle.lists.specs.Lists.{all, joined}
 use Rattle.utf8.specs.Utf8.{utf8, chars, isChar}
 use Rattle.utf8.specs.Utf8Laws.{chars-joined, char-some, char-high, utf8-append, utf8-char, utf8-ascii}
 use Rattle.unquote.specs.Unquote.{kept, escapes, unquotedFrom, unquoted}

@@ -1,23 +1,17 @@
 -- xtext (RFC 3461): "xtext is bytes 33 to 126 other than `+` and `=`, or `+` with two uppercase hex digits." Assumes nothing.
-use mathlib.Core.Bool.{Bool, true, false, not, cond, _&&_, _||_}
+use mathlib.Core.Bool.{Bool, true, false, not, cond, _&&_}
 use mathlib.Core.List.{List, [], _∷_}
 use mathlib.Core.Option.{Option, none, some}
-use Prim.Native.Nat.{ℕ, zero, suc, pred, _+_, _*_, _-_}
+use Prim.Native.Nat.{ℕ, zero, suc, pred, _+_, _*_}
 use lib.Dec.{eqb, leb, ltb}
 use lib.ListN.{length, getD}
 use Rattle.lists.specs.Byte.{within}
+use Rattle.hex.specs.Hex.{isHexDigit, hexValue}
 use Rattle.address.specs.Address.{isAsciiAddress}
 
 -- xchar: a byte 33 to 126 other than `+` (43) and `=` (61), which stands for itself
 unfoldable pub isXchar : ℕ → Bool
 isXchar b = within 33 126 b && not (eqb b 43) && not (eqb b 61)
-
--- an uppercase hex digit, 0 to 9 or A to F, and its value
-unfoldable pub isHexDigit : ℕ → Bool
-isHexDigit b = within 48 57 b || within 65 70 b
-
-unfoldable pub hexValue : ℕ → ℕ
-hexValue b = cond (within 48 57 b) (b - 48) (b - 55)
 
 -- hexchar: `+` with two uppercase hex digits, at the front of a text
 unfoldable pub isHexchar : List ℕ → Bool

@@ -1,7 +1,7 @@
 -- Laws of xtext: by position in a text, as code decodes it. Assumes nothing.
 use borrow.Author.Tests.{lt-ltb, le-leb, lt-leb}
 use mathlib.Core.Path.{_≡_, refl, sym, ap, _∙_}
-use mathlib.Core.Bool.{Bool, true, false, not, _&&_, and-false}
+use mathlib.Core.Bool.{Bool, true, false, _&&_, and-false}
 use mathlib.Core.List.{List, [], _∷_, _++_}
 use Prim.Native.Nat.{ℕ, zero, suc, pred, _+_, _*_, _-_, _≤_, _<_}
 use native.Mathlib.Omega.{arith}
@@ -11,37 +11,17 @@ use Rattle.address.specs.TakenLaws.{ascii-address-bytes}
 use lib.ListN.{length, take, drop, getD, length-drop, drop-of-length-le, List·getD-eq-default}
 use lib.Seq.{drop-drop, getD-drop}
 use mir.Facts.{and-yes}
-use Rattle.lists.specs.Lists.{by-test, cond-yes, cond-no, cond-has, yes-true, no-false, true-yes, all}
-use Rattle.lists.specs.Byte.{within, within-low, within-high}
+use Rattle.lists.specs.Lists.{all}
+use Rattle.lists.specs.ListsLaws.{cond-yes, cond-has}
+use Rattle.lists.specs.Byte.{within}
+use Rattle.hex.specs.Hex.{isHexDigit, hexValue}
 use Rattle.buffer.specs.Buffer.{Wrote, AppendedCapped, Reached, greatest}
 use Rattle.buffer.specs.BufferLaws.{reached-start, reached-then, reached-end, reached-within, length-reached, appended-of, wrote-from, overlay-front}
 use Rattle.address.specs.Address.{isAsciiAddress}
 use Rattle.address.specs.AddressLaws.{front-byte}
-use Rattle.xtext.specs.Xtext.{isXchar, isHexDigit, hexValue, isHexchar, unitLen, unitByte, Decoding, byteBefore, decodingAfter, decoding, isXtext, decoded, isAltAddress, altAddress}
+use Rattle.xtext.specs.Xtext.{isXchar, isHexchar, unitLen, unitByte, Decoding, byteBefore, decodingAfter, decoding, isXtext, decoded, isAltAddress, altAddress}
 
 -- ---- a unit: an xchar or a hexchar
-
--- a hex digit and its value, by the test that code makes
-module _ (b : ℕ) (e : isHexDigit b ≡ true) where
-  letter : T (not (within 48 57 b)) → T (within 65 70 b)
-  unfolding isHexDigit
-  letter n = rw (no-false (within 48 57 b) n) at (true-yes (isHexDigit b) e)
-
-  -- at most 57
-  pub hex-digit : b ≤ 57 → (48 ≤ b) × (b - 48 ≡ hexValue b)
-  unfolding hexValue
-  hex-digit h =
-      by-test (within 48 57 b)
-      (λ t. (within-low 48 57 b t, sym (cond-yes (within 48 57 b) (b - 48) (b - 55) t)))
-      (λ t. absurd (omega (arith, within-low 65 70 b (letter t))))
-
-  -- more
-  pub hex-letter : 57 < b → (b ≤ 70) × (b - 55 ≡ hexValue b)
-  unfolding hexValue
-  hex-letter h =
-      by-test (within 48 57 b)
-      (λ t. absurd (omega (arith, within-high 48 57 b t)))
-      (λ t. (within-high 65 70 b (letter t), sym (cond-no (within 48 57 b) (b - 48) (b - 55) t)))
 
 -- What code finds at i: a unit of n bytes that stands for b, or none, and then n is 0.
 pub record UnitAt (s : List ℕ) (i n b : ℕ) : Type 0 where
@@ -85,13 +65,6 @@ module _ (s : List ℕ) (i : ℕ) (h : i < length s) (x : Bool) (e : x ≡ isXch
           byte = rw (front-byte s i, ← e, n, hex, getD-drop i s 1 0, getD-drop i s 2 0, p, q);
           fits = omega arith;
         }
-
--- tests that hold together hold each; `h` and `l` are what code's tests are equal to
-pub both-digits : (plus high low h l : Bool) → high ≡ h → low ≡ l → plus && high && low ≡ true → (h ≡ true) × (l ≡ true)
-both-digits plus high low h l u v t =
-    let three = and-yes (plus && high) low (true-yes (plus && high && low) t) in
-    let two = and-yes plus high (three .0) in
-    (sym u ∙ yes-true high (two .1), sym v ∙ yes-true low (three .1))
 
 -- ---- decoding
 

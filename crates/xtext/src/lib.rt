@@ -1,10 +1,9 @@
 // xtext, and the address that an ALT-ADDRESS value stands for.
 ghost use mathlib.Core.Path.{_≡_};
-ghost use mathlib.Core.Bool.{true};
-ghost use Prim.Native.Nat.{_+_, _<_};
+ghost use Prim.Native.Nat.{_<_};
 ghost use lib.ListN.{length};
 ghost use Rattle.buffer.specs.Buffer.{Wrote};
-ghost use Rattle.xtext.specs.Xtext.{isXchar, isHexDigit, hexValue, isXtext, decoded, isAltAddress};
+ghost use Rattle.xtext.specs.Xtext.{isXchar, isXtext, decoded, isAltAddress};
 ghost use Rattle.xtext.specs.XtextLaws.{UnitAt};
 use address::is_ascii_address;
 
@@ -16,21 +15,6 @@ fn is_xchar(b: u8) -> bool
     ensures { λ r. ⌜ r ≡ isXchar b ⌝ }
 {
     (33 <= b) & (b <= 126) & !(b == b'+') & !(b == b'=')
-}
-
-// Whether a byte is an uppercase hex digit.
-fn is_hex_digit(b: u8) -> bool
-    ensures { λ r. ⌜ r ≡ isHexDigit b ⌝ }
-{
-    (48 <= b) & (b <= 57) | (65 <= b) & (b <= 70)
-}
-
-// The value of an uppercase hex digit.
-fn hex_value(b: u8) -> u8
-    requires { ⌜ isHexDigit b ≡ true ⌝ }
-    ensures { λ r. ⌜ (r ≡ hexValue b) × (r < 16) ⌝ }
-{
-    if b <= 57 { b - 48 } else { b - 55 }
 }
 
 // An xchar or a hexchar: its length, 0 where there is none, and the byte that it stands for.
@@ -52,14 +36,14 @@ fn unit_at(s: &[u8], at: usize) -> Unit
     }
     let high = s[at + 1];
     let low = s[at + 2];
-    let h = is_hex_digit(high);
-    let l = is_hex_digit(low);
+    let h = hex::is_digit(high);
+    let l = hex::is_digit(low);
     if !((b == b'+') & h & l) {
         return Unit { size: 0, byte: 0 };
     }
     Unit {
         size: 3,
-        byte: hex_value(high) * 16 + hex_value(low),
+        byte: hex::value(high) * 16 + hex::value(low),
     }
 }
 

@@ -1,5 +1,6 @@
 use Rattle.case_line.specs.CaseLine.{other}
-use Rattle.lists.specs.Run.{run, run-step, run-stop, run-end}
+use Rattle.lists.specs.Run.{run}
+use Rattle.lists.specs.RunLaws.{run-step, run-stop, run-end}
 use borrow.Author.Tests.{eq-eqb, ne-eqb}
 use lib.ListN.{length, drop}
 use mathlib.Core.Path.{_≡_, refl, sym, _∙_}

@@ -5,7 +5,8 @@ use native.Mathlib.Nat.{zero-add}
 use native.Mathlib.Omega.{arith}
 use lib.ListN.{length, drop}
 use borrow.Author.Tests.{not-true, not-false}
-use Rattle.lists.specs.Run.{run, run-step, run-stop, run-end}
+use Rattle.lists.specs.Run.{run}
+use Rattle.lists.specs.RunLaws.{run-step, run-stop, run-end}
 use Rattle.header_line.specs.Lines.{nameByte, nameLen}
 use Rattle.header_line.proofs.name_len.Statement.{statement}
 use Rattle.header_line.proofs.name_len.Tie as tie

@@ -4,7 +4,8 @@ use native.Mathlib.Omega.{arith}
 use borrow.Author.Tests.{not-true, not-false}
 use borrow.Author.Needs.{needs}
 use lib.ListN.{length, drop}
-use Rattle.lists.specs.Run.{run, run-step, run-stop, run-end}
+use Rattle.lists.specs.Run.{run}
+use Rattle.lists.specs.RunLaws.{run-step, run-stop, run-end}
 use Rattle.line.specs.Line.{blank}
 use Rattle.line.proofs.blanks_end.Statement.{statement}
 use Rattle.line.proofs.blanks_end.Tie as tie

@@ -4,7 +4,7 @@ use Prim.Native.Nat.{_-_, _≤_}
 use native.Mathlib.Omega.{arith}
 use lib.Seq.{take-length}
 use lib.ListN.{length}
-use Rattle.lists.specs.Run.{Tested, tested-none, tested-more, tested-all}
+use Rattle.lists.specs.RunLaws.{Tested, tested-none, tested-more, tested-all}
 use Rattle.lists.specs.Lists.{all}
 use Rattle.lists.specs.Byte.{isAscii}
 use Rattle.utf8.proofs.is_ascii.Statement.{statement}

@@ -1,6 +1,4 @@
-use lib.ListN.{getD}
-use lib.Dec.{eqb}
-use Rattle.xtext.specs.XtextLaws.{unit-bare, unit-short, unit-other, unit-hex, both-digits}
+use Rattle.xtext.specs.XtextLaws.{unit-bare, unit-short, unit-other, unit-hex}
 use borrow.Author.Tests.{not-true, not-false}
 use native.Mathlib.Omega.{arith}
 use borrow.Author.Needs.{needs}
@@ -34,29 +32,29 @@ add-low c = search needs
 shared-slice-read-low : tie.Need-shared-slice-read-low
 shared-slice-read-low c = search needs
 
-is-hex-digit-requires : tie.Need-is-hex-digit-requires
-is-hex-digit-requires c κs = search needs
+is-digit-requires : tie.Need-is-digit-requires
+is-digit-requires c κs = search needs
 
-is-hex-digit-requires-2 : tie.Need-is-hex-digit-requires-2
-is-hex-digit-requires-2 c κs = search needs
+is-digit-requires-2 : tie.Need-is-digit-requires-2
+is-digit-requires-2 c κs = search needs
 
 returns-3 : tie.Need-returns-3
-returns-3 c = unit-other _ _ (c .before .before .before .before .before .before .before .before .before .before .pre) _ (c .before .before .before .before .before .before .before .is-xchar .ensures) (c .before .before .before .before .before .before .if1 .left) _ _ (c .before .before .is-hex-digit .ensures) (c .before .is-hex-digit2 .ensures) (not-true _ (c .if3 .taken))
+returns-3 c = unit-other _ _ (c .before .before .before .before .before .before .before .before .before .before .pre) _ (c .before .before .before .before .before .before .before .is-xchar .ensures) (c .before .before .before .before .before .before .if1 .left) _ _ (c .before .before .is-digit .ensures) (c .before .is-digit2 .ensures) (not-true _ (c .if3 .taken))
 
-hex-value-requires : tie.Need-hex-value-requires
-hex-value-requires c κs = both-digits (eqb (getD (c .before .before .before .before .before .before .before .before .before .before .args .s .now) (c .before .before .before .before .before .before .before .before .before .before .args .at) 0) 43) _ _ _ _ (c .before .before .is-hex-digit .ensures) (c .before .is-hex-digit2 .ensures) (not-false _ (c .if3 .left)) .0
+value-requires : tie.Need-value-requires
+value-requires c κs = search needs
 
 mul-t19 : tie.Need-mul-t19
 mul-t19 c = search needs
 
-hex-value-requires-2 : tie.Need-hex-value-requires-2
-hex-value-requires-2 c κs = both-digits (eqb (getD (c .before .before .before .before .before .before .before .before .before .before .before .args .s .now) (c .before .before .before .before .before .before .before .before .before .before .before .args .at) 0) 43) _ _ _ _ (c .before .before .before .is-hex-digit .ensures) (c .before .before .is-hex-digit2 .ensures) (not-false _ (c .before .if3 .left)) .1
+value-requires-2 : tie.Need-value-requires-2
+value-requires-2 c κs = search needs
 
 add-t21 : tie.Need-add-t21
 add-t21 c = search needs
 
 returns-4 : tie.Need-returns-4
-returns-4 c = unit-hex _ _ (c .before .before .before .before .before .before .before .before .before .before .before .before .pre) _ (c .before .before .before .before .before .before .before .before .before .is-xchar .ensures) (c .before .before .before .before .before .before .before .before .if1 .left) _ _ (c .before .before .before .before .is-hex-digit .ensures) (c .before .before .before .is-hex-digit2 .ensures) (not-false _ (c .before .before .if3 .left)) (omega arith) _ _ (c .before .hex-value .ensures .0) (c .hex-value2 .ensures .0)
+returns-4 c = unit-hex _ _ (c .before .before .before .before .before .before .before .before .before .before .before .before .pre) _ (c .before .before .before .before .before .before .before .before .before .is-xchar .ensures) (c .before .before .before .before .before .before .before .before .if1 .left) _ _ (c .before .before .before .before .is-digit .ensures) (c .before .before .before .is-digit2 .ensures) (not-false _ (c .before .before .if3 .left)) (omega arith) _ _ (c .before .value .ensures .0) (c .value2 .ensures .0)
 
 pub unit-at-spec : {M : Type 1} → statement M
 unit-at-spec =
@@ -71,11 +69,11 @@ unit-at-spec =
     shared-slice-read-high
     add-low
     shared-slice-read-low
-    is-hex-digit-requires
-    is-hex-digit-requires-2
+    is-digit-requires
+    is-digit-requires-2
     returns-3
-    hex-value-requires
+    value-requires
     mul-t19
-    hex-value-requires-2
+    value-requires-2
     add-t21
     returns-4)

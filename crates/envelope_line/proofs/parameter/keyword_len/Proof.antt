@@ -4,7 +4,8 @@ use mathlib.Core.Path.{_≡_, sym, _∙_}
 use lib.ListN.{length, drop}
 use borrow.Author.Needs.{needs}
 use borrow.Author.Tests.{not-true, not-false}
-use Rattle.lists.specs.Run.{run, run-step, run-stop, run-end}
+use Rattle.lists.specs.Run.{run}
+use Rattle.lists.specs.RunLaws.{run-step, run-stop, run-end}
 use Rattle.envelope_line.specs.EnvelopeLine.{isKeywordByte, keywordLen}
 use Rattle.envelope_line.proofs.parameter.keyword_len.Statement.{statement}
 use Rattle.envelope_line.proofs.parameter.keyword_len.Tie as tie

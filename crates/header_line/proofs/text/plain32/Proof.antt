@@ -1,7 +1,7 @@
 use borrow.Author.Needs.{needs}
 use Prim.Native.Nat.{_-_, _≤_}
 use native.Mathlib.Omega.{arith}
-use Rattle.lists.specs.Run.{Tested, tested-none, tested-more, tested-all}
+use Rattle.lists.specs.RunLaws.{Tested, tested-none, tested-more, tested-all}
 use Rattle.header_line.specs.LineLaws.{plain}
 use Rattle.header_line.proofs.text.plain32.Statement.{statement}
 use Rattle.header_line.proofs.text.plain32.Tie as tie

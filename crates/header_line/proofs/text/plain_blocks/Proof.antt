@@ -3,7 +3,8 @@ use Prim.Native.Nat.{_+_, _-_, _≤_}
 use mathlib.Core.Path.{_≡_, refl, sym, _∙_}
 use lib.ListN.{length, drop}
 use borrow.Author.Tests.{not-false}
-use Rattle.lists.specs.Run.{run, run-block}
+use Rattle.lists.specs.Run.{run}
+use Rattle.lists.specs.RunLaws.{run-block}
 use Rattle.header_line.specs.LineLaws.{plain}
 use Rattle.header_line.proofs.text.plain_blocks.Statement.{statement}
 use Rattle.header_line.proofs.text.plain_blocks.Tie as tie

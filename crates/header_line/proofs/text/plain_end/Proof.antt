@@ -4,7 +4,8 @@ use Prim.Native.Nat.{_+_, _-_}
 use native.Mathlib.Omega.{arith}
 use lib.ListN.{length, drop}
 use borrow.Author.Tests.{not-true, not-false}
-use Rattle.lists.specs.Run.{run, run-step, run-stop, run-end}
+use Rattle.lists.specs.Run.{run}
+use Rattle.lists.specs.RunLaws.{run-step, run-stop, run-end}
 use Rattle.header_line.specs.LineLaws.{plain}
 use Rattle.header_line.proofs.text.plain_end.Statement.{statement}
 use Rattle.header_line.proofs.text.plain_end.Tie as tie

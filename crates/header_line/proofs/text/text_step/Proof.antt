@@ -2,7 +2,7 @@ use mathlib.Core.Path.{sym, _∙_}
 use native.Mathlib.Omega.{arith}
 use lib.ListN.{drop, length-drop}
 use borrow.Author.Tests.{not-true, not-false}
-use Rattle.utf8.specs.Utf8At.{char-at-within}
+use Rattle.utf8.specs.Utf8AtLaws.{char-at-within}
 use Rattle.header_line.specs.LineLaws.{step-plain, step-one, step-none, step-char}
 use borrow.Author.Needs.{needs}
 use Rattle.header_line.proofs.text.text_step.Statement.{statement}

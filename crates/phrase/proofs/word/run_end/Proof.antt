@@ -4,7 +4,8 @@ use native.Mathlib.Omega.{arith}
 use borrow.Author.Tests.{not-true, not-false}
 use borrow.Author.Needs.{needs}
 use lib.ListN.{length, drop}
-use Rattle.lists.specs.Run.{run, run-step, run-stop, run-end}
+use Rattle.lists.specs.Run.{run}
+use Rattle.lists.specs.RunLaws.{run-step, run-stop, run-end}
 use Rattle.phrase.specs.Words.{isWordByte}
 use Rattle.phrase.proofs.word.run_end.Statement.{statement}
 use Rattle.phrase.proofs.word.run_end.Tie as tie

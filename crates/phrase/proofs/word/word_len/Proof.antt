@@ -2,7 +2,8 @@ use mathlib.Core.Path.{_≡_, sym, _∙_}
 use Prim.Native.Nat.{_-_}
 use native.Mathlib.Omega.{arith}
 use lib.ListN.{drop, length-drop}
-use Rattle.lists.specs.Run.{run, run-le}
+use Rattle.lists.specs.Run.{run}
+use Rattle.lists.specs.RunLaws.{run-le}
 use Rattle.phrase.specs.Words.{isWordByte}
 use Rattle.phrase.specs.WordsLaws.{word-quoted, word-run, capped-le}
 use borrow.Author.Needs.{needs}
