@@ -7,7 +7,7 @@ use lib.Count.{leadingZeros}
 use lib.ListN.{replicate}
 use Rattle.lists.specs.Lists.{joined}
 use Rattle.lists.specs.Run.{run}
-use Rattle.utf8.specs.Utf8.{leadingOnes, charLen, charsAfter, chars, isChar, secondLow, secondHigh, utf8}
+use Rattle.utf8.specs.Utf8.{leadingOnes, charLen, chars, isChar, secondLow, secondHigh, utf8}
 use Rattle.letter_case.specs.LetterCase.{bytes}
 use Rattle.header_line.specs.Lines.{lineByte, nameByte, nameLen, named, continuation, wellFormed, lineOk, linesFrom, checkedLines}
 use Rattle.line.specs.Line.{blank}

@@ -14,7 +14,8 @@ use Rattle.lists.specs.ListsLaws.{by-test, no-false, cond-has, all-weaken}
 use Rattle.lists.specs.Lists.{all}
 use Rattle.lists.specs.Run.{run}
 use Rattle.lists.specs.RunLaws.{run-all, run-after, run-le}
-use Rattle.utf8.specs.Utf8.{utf8, chars, charsAfter}
+use Rattle.utf8.specs.Utf8.{utf8, chars}
+use Rattle.lists.specs.CutBy.{cutAfter, cutBy}
 use Rattle.utf8.specs.Utf8Laws.{utf8-right, utf8-append, utf8-ascii}
 use Rattle.line.specs.Line.{blank}
 use Rattle.unquote.specs.Unquote.{unquoted}
@@ -45,7 +46,7 @@ boundary-cut : (s : List ℕ) (n : ℕ) → T (utf8 s) → Cut s n → Boundary 
 boundary-cut s n h c = boundary s n h (utf8-taken s n h c)
 
 boundary-none : (s : List ℕ) → T (utf8 s) → Boundary s 0
-unfolding utf8 chars charsAfter
+unfolding utf8 chars cutBy cutAfter
 boundary-none s h = record { before = tt; after = h }
 
 pub boundary-then : (s : List ℕ) (k n : ℕ) → Boundary s k → Boundary (drop k s) n → Boundary s (k + n)
