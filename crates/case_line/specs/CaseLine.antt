@@ -1,12 +1,13 @@
 -- The columns of a line, and a buffer before and after a call. Assumes nothing.
 use mathlib.Core.Path.{_≡_}
 use mathlib.Core.Bool.{Bool, true, not, _&&_}
-use mathlib.Core.List.{List}
-use Prim.Native.Nat.{ℕ, zero, suc, min}
+use mathlib.Core.List.{List, [], _∷_}
+use Prim.Native.Nat.{ℕ, zero, suc, _+_, _*_, min}
 use lib.Dec.{eqb}
 use lib.ListN.{length, take, drop, getD}
 use Rattle.lists.specs.Lists.{all}
 use Rattle.lists.specs.Run.{run}
+use Rattle.hex.specs.Hex.{hexValue}
 
 -- a line that is neither empty nor starts with `#` (35)
 abbrev pub isCase : List ℕ → Bool
@@ -28,6 +29,11 @@ afterBars (suc n) s = afterBar (afterBars n s)
 -- a column, up to the next `|`
 unfoldable pub columnOf : ℕ → List ℕ → List ℕ
 columnOf n s = take (run (other 124) (afterBars n s)) (afterBars n s)
+
+-- the number that decimal digits say after a number n, at most 999,999
+unfoldable pub decimal : ℕ → List ℕ → ℕ
+decimal n [] = n
+decimal n (b ∷ s) = decimal (min (n * 10 + hexValue b) 999999) s
 
 -- `#` (35)
 abbrev pub isFiller : ℕ → Bool

@@ -2,16 +2,17 @@
 use mathlib.Core.Path.{_≡_, refl, sym, ap, _∙_}
 use mathlib.Core.Bool.{true, false, _&&_}
 use mathlib.Core.List.{List}
-use Prim.Native.Nat.{ℕ, suc, _+_, _-_, _≤_, _<_, min}
+use Prim.Native.Nat.{ℕ, suc, _+_, _*_, _-_, _≤_, _<_, min}
 use native.Mathlib.Numerals.{add-one}
 use native.Mathlib.Omega.{arith}
 use lib.ListN.{length, take, drop, getD, drop-of-length-le}
 use lib.Seq.{drop-cons, drop-drop}
 use Rattle.lists.specs.Lists.{all}
 use Rattle.lists.specs.Run.{run}
+use Rattle.hex.specs.Hex.{hexValue}
 use Rattle.buffer.specs.Buffer.{greatest}
 use Rattle.line.specs.LineLaws.{drop-capped, part-of, part-rest}
-use Rattle.case_line.specs.CaseLine.{other, afterBars, columnOf, isFiller, Holds}
+use Rattle.case_line.specs.CaseLine.{other, afterBars, columnOf, isFiller, Holds, decimal}
 
 -- a byte other than # at a place, and # there
 module _ (s : List ℕ) (i : ℕ) (h : i < length s) where
@@ -23,6 +24,15 @@ module _ (s : List ℕ) (i : ℕ) (h : i < length s) where
 
 pub untouched-end : (s : List ℕ) (i : ℕ) → length s ≤ i → all isFiller (drop i s) ≡ true
 untouched-end s i h = rw (drop-of-length-le s {i = i} h)
+
+-- a digit more, and the end
+pub decimal-more : (s : List ℕ) (n i d : ℕ) → i < length s → d ≡ hexValue (getD s i 0) → decimal n (drop i s) ≡ decimal (min (n * 10 + d) 999999) (drop (i + 1) s)
+unfolding decimal
+decimal-more s n i d h e = rw (add-one, drop-cons s i 0 h, e)
+
+pub decimal-end : (s : List ℕ) (n i : ℕ) → length s ≤ i → decimal n (drop i s) ≡ n
+unfolding decimal
+decimal-end s n i h = rw (drop-of-length-le s {i = i} h)
 
 -- the place after the next `|`, from the place after the first k
 pub bars-more : (s : List ℕ) (k from bar next : ℕ) → length s ≤ greatest → drop from s ≡ afterBars k s → bar ≡ from + run (other 124) (drop from s)

@@ -1,17 +1,6 @@
 // Escapes undone.
 ghost use Prim.Native.Nat.{_<_};
 
-// The value of a hex digit, by which a number's digits are read too; 0 of another byte.
-pub(crate) fn digit(b: u8) -> u8
-    ensures { λ r. ⌜ r < 16 ⌝ }
-{
-    match b {
-        48..=57 => b - 48,
-        65..=70 => b - 55,
-        _ => 0,
-    }
-}
-
 // A byte, and how many bytes of the text say it.
 struct Said {
     byte: u8,
@@ -45,8 +34,8 @@ fn escaped(text: &[u8], at: usize, turn: usize) -> Said
 
 // The byte that the two hex digits after a place say.
 fn hex_byte(text: &[u8], at: usize) -> u8 {
-    let high = digit(line::byte_at(text, buffer::place_after(at, 1)));
-    let low = digit(line::byte_at(text, buffer::place_after(at, 2)));
+    let high = hex::value(line::byte_at(text, buffer::place_after(at, 1)));
+    let low = hex::value(line::byte_at(text, buffer::place_after(at, 2)));
     high * 16 + low
 }
 

@@ -8,12 +8,12 @@ mod escape;
 
 ghost use mathlib.Core.Path.{_≡_};
 ghost use mathlib.Core.Bool.{true};
-ghost use Prim.Native.Nat.{_+_, _<_, min};
+ghost use Prim.Native.Nat.{_+_, min};
 ghost use lib.ListN.{length, drop};
 ghost use Rattle.lists.specs.Lists.{all};
 ghost use Rattle.lists.specs.Run.{run};
 ghost use Rattle.io.specs.Counts.{Counts};
-ghost use Rattle.case_line.specs.CaseLine.{isCase, other, columnOf, isFiller, Holds};
+ghost use Rattle.case_line.specs.CaseLine.{isCase, other, columnOf, decimal, isFiller, Holds};
 
 // The place of the first byte `mark` from `at` on; where there is none, the length, or `at` where that lies past it.
 pub fn find(s: &[u8], at: usize, mark: u8) -> usize
@@ -50,12 +50,12 @@ pub fn column(line: &[u8], n: usize) -> &[u8]
 
 // The number that decimal digits say, at most 999,999.
 pub fn number(digits: &[u8]) -> usize
-    ensures { λ r. ⌜ r < 1000000 ⌝ }
+    ensures { λ r. ⌜ r ≡ decimal 0 (now (digits .entry)) ⌝ }
 {
     let mut n: usize = 0;
     let mut i = 0;
     while i < digits.len() {
-        n = buffer::clip(n * 10 + escape::digit(digits[i]) as usize, 999999);
+        n = buffer::clip(n * 10 + hex::value(digits[i]) as usize, 999999);
         i += 1;
     }
     n

@@ -1,26 +1,30 @@
-use lib.ListN.{length}
+use Rattle.case_line.specs.CaseLine.{decimal}
+use Rattle.case_line.specs.CaseLineLaws.{decimal-more, decimal-end}
+use lib.ListN.{length, drop}
+use mathlib.Core.Path.{_≡_, refl, sym, _∙_}
+use native.Mathlib.Omega.{arith}
 use Prim.Native.Nat.{_-_, _<_}
 use borrow.Author.Needs.{needs}
 use Rattle.case_line.proofs.number.Statement.{statement}
 use Rattle.case_line.proofs.number.Tie as tie
 
 abbrev Inv-loop : tie.InvT-loop
-Inv-loop digits n₀ i₀ n i = n < 1000000
+Inv-loop digits n₀ i₀ n i = (n < 1000000) × (decimal n (drop i digits) ≡ decimal 0 digits)
 
 abbrev μ-loop : tie.MeasureT-loop
 μ-loop digits n₀ i₀ n i = length digits - i
 
 loop-holds : tie.Need-loop-holds Inv-loop μ-loop
-loop-holds c = search needs
+loop-holds c = (omega arith, refl)
 
 mul-clip : tie.Need-mul-clip Inv-loop μ-loop
 mul-clip c = search needs
 
-shared-slice-read-digit : tie.Need-shared-slice-read-digit Inv-loop μ-loop
-shared-slice-read-digit c = search needs
+shared-slice-read-value : tie.Need-shared-slice-read-value Inv-loop μ-loop
+shared-slice-read-value c = search needs
 
-digit-requires : tie.Need-digit-requires Inv-loop μ-loop
-digit-requires c κs = search needs
+value-requires : tie.Need-value-requires Inv-loop μ-loop
+value-requires c κs = search needs
 
 cast-clip : tie.Need-cast-clip Inv-loop μ-loop
 cast-clip c = search needs
@@ -38,10 +42,10 @@ loop-less : tie.Need-loop-less Inv-loop μ-loop
 loop-less c = search needs
 
 loop-again : tie.Need-loop-again Inv-loop μ-loop
-loop-again c = search needs
+loop-again c = (omega arith, rw (c .clip .ensures) (sym (decimal-more _ _ _ _ (c .before .before .before .loop-test .taken) (c .before .value .ensures .0)) ∙ c .before .before .before .before .loop .inv .1))
 
 returns : tie.Need-returns Inv-loop μ-loop
-returns c = search needs
+returns c = sym (decimal-end _ _ _ (c .loop-test .left)) ∙ c .before .loop .inv .1
 
 pub number-spec : {M : Type 1} → statement M
 number-spec =
@@ -51,8 +55,8 @@ number-spec =
     μ-loop
     loop-holds
     mul-clip
-    shared-slice-read-digit
-    digit-requires
+    shared-slice-read-value
+    value-requires
     cast-clip
     add-clip
     clip-requires
