@@ -7,11 +7,11 @@ use native.Mathlib.Omega.{arith}
 use lib.Dec.{T, leb}
 use lib.ListN.{length, take, drop, length-append, length-take, length-drop}
 use mir.Facts.{and-yes, yes-and, leb-yes, yes-leb}
-use Rattle.lists.specs.Lists.{all, cond-has}
+use Rattle.lists.specs.Lists.{by-test, yes-true, no-false, all, cond-has}
 use Rattle.lists.specs.Byte.{isAscii}
-use Rattle.lists.specs.Run.{run}
+use Rattle.lists.specs.Run.{run, run-le}
 use Rattle.xtext.specs.XtextLaws.{decoded-le}
-use Rattle.envelope_line.specs.EnvelopeLine.{verbLen, pathLen, path, tail, notSpace, paramsAfter, params, keywordLen, value, isAlt, alts, alt, altPlace, newPath, withoutAlt, writtenLine, replacement}
+use Rattle.envelope_line.specs.EnvelopeLine.{verbLen, pathLen, path, tail, notSpace, paramsAfter, params, keywordLen, value, isAlt, alts, alt, altPlace, newPath, replacement}
 
 take-le : (n : ℕ) (s : List ℕ) → length (take n s) ≤ length s
 take-le n s = rw length-take (omega arith)
@@ -49,6 +49,33 @@ alt-le t = go (alts (paramsAfter 0 t)) refl (alts-shorter (length t) (paramsAfte
         let k = rw e at h in
         rw e (leb-yes {a = length p} {b = length t} (and-yes (shorter (length t) p) (all (shorter (length t)) more) k .0))
 
+-- how many bytes parameters take, each with its space
+abbrev size : List (List ℕ) → ℕ
+size [] = 0
+size (p ∷ ps) = suc (length p) + size ps
+
+params-size : (k : ℕ) (s : List ℕ) → k ≤ length s → k + size (paramsAfter k s) ≤ length s
+unfolding paramsAfter
+params-size k [] h = omega arith
+params-size (suc k) (b ∷ s) h = omega (arith, params-size k s (omega arith))
+params-size zero (b ∷ s) h = let n = run notSpace s in omega (arith, params-size n s (run-le notSpace s), length-take n s)
+
+alts-size : (ps : List (List ℕ)) (p : List ℕ) (more : List (List ℕ)) → alts ps ≡ p ∷ more → altPlace ps + suc (length p) ≤ size ps
+unfolding alts altPlace
+alts-size [] p more e = absurd (let z : _≡_ {A = ℕ} 0 1 = cc in omega arith)
+alts-size (q ∷ ps) p more e =
+    by-test (isAlt q)
+    (λ t. let h : q ∷ alts ps ≡ p ∷ more = rw (yes-true (isAlt q) t) at e in
+    let same : q ≡ p = cc in
+    rw (yes-true (isAlt q) t, same) (omega arith))
+    (λ t. let h : alts ps ≡ p ∷ more = rw (no-false (isAlt q) t) at e in
+    rw (no-false (isAlt q) t) (omega (arith, alts-size ps p more h)))
+
+-- the ALT-ADDRESS, with the space before it, stands in the tail
+pub alt-inside : (t p : List ℕ) (more : List (List ℕ)) → alts (params t) ≡ p ∷ more → altPlace (params t) + suc (length p) ≤ length t
+unfolding params
+alt-inside t p more e = omega (arith, alts-size (paramsAfter 0 t) p more e, params-size 0 t (omega arith))
+
 module _ (mail : Bool) (line : List ℕ) where
   pub new-path-le : length (newPath mail line) ≤ length line
   unfolding newPath value tail
@@ -56,22 +83,6 @@ module _ (mail : Bool) (line : List ℕ) where
       let t = drop (verbLen mail + pathLen mail line + 1) line in
       let p = alt (params t) in
       omega (arith, decoded-le (drop (keywordLen p + 1) p), drop-le (keywordLen p + 1) p, alt-le t, drop-le (verbLen mail + pathLen mail line + 1) line)
-
-  pub written-le : length (writtenLine mail line) ≤ 4 * length line + 1
-  unfolding writtenLine withoutAlt tail
-  written-le =
-      let t = drop (verbLen mail + pathLen mail line + 1) line in
-      let ps = params t in
-      let n = altPlace ps in
-      let m = altPlace ps + suc (length (alt ps)) in
-      let l = drop-le (verbLen mail + pathLen mail line + 1) line in
-      let a = take-le n t in
-      let b = drop-le m t in
-      let d = new-path-le in
-      let v = take-le (verbLen mail) line in
-      cond-has (λ out. length out ≤ 4 * length line + 1) (all isAscii (path mail line)) line
-      (take (verbLen mail) line ++ (newPath mail line ++ (62 ∷ (take n t ++ drop m t)))) (λ u. omega arith)
-      (λ u. simp length-append (omega arith))
 
   pub replacement-le : length (replacement mail line) ≤ 2 * length line + 5
   unfolding replacement path

@@ -9,7 +9,7 @@ use lib.Seq.{take-all, drop-drop}
 use Rattle.lists.specs.Lists.{all}
 use Rattle.lists.specs.Byte.{isAscii}
 use Rattle.lists.specs.Run.{run}
-use Rattle.buffer.specs.Buffer.{Wrote, AppendedCapped}
+use Rattle.buffer.specs.Buffer.{Wrote}
 use Rattle.xtext.specs.Xtext.{decoded}
 use Rattle.xtext.specs.XtextLaws.{decoded-end}
 use Rattle.envelope_line.specs.EnvelopeLine.{verbLen, pathLen, path, tail, notSpace, params, keywordLen, value, alt, altPlace, newPath, withoutAlt, writtenLine, replacement}

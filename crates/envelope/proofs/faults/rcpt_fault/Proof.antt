@@ -1,8 +1,8 @@
 use Rattle.envelope.specs.CheckLaws.{rcpt-many, rcpt-front}
 use mathlib.Core.Path.{_∙_}
 use borrow.Author.Needs.{needs}
-use Rattle.envelope.proofs.checking.rcpt_fault.Statement.{statement}
-use Rattle.envelope.proofs.checking.rcpt_fault.Tie as tie
+use Rattle.envelope.proofs.faults.rcpt_fault.Statement.{statement}
+use Rattle.envelope.proofs.faults.rcpt_fault.Tie as tie
 
 returns : tie.Need-returns
 returns c = rcpt-many _ _ (c .if1 .taken)

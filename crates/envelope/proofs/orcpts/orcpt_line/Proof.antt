@@ -1,15 +1,15 @@
 use Rattle.envelope.specs.OrcptLaws.{orcpt-end, orcpt-found, orcpt-next}
-use Rattle.envelope.specs.Envelope.{orcptFrom, orcptLine}
+use Rattle.envelope.specs.Envelope.{texts, orcptFrom, orcptLine}
 use native.Mathlib.Omega.{arith}
 use borrow.Author.Needs.{needs}
 use mathlib.Core.Path.{_≡_, refl, sym, _∙_}
 use Prim.Native.Nat.{_-_, _≤_}
 use lib.ListN.{length, drop}
-use Rattle.envelope.proofs.original.orcpt_line.Statement.{statement}
-use Rattle.envelope.proofs.original.orcpt_line.Tie as tie
+use Rattle.envelope.proofs.orcpts.orcpt_line.Statement.{statement}
+use Rattle.envelope.proofs.orcpts.orcpt_line.Tie as tie
 
 abbrev Inv-loop : tie.InvT-loop
-Inv-loop envelope n₀ i₀ n i = (n ≤ i) × (orcptLine envelope ≡ orcptFrom 0 n (drop i envelope))
+Inv-loop envelope n₀ i₀ n i = (n ≤ i) × (orcptLine envelope ≡ orcptFrom n (texts (drop i envelope)))
 
 abbrev μ-loop : tie.MeasureT-loop
 μ-loop envelope n₀ i₀ n i = length envelope - i
@@ -40,7 +40,7 @@ loop-less : tie.Need-loop-less Inv-loop μ-loop
 loop-less c = omega (arith, c .before .before .before .before .line-end .ensures, c .place-after .ensures)
 
 loop-again : tie.Need-loop-again Inv-loop μ-loop
-loop-again c = (omega (arith, c .before .before .before .before .line-end .ensures, c .place-after .ensures), c .before .before .before .before .before .before .loop .inv .1 ∙ orcpt-next _ _ _ (c .before .before .before .before .before .loop-test .taken) _ (c .before .before .before .before .line-end .ensures) _ (c .before .before .before .part .ensures) (c .before .before .orcpt-fault .ensures) (c .before .if1 .left) (c .place-after .ensures) (omega arith))
+loop-again c = (omega (arith, c .before .before .before .before .line-end .ensures, c .place-after .ensures), c .before .before .before .before .before .before .loop .inv .1 ∙ orcpt-next _ _ _ (c .before .before .before .before .before .loop-test .taken) _ (c .before .before .before .before .line-end .ensures) (c .before .before .before .part .ensures) (c .before .before .orcpt-fault .ensures) _ (c .before .if1 .left) (c .place-after .ensures) (omega arith))
 
 returns-2 : tie.Need-returns-2 Inv-loop μ-loop
 returns-2 c = sym (c .before .loop .inv .1 ∙ orcpt-end _ _ _ (c .loop-test .left))

@@ -1,10 +1,11 @@
-use Rattle.envelope.specs.CheckLaws.{mail-refused, mail-passed, fine-end}
+use Rattle.envelope.specs.CheckLaws.{mail-refused, mail-passed, ended-inside}
 use native.Mathlib.Omega.{arith}
 use borrow.Author.Tests.{not-true, not-false}
 use mathlib.Core.Path.{sym, _∙_}
+use mathlib.Core.Bool.{true}
 use borrow.Author.Needs.{needs}
-use Rattle.envelope.proofs.checking.check.Statement.{statement}
-use Rattle.envelope.proofs.checking.check.Tie as tie
+use Rattle.envelope.proofs.faults.check.Statement.{statement}
+use Rattle.envelope.proofs.faults.check.Tie as tie
 
 line-end-requires : tie.Need-line-end-requires
 line-end-requires c κs = search needs
@@ -19,7 +20,7 @@ returns : tie.Need-returns
 returns c = mail-refused (c .before .before .front-fault .ensures) (sym (c .before .is-fine .ensures) ∙ not-true _ (c .if1 .taken))
 
 add-check-rcpts : tie.Need-add-check-rcpts
-add-check-rcpts c = omega (arith, fine-end (c .before .before .before .before .before .args .envelope .now) 0 (c .before .before .before .line-end .result) (c .before .before .before .line-end .ensures) _ (rw (c .before .before .front-fault .ensures) at (sym (c .before .is-fine .ensures) ∙ not-false _ (c .if1 .left))))
+add-check-rcpts c = omega (arith, c .before .before .before .line-end .ensures, ended-inside true (c .before .before .before .before .before .args .envelope .now) (rw (c .before .before .front-fault .ensures) at (sym (c .before .is-fine .ensures) ∙ not-false _ (c .if1 .left))))
 
 check-rcpts-requires : tie.Need-check-rcpts-requires
 check-rcpts-requires c κs = search needs

@@ -1,12 +1,12 @@
 // The writing pass. It goes by the line starts that the checking pass stored.
-ghost use mathlib.Core.Bool.{true, false};
-ghost use Prim.Native.Nat.{min};
+ghost use lib.ListN.{drop};
 ghost use Rattle.buffer.specs.Buffer.{AppendedCapped};
-ghost use Rattle.envelope.specs.Envelope.{writtenAt, entries, writtenBy, mailReplacement, replacementBy};
+ghost use Rattle.envelope.specs.Envelope.{lineText, writtenEnded, writtenOf, mailReplacement, onlyRcptOf};
+ghost use Rattle.envelope.specs.LineStarts.{textsAt};
 
 // Writes the line that starts at a place of the envelope.
 fn add_line_at(out: &mut [u8], next: usize, envelope: &[u8], at: usize, mail: bool) -> usize
-    ensures { λ r. ⌜ AppendedCapped (writtenAt mail (now (envelope .entry)) at) next (now (out .entry)) (now (out .exit)) r ⌝ }
+    ensures { λ r. ⌜ AppendedCapped (writtenEnded mail (lineText (drop at (now (envelope .entry))))) next (now (out .entry)) (now (out .exit)) r ⌝ }
 {
     let end = line::line_end(envelope, at);
     envelope_line::add_line(out, next, line::part(envelope, at, end), mail)
@@ -14,7 +14,7 @@ fn add_line_at(out: &mut [u8], next: usize, envelope: &[u8], at: usize, mail: bo
 
 // Writes the envelope whose RCPT lines, `count` of them, start at `starts`.
 pub fn put(out: &mut [u8], envelope: &[u8], starts: &[usize; 100], count: usize) -> usize
-    ensures { λ r. ⌜ AppendedCapped (writtenBy (entries (min count 100) (now (starts .entry))) (now (envelope .entry))) 0 (now (out .entry)) (now (out .exit)) r ⌝ }
+    ensures { λ r. ⌜ AppendedCapped (writtenOf (textsAt count (now (starts .entry)) (now (envelope .entry)))) 0 (now (out .entry)) (now (out .exit)) r ⌝ }
 {
     let n = buffer::clip(count, 100);
     let mut next = add_line_at(out, 0, envelope, 0, true);
@@ -42,7 +42,7 @@ pub fn put_rcpt_replacement(
     starts: &[usize; 100],
     count: usize,
 ) -> usize
-    ensures { λ r. ⌜ AppendedCapped (replacementBy (entries (min count 100) (now (starts .entry))) (now (envelope .entry))) 0 (now (out .entry)) (now (out .exit)) r ⌝ }
+    ensures { λ r. ⌜ AppendedCapped (onlyRcptOf (textsAt count (now (starts .entry)) (now (envelope .entry)))) 0 (now (out .entry)) (now (out .exit)) r ⌝ }
 {
     if count != 1 {
         return 0;

@@ -1,12 +1,12 @@
-use Rattle.envelope.specs.CheckLaws.{RcptsReached, rcpts-start, rcpts-more, rcpts-refused, rcpts-passed, fine-few, fine-front, fine-end}
+use Rattle.envelope.specs.CheckLaws.{RcptsReached, rcpts-start, rcpts-more, rcpts-refused, rcpts-passed, fine-few, fine-end}
 use native.Mathlib.Omega.{arith}
 use borrow.Author.Needs.{needs}
 use borrow.Author.Tests.{not-true, not-false}
 use mathlib.Core.Path.{sym, _∙_}
-use Prim.Native.Nat.{_-_}
-use lib.ListN.{length}
-use Rattle.envelope.proofs.checking.check_rcpts.Statement.{statement}
-use Rattle.envelope.proofs.checking.check_rcpts.Tie as tie
+use Prim.Native.Nat.{_+_, _-_}
+use lib.ListN.{length, drop}
+use Rattle.envelope.proofs.faults.check_rcpts.Statement.{statement}
+use Rattle.envelope.proofs.faults.check_rcpts.Tie as tie
 
 abbrev Inv-loop : tie.InvT-loop
 Inv-loop envelope at starts₀ n₀ i₀ starts n i = RcptsReached envelope at starts₀ starts n i
@@ -30,19 +30,19 @@ add-t11 : tie.Need-add-t11 Inv-loop μ-loop
 add-t11 c = omega (arith, c .before .before .before .before .before .loop .inv .few)
 
 returns : tie.Need-returns Inv-loop μ-loop
-returns c = rcpts-refused (c .before .before .before .before .before .loop .inv) (c .before .before .before .before .loop-test .taken) (c .before .before .rcpt-fault .ensures) (sym (c .before .is-fine .ensures) ∙ not-true _ (c .if1 .taken))
+returns c = rcpts-refused (c .before .before .before .before .before .loop .inv) _ (c .before .before .before .before .loop-test .taken) (c .before .before .before .line-end .ensures) (c .before .before .rcpt-fault .ensures) (sym (c .before .is-fine .ensures) ∙ not-true _ (c .if1 .taken))
 
 mul-starts : tie.Need-mul-starts Inv-loop μ-loop
 mul-starts c = omega (arith, c .before .before .before .before .before .loop .inv .few)
 
 element-write-starts : tie.Need-element-write-starts Inv-loop μ-loop
-element-write-starts c = fine-few _ _ (rw (c .before .before .rcpt-fault .ensures) at (sym (c .before .is-fine .ensures) ∙ not-false _ (c .if1 .left)))
+element-write-starts c = omega (arith, fine-few (c .before .before .before .before .before .loop .n + 1) (drop (c .before .before .before .before .before .loop .i) (c .before .before .before .before .before .before .before .args .envelope .now)) (rw (c .before .before .rcpt-fault .ensures) at (sym (c .before .is-fine .ensures) ∙ not-false _ (c .if1 .left))))
 
 add-n : tie.Need-add-n Inv-loop μ-loop
 add-n c = omega (arith, c .before .before .before .before .before .loop .inv .few)
 
 add-i : tie.Need-add-i Inv-loop μ-loop
-add-i c = omega (arith, fine-end (c .before .before .before .before .before .before .before .args .envelope .now) (c .before .before .before .before .before .loop .i) (c .before .before .before .line-end .result) (c .before .before .before .line-end .ensures) _ (fine-front _ _ (rw (c .before .before .rcpt-fault .ensures) at (sym (c .before .is-fine .ensures) ∙ not-false _ (c .if1 .left)))))
+add-i c = omega (arith, fine-end (c .before .before .before .before .before .before .before .args .envelope .now) (c .before .before .before .before .before .loop .i) (c .before .before .before .line-end .result) (c .before .before .before .before .before .loop .n + 1) (c .before .before .before .line-end .ensures) (rw (c .before .before .rcpt-fault .ensures) at (sym (c .before .is-fine .ensures) ∙ not-false _ (c .if1 .left))))
 
 loop-less : tie.Need-loop-less Inv-loop μ-loop
 loop-less c = omega (arith, c .before .before .before .line-end .ensures)

@@ -2,8 +2,8 @@ use Rattle.envelope.specs.CheckLaws.{front-no-cr, front-in, front-no-lf,
 use native.Mathlib.Omega.{arith}
 use mathlib.Core.Path.{sym, _∙_}
 use borrow.Author.Needs.{needs}
-use Rattle.envelope.proofs.checking.front_fault.Statement.{statement}
-use Rattle.envelope.proofs.checking.front_fault.Tie as tie
+use Rattle.envelope.proofs.faults.front_fault.Statement.{statement}
+use Rattle.envelope.proofs.faults.front_fault.Tie as tie
 
 byte-at-requires : tie.Need-byte-at-requires
 byte-at-requires c κs = search needs

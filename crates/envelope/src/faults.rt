@@ -1,11 +1,11 @@
-// The checking pass. It fills the array of line starts that the writing pass uses.
+// The checking pass: the first line at fault. It fills the array of line starts that the writing pass uses.
 ghost use mathlib.Core.Path.{_≡_};
-ghost use mathlib.Core.Bool.{false};
 ghost use mathlib.Core.List.{[]};
 ghost use Prim.Native.Nat.{_+_};
 ghost use lib.ListN.{drop};
 ghost use Rattle.line.specs.Line.{lineLen};
-ghost use Rattle.envelope.specs.Envelope.{EnvelopeChecked, frontFault, rcptFault, rcptsFrom, isFine};
+ghost use Rattle.envelope.specs.Envelope.{endedFault, faultOf, isFine, checkedFrom};
+ghost use Rattle.envelope.specs.LineStarts.{EnvelopeChecked};
 ghost use Rattle.envelope.specs.CheckLaws.{RcptsChecked};
 use crate::Checked;
 use envelope_line::Fault;
@@ -24,7 +24,7 @@ fn is_fine(fault: Fault) -> bool
 // The fault of the line from `at` up to `end`, where its CRLF is due.
 fn front_fault(envelope: &[u8], at: usize, end: usize, mail: bool) -> Fault
     requires { ⌜ end ≡ at + lineLen (drop at (now envelope)) ⌝ }
-    ensures { λ r. ⌜ r ≡ frontFault mail (drop at (now (envelope .entry))) ⌝ }
+    ensures { λ r. ⌜ r ≡ endedFault mail (drop at (now (envelope .entry))) ⌝ }
 {
     if line::byte_at(envelope, end) != 13 {
         return Fault::Malformed;
@@ -38,7 +38,7 @@ fn front_fault(envelope: &[u8], at: usize, end: usize, mail: bool) -> Fault
 // The same of the line after n RCPT lines.
 fn rcpt_fault(envelope: &[u8], at: usize, end: usize, n: usize) -> Fault
     requires { ⌜ end ≡ at + lineLen (drop at (now envelope)) ⌝ }
-    ensures { λ r. ⌜ r ≡ rcptFault n (drop at (now (envelope .entry))) ⌝ }
+    ensures { λ r. ⌜ r ≡ faultOf (n + 1) (drop at (now (envelope .entry))) ⌝ }
 {
     if 100 <= n {
         return Fault::Malformed;
@@ -48,7 +48,7 @@ fn rcpt_fault(envelope: &[u8], at: usize, end: usize, n: usize) -> Fault
 
 // The answer at the end of an envelope with n RCPT lines.
 fn counted(n: usize) -> Checked
-    ensures { λ r. ⌜ r ≡ rcptsFrom 0 n [] ⌝ }
+    ensures { λ r. ⌜ r ≡ checkedFrom (n + 1) [] ⌝ }
 {
     if n == 0 {
         return Checked::Refused(Fault::Malformed, 1);

@@ -1,8 +1,9 @@
 use Rattle.buffer.specs.BufferLaws.{capped-same}
-use Rattle.envelope.specs.WrittenLaws.{line-part, replaced-mail}
+use Rattle.envelope.specs.LinesLaws.{text-part}
+use Rattle.envelope.specs.WrittenLaws.{replaced-mail}
 use borrow.Author.Needs.{needs}
-use Rattle.envelope.proofs.writing.put_mail_replacement.Statement.{statement}
-use Rattle.envelope.proofs.writing.put_mail_replacement.Tie as tie
+use Rattle.envelope.proofs.output.put_mail_replacement.Statement.{statement}
+use Rattle.envelope.proofs.output.put_mail_replacement.Tie as tie
 
 line-end-requires : tie.Need-line-end-requires
 line-end-requires c κs = search needs
@@ -17,7 +18,7 @@ same-length : tie.Need-same-length
 same-length c = search needs
 
 returns : tie.Need-returns
-returns c = capped-same (replaced-mail _ (line-part _ _ _ (c .before .before .before .before .before .line-end .ensures) (c .before .before .before .part .ensures))) (c .before .before .add-replacement .ensures)
+returns c = capped-same (replaced-mail _ (text-part _ _ _ (c .before .before .before .before .before .line-end .ensures) (c .before .before .before .part .ensures))) (c .before .before .add-replacement .ensures)
 
 pub put-mail-replacement-spec : {M : Type 1} → statement M
 put-mail-replacement-spec =

@@ -1,6 +1,6 @@
 use Rattle.envelope.specs.CheckLaws.{none-counted, some-counted}
-use Rattle.envelope.proofs.checking.counted.Statement.{statement}
-use Rattle.envelope.proofs.checking.counted.Tie as tie
+use Rattle.envelope.proofs.faults.counted.Statement.{statement}
+use Rattle.envelope.proofs.faults.counted.Tie as tie
 
 returns : tie.Need-returns
 returns c = none-counted _ (c .if1 .taken)
