@@ -16,7 +16,8 @@ use Rattle.xtext.specs.Xtext.{isAltAddress}
 use Rattle.envelope_line.specs.PathLaws.{pathAt, path-end-to}
 use Rattle.envelope_line.specs.declared.Fault.{Fault}
 use Rattle.envelope_line.specs.declared.Fault.the-variants.{Fine, Malformed, NoAlternative, BadAlternative}
-use Rattle.envelope_line.specs.EnvelopeLine.{verbLen, hasVerb, pathScan, isTo, pathLen, path, hasPath, tail, params, spaced, isParam, hasValue, value, alts, altsOk, wellFormed, altFault, lineFault}
+use Rattle.envelope_line.specs.EnvelopeLine.{verbLen, hasVerb, pathScan, isTo, pathLen, path, hasPath, tail, wellFormed, altFault, lineFault}
+use Rattle.parameter.specs.Parameter.{params, spaced, isParam, hasValue, value, alts, altsOk}
 
 -- the fault of a line by its tail; `ascii` says whether the path is ASCII
 unfoldable pub tailFault : Bool → List ℕ → Fault

@@ -15,9 +15,11 @@ use Rattle.utf8.specs.Utf8Laws.{utf8-right, utf8-append, utf8-ascii, utf8-cut}
 use Rattle.address.specs.AddressLaws.{byte-within}
 use Rattle.xtext.specs.XtextLaws.{decoded-le}
 use Rattle.envelope_line.specs.declared.Fault.the-variants.{Fine}
-use Rattle.envelope_line.specs.EnvelopeLine.{verbLen, hasVerb, pathScan, isTo, pathLen, path, hasPath, tail, spaced, isParam, params, keywordLen, value, altsOk, alts, alt, altPlace, altFault, wellFormed, lineFault, newPath, withoutAlt, writtenLine, replacement}
+use Rattle.envelope_line.specs.EnvelopeLine.{verbLen, hasVerb, pathScan, isTo, pathLen, path, hasPath, tail, altFault, wellFormed, lineFault, newPath, withoutAlt, writtenLine, replacement}
+use Rattle.parameter.specs.Parameter.{spaced, isParam, params, keywordLen, value, altsOk, alts, alt, altPlace}
 use Rattle.envelope_line.specs.AsciiLaws.{well-formed, alt-fine, parts, front-ascii, new-ascii}
-use Rattle.envelope_line.specs.LengthLaws.{alt-inside, replacement-le}
+use Rattle.envelope_line.specs.LengthLaws.{replacement-le}
+use Rattle.parameter.specs.LengthLaws.{alt-inside}
 
 module _ (mail : Bool) (line : List ℕ) (f : lineFault mail line ≡ Fine) where
   sized : T (leb (length line) 998) × T (utf8 line)
