@@ -10,16 +10,16 @@ use lib.ListN.{length, take, drop, getD, take-append-drop, drop-of-length-le}
 use lib.Seq.{drop-cons, drop-drop}
 use mir.Facts.{and-yes, yes-and, ltb-yes, yes-ltb, ltb-no}
 use borrow.Author.Tests.{not-false}
-use Rattle.lists.specs.Lists.{by-test, cond-has, yes-true, true-yes, no-false, all, all-append, all-left, all-right}
+use Rattle.lists.specs.Lists.{by-test, cond-has, true-yes, no-false, all, all-append, all-left, all-right}
 use Rattle.lists.specs.Byte.{within, within-high, isAscii}
-use Rattle.utf8.specs.Utf8.{utf8}
 use Rattle.letter_case.specs.LetterCase.{bytes, lower, sameAnyCase}
 use Rattle.address.specs.Address.{isAddress, isAsciiAddress}
 use Rattle.xtext.specs.Xtext.{decoded, isXtext, isAltAddress}
 use Rattle.envelope_line.specs.declared.Fault.the-variants.{Fine, BadAlternative}
-use Rattle.envelope_line.specs.EnvelopeLine.{verb, verbLen, hasVerb, pathScan, isTo, pathLen, path, hasPath, tail, wellFormed, altFault, lineFault, orcptFault, newPath, withoutAlt, writtenLine}
-use Rattle.parameter.specs.Parameter.{params, spaced, value, isParam, alts, altsOk, alt, altPlace, orcptClean}
+use Rattle.envelope_line.specs.EnvelopeLine.{verb, verbLen, hasVerb, pathLen, path, tail, altFault, lineFault, orcptFault, newPath, withoutAlt, writtenLine}
+use Rattle.parameter.specs.Parameter.{params, value, alts, alt, altPlace, orcptClean}
 use Rattle.parameter.specs.AsciiLaws.{tail-ascii}
+use Rattle.envelope_line.specs.FaultLaws.{formed, closed, alt-fine}
 
 module _ (f : ℕ → Bool) (n : ℕ) (s : List ℕ) (h : T (all f s)) where
   all-take : T (all f (take n s))
@@ -73,45 +73,20 @@ verb-ascii true = tt
 verb-ascii false = tt
 
 module _ (mail : Bool) (line : List ℕ) (f : lineFault mail line ≡ Fine) where
-  pub well-formed : T (wellFormed mail line)
-  unfolding lineFault
-  well-formed = by-test (wellFormed mail line) (λ t. t) (λ t. absurd (
-      let q = rw (no-false (wellFormed mail line) t) at f in let z : _≡_ {A = ℕ} 0 1 = cc in omega arith))
-
-  pub alt-fine : altFault (all isAscii (path mail line)) (alts (params (tail mail line))) ≡ Fine
-  unfolding lineFault
-  alt-fine = rw (yes-true (wellFormed mail line) well-formed) at f
-
-  pub parts : T (hasVerb mail line) × T (hasPath mail line) × T (spaced (tail mail line)) × T (all isParam (params (tail mail line)))
-  unfolding wellFormed
-  parts =
-      let l = leb (length line) 998 in
-      let u = utf8 line in
-      let v = hasVerb mail line in
-      let p = hasPath mail line in
-      let s = spaced (tail mail line) in
-      let q = all isParam (params (tail mail line)) in
-      let a = and-yes (l && u && v && p && s && q) (altsOk (alts (params (tail mail line)))) well-formed in
-      let b = and-yes (l && u && v && p && s) q (a .0) in
-      let d = and-yes (l && u && v && p) s (b .0) in
-      let e = and-yes (l && u && v) p (d .0) in
-      (and-yes (l && u) v (e .0) .1, e .1, d .1, b .1)
-
   pub front-ascii : T (all isAscii (take (verbLen mail) line))
   unfolding hasVerb
-  front-ascii = same-ascii (verb mail) (take (verbLen mail) line) (parts .0) (verb-ascii mail)
+  front-ascii = same-ascii (verb mail) (take (verbLen mail) line) (formed mail line f .has-verb) (verb-ascii mail)
 
   module _ (o : orcptFault mail line ≡ false) where
     rest-ascii : T (all isAscii (tail mail line))
     unfolding orcptFault
-    rest-ascii = tail-ascii (tail mail line) (parts .2) (parts .3) (true-yes (all orcptClean (params (tail mail line))) (not-false (all orcptClean (params (tail mail line))) o))
+    rest-ascii = tail-ascii (tail mail line) (formed mail line f .is-spaced) (formed mail line f .are-params) (true-yes (all orcptClean (params (tail mail line))) (not-false (all orcptClean (params (tail mail line))) o))
 
     closed-ascii : T (all isAscii (drop (verbLen mail + pathLen mail line) line))
-    unfolding tail hasPath
+    unfolding tail
     closed-ascii =
         let n = verbLen mail + pathLen mail line in
-        let close = eqb→eq (getD line n 0) 62 (and-yes (isTo (pathScan mail (drop (verbLen mail) line))) (eqb (getD line n 0) 62) (parts .1) .1) in
-        ascii-from line n (rw close tt) rest-ascii
+        ascii-from line n (rw (closed mail line f) tt) rest-ascii
 
     -- "Out: an ASCII envelope": of a line
     pub line-ascii : T (all isAscii (writtenLine mail line))
@@ -123,7 +98,7 @@ module _ (mail : Bool) (line : List ℕ) (f : lineFault mail line ≡ Fine) wher
         let from : T (all isAscii (drop v line)) = rw (take-append-drop n (drop v line)) at (all-append isAscii (take n (drop v line)) (drop n (drop v line)) t after) in
         rw (take-append-drop v line) at (all-append isAscii (take v line) (drop v line) front-ascii from))
         (λ t. let ps = params (tail mail line) in
-        let new = new-ascii ps (rw (no-false (all isAscii (path mail line)) t) at alt-fine) in
+        let new = new-ascii ps (rw (no-false (all isAscii (path mail line)) t) at (alt-fine mail line f)) in
         let n = altPlace ps in
         let m = altPlace ps + suc (length (alt ps)) in
         let others = all-append isAscii (take n (tail mail line)) (drop m (tail mail line)) (all-take isAscii n (tail mail line) rest-ascii) (all-drop isAscii m (tail mail line) rest-ascii) in
