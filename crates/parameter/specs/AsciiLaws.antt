@@ -1,8 +1,8 @@
 -- The tail of a line, of well-formed parameters, in which no ORCPT carries non-ASCII, is ASCII. Assumes nothing.
 use mathlib.Core.Path.{_≡_}
 use mathlib.Core.Bool.{Bool, true, false, not, _&&_, _||_, and-false}
-use mathlib.Core.List.{List, [], _∷_}
-use Prim.Native.Nat.{ℕ, zero, suc, _+_, _≤_, _<_, zero-le, suc-le-suc}
+use mathlib.Core.List.{List, [], _∷_, map}
+use Prim.Native.Nat.{ℕ, zero, suc, pred, _+_, _≤_, _<_, zero-le, suc-le-suc}
 use native.Mathlib.Numerals.{add-one}
 use native.Mathlib.Omega.{arith}
 use lib.Dec.{T, eqb, leb, ltb, eqb→eq}
@@ -13,8 +13,9 @@ use borrow.Author.Tests.{lt-leb, ne-eqb, eqb-true, not-false}
 use Rattle.lists.specs.Lists.{by-test, yes-true, all, all-append, all-weaken, nonempty}
 use Rattle.lists.specs.Byte.{isAscii}
 use Rattle.lists.specs.Run.{run, run-all, run-after}
+use Rattle.lists.specs.CutBy.{cutBy, cutAfter}
 use Rattle.letter_case.specs.LetterCase.{bytes}
-use Rattle.parameter.specs.Parameter.{notSpace, paramsAfter, params, spaced, isKeywordByte, keywordLen, keyword, hasValue, value, isOrcpt, isValueByte, isParam, orcptClean}
+use Rattle.parameter.specs.Parameter.{notSpace, spacedLen, params, spaced, isKeywordByte, keywordLen, keyword, hasValue, value, isOrcpt, isValueByte, isParam, orcptClean}
 
 module _ (b : ℕ) where
   keyword-ascii : T (isKeywordByte b) → T (isAscii b)
@@ -68,15 +69,16 @@ param-ascii p t o =
     (λ u. bare-ascii p k word (ltb-no {a = k} {b = length p} u))
 
 -- The bytes of a text whose parameters are ASCII, after k bytes of the parameter before; the byte after these is ASCII.
-after-ascii : (k : ℕ) (s : List ℕ) → T (all isAscii (take k s)) → (k < length s → T (isAscii (getD s k 0))) → T (all (all isAscii) (paramsAfter k s)) → T (all isAscii s)
-unfolding paramsAfter
+after-ascii : (k : ℕ) (s : List ℕ) → T (all isAscii (take k s)) → (k < length s → T (isAscii (getD s k 0))) → T (all (all isAscii) (map (drop 1) (cutAfter spacedLen k s))) → T (all isAscii s)
+unfolding cutAfter
 after-ascii k [] h b a = tt
 after-ascii (suc k) (x ∷ s) h b a =
     let both = and-yes (isAscii x) (all isAscii (take k s)) h in
     yes-and (isAscii x) (all isAscii s) (both .0) (after-ascii k s (both .1) (λ l. b (suc-le-suc l)) a)
 after-ascii zero (x ∷ s) h b a =
     let n = run notSpace s in
-    let both = and-yes (all isAscii (take n s)) (all (all isAscii) (paramsAfter n s)) a in
+    let m : pred (n + 1) ≡ n = rw add-one in
+    let both = and-yes (all isAscii (take n s)) (all (all isAscii) (map (drop 1) (cutAfter spacedLen n s))) (rw m at a) in
     let space : n < length s → T (isAscii (getD s n 0)) = λ l. rw (eqb-true (getD s n 0) 32 (not-false (eqb (getD s n 0) 32) (run-after notSpace s l))) tt in
     yes-and (isAscii x) (all isAscii s) (b (suc-le-suc zero-le)) (after-ascii n s (both .0) space (both .1))
 
@@ -88,6 +90,6 @@ each-ascii (p ∷ ps) h o =
     yes-and (all isAscii p) (all (all isAscii) ps) (param-ascii p (a .0) (b .0)) (each-ascii ps (a .1) (b .1))
 
 pub tail-ascii : (t : List ℕ) → T (spaced t) → T (all isParam (params t)) → T (all orcptClean (params t)) → T (all isAscii t)
-unfolding spaced params
+unfolding spaced params cutBy
 tail-ascii [] s h o = tt
-tail-ascii (x ∷ t) s h o = after-ascii 0 (x ∷ t) tt (λ l. rw (eqb→eq x 32 s) tt) (each-ascii (paramsAfter 0 (x ∷ t)) h o)
+tail-ascii (x ∷ t) s h o = after-ascii 0 (x ∷ t) tt (λ l. rw (eqb→eq x 32 s) tt) (each-ascii (map (drop 1) (cutAfter spacedLen 0 (x ∷ t))) h o)

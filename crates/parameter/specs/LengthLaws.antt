@@ -1,23 +1,28 @@
 -- How many bytes of a tail its parameters take. Assumes nothing.
 use mathlib.Core.Path.{_≡_, refl}
-use mathlib.Core.List.{List, [], _∷_}
-use Prim.Native.Nat.{ℕ, zero, suc, _+_, _≤_}
+use mathlib.Core.List.{List, [], _∷_, map}
+use Prim.Native.Nat.{ℕ, zero, suc, pred, _+_, _≤_}
+use native.Mathlib.Numerals.{add-one}
 use native.Mathlib.Omega.{arith}
-use lib.ListN.{length, length-take}
+use lib.ListN.{length, drop, length-take}
 use Rattle.lists.specs.Lists.{by-test, yes-true, no-false}
 use Rattle.lists.specs.Run.{run, run-le}
-use Rattle.parameter.specs.Parameter.{notSpace, paramsAfter, params, isAlt, alts, alt, altPlace}
+use Rattle.lists.specs.CutBy.{cutBy, cutAfter}
+use Rattle.parameter.specs.Parameter.{notSpace, spacedLen, params, isAlt, alts, alt, altPlace}
 
 -- how many bytes parameters take, each with its space
 abbrev size : List (List ℕ) → ℕ
 size [] = 0
 size (p ∷ ps) = suc (length p) + size ps
 
-params-size : (k : ℕ) (s : List ℕ) → k ≤ length s → k + size (paramsAfter k s) ≤ length s
-unfolding paramsAfter
+params-size : (k : ℕ) (t : List ℕ) → k ≤ length t → k + size (map (drop 1) (cutAfter spacedLen k t)) ≤ length t
+unfolding cutAfter
 params-size k [] h = omega arith
-params-size (suc k) (b ∷ s) h = omega (arith, params-size k s (omega arith))
-params-size zero (b ∷ s) h = let n = run notSpace s in omega (arith, params-size n s (run-le notSpace s), length-take n s)
+params-size (suc k) (b ∷ t) h = omega (arith, params-size k t (omega arith))
+params-size zero (b ∷ t) h =
+    let n = run notSpace t in
+    let m : pred (n + 1) ≡ n = rw add-one in
+    rw m (omega (arith, params-size n t (run-le notSpace t), length-take n t))
 
 alts-size : (ps : List (List ℕ)) (p : List ℕ) (more : List (List ℕ)) → alts ps ≡ p ∷ more → altPlace ps + suc (length p) ≤ size ps
 unfolding alts altPlace
@@ -32,8 +37,8 @@ alts-size (q ∷ ps) p more e =
 
 -- the ALT-ADDRESS, with the space before it, stands in the tail
 pub alt-inside : (t p : List ℕ) (more : List (List ℕ)) → alts (params t) ≡ p ∷ more → altPlace (params t) + suc (length p) ≤ length t
-unfolding params
-alt-inside t p more e = omega (arith, alts-size (paramsAfter 0 t) p more e, params-size 0 t (omega arith))
+unfolding params cutBy
+alt-inside t p more e = omega (arith, alts-size (map (drop 1) (cutAfter spacedLen 0 t)) p more e, params-size 0 t (omega arith))
 
 pub alt-le : (t : List ℕ) → length (alt (params t)) ≤ length t
 unfolding alt

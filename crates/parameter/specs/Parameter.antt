@@ -1,26 +1,25 @@
 -- The parameters of a line of an envelope: what stands in a line's tail, after its path. Assumes nothing.
 use mathlib.Core.Bool.{Bool, true, false, not, cond, _&&_, _||_}
-use mathlib.Core.List.{List, [], _∷_}
-use Prim.Native.Nat.{ℕ, zero, suc, _+_}
+use mathlib.Core.List.{List, [], _∷_, map}
+use Prim.Native.Nat.{ℕ, suc, _+_}
 use lib.Dec.{eqb, leb, ltb}
 use lib.ListN.{length, take, drop, getD}
 use Rattle.lists.specs.Lists.{all, nonempty}
 use Rattle.lists.specs.Byte.{within, isAscii}
 use Rattle.lists.specs.Run.{run}
+use Rattle.lists.specs.CutBy.{cutBy}
 use Rattle.letter_case.specs.LetterCase.{bytes, sameAnyCase}
 
 abbrev pub notSpace : ℕ → Bool
 notSpace b = not (eqb b 32)
 
--- The parameters of a tail, "each after one space" (32): a parameter goes up to the next space or the end. After k bytes that belong
--- to the parameter before.
-unfoldable pub paramsAfter : ℕ → List ℕ → List (List ℕ)
-paramsAfter k [] = []
-paramsAfter (suc k) (b ∷ s) = paramsAfter k s
-paramsAfter zero (b ∷ s) = let n = run notSpace s in take n s ∷ paramsAfter n s
+-- how long the parameter at the front of a tail is, with the byte before it: up to the next space or the end
+abbrev pub spacedLen : List ℕ → ℕ
+spacedLen t = run notSpace (drop 1 t) + 1
 
+-- the parameters of a tail, "each after one space"
 unfoldable pub params : List ℕ → List (List ℕ)
-params s = paramsAfter 0 s
+params t = map (drop 1) (cutBy spacedLen t)
 
 -- a tail with parameters starts with the first one's space
 unfoldable pub spaced : List ℕ → Bool

@@ -17,16 +17,10 @@ use Rattle.buffer.specs.Buffer.{greatest}
 use Rattle.letter_case.specs.LetterCase.{sameAnyCase}
 use Rattle.line.specs.LineLaws.{drop-capped, part-rest}
 use Rattle.lists.specs.Run.{run, run-le}
-use Rattle.parameter.specs.Parameter.{notSpace, paramsAfter, params, spaced, isKeywordByte, keywordLen, keyword, hasValue, value, isOrcpt, isAlt, isValueByte, isParam, alts, alt, altPlace, orcptClean}
+use Rattle.lists.specs.CutByLaws.{cut-nil, cut-next}
+use Rattle.parameter.specs.Parameter.{notSpace, spacedLen, params, spaced, isKeywordByte, keywordLen, keyword, hasValue, value, isOrcpt, isAlt, isValueByte, isParam, alts, alt, altPlace, orcptClean}
 
 -- ---- one parameter after another
-
-params-after : (k : ℕ) (s : List ℕ) → paramsAfter k s ≡ params (drop k s)
-unfolding paramsAfter params
-params-after zero [] = refl
-params-after zero (b ∷ s) = refl
-params-after (suc k) [] = refl
-params-after (suc k) (b ∷ s) = params-after k s
 
 -- where the parameter after a space at i ends; the parameter
 unfoldable pub paramEnd : List ℕ → ℕ → ℕ
@@ -37,14 +31,16 @@ paramAt s i = take (run notSpace (drop (i + 1) s)) (drop (i + 1) s)
 
 module _ (s : List ℕ) (i : ℕ) where
   pub params-at : i < length s → params (drop i s) ≡ paramAt s i ∷ params (drop (paramEnd s i) s)
-  unfolding params paramsAfter paramAt paramEnd
+  unfolding params paramAt paramEnd
   params-at h =
-      let n = run notSpace (drop (suc i) s) in
-      rw (add-one, drop-cons s i 0 h, params-after n (drop (suc i) s), drop-drop)
+      let n = run notSpace (drop (i + 1) s) in
+      let to : i + 1 + n ≡ i + spacedLen (drop i s) = rw drop-drop (omega arith) in
+      let m : i + 1 + n - i ≡ suc n = omega arith in
+      rw (cut-next spacedLen s i (i + 1 + n) h to (omega arith), m, drop-cons s i 0 h, add-one)
 
   pub params-end : length s ≤ i → params (drop i s) ≡ []
-  unfolding params paramsAfter
-  params-end h = rw (drop-of-length-le s {i = i} h)
+  unfolding params
+  params-end h = rw (drop-of-length-le s {i = i} h, cut-nil spacedLen)
 
   -- the parameter as code lends it
   pub param-part : (e : ℕ) → e ≡ i + 1 + run notSpace (drop (i + 1) s) → take (e - (i + 1)) (drop (i + 1) s) ≡ paramAt s i
