@@ -4,3 +4,4 @@ pub mod TakenLaws
 pub mod Grammar
 pub mod GrammarLaws
 pub mod BeginningLaws
+pub mod AtomBits
