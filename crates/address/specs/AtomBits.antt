@@ -3,7 +3,7 @@ use mathlib.Core.Path.{_≡_}
 use mathlib.Core.Bool.{Bool, cond, _||_}
 use Prim.Native.Nat.{ℕ, _<_, _/_, _%_, _^_}
 use lib.Dec.{ltb, eqb, leb}
-use Rattle.lists.specs.Byte.{agree}
+use Rattle.lists.specs.ByteLaws.{agree}
 use Rattle.address.specs.Address.{isAtext, isAtomByte}
 
 -- the 64 bytes below 64 and the 64 from there on; the bit of a byte is set where it is atext

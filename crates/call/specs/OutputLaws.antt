@@ -14,7 +14,8 @@ use Rattle.encoded_word.specs.SegmentsLaws.{rendered-append}
 use Rattle.envelope_line.specs.declared.Fault.{Fault}
 use Rattle.envelope.specs.declared.Checked.{Checked}
 use Rattle.envelope.specs.declared.Checked.the-variants.{Passed, Refused}
-use Rattle.envelope.specs.Envelope.{EnvelopeChecked, checked, entries, rcptStarts, writtenBy, written, orcptLine, mailReplacement, replacementBy, rcptReplacement}
+use Rattle.envelope.specs.LineStarts.{EnvelopeChecked, entries, rcptStarts}
+use Rattle.envelope.specs.Envelope.{checked, writtenBy, written, orcptLine, mailReplacement, replacementBy, rcptReplacement}
 use Rattle.envelope.specs.WrittenLaws.{stored}
 use Rattle.envelope.specs.LengthLaws.{written-fits}
 use Rattle.envelope.specs.ReplacementLaws.{mail-replacement-short, rcpt-replacement-short}

@@ -12,14 +12,16 @@ use Rattle.letter_case.specs.LetterCase.{bytes, lower, sameAnyCase}
 use Rattle.cut.specs.Cut.{cut}
 use Rattle.word_spelling.specs.Spelling.{bare, spellByte, spell}
 use Rattle.row.specs.Row.{runs, word, lines, rowIn, row}
-use Rattle.envelope.specs.Envelope.{checked, numberOf, placeOf, frontFault, thenNext, rcptFault, rcptsFrom, faultNumber}
+use Rattle.envelope.specs.Envelope.{checked, frontFault, thenNext, rcptFault, rcptsFrom, faultNumber}
+use Rattle.call.specs.Outcome.{numberOf, placeOf}
 use Rattle.header_line.specs.Lines.{lineAnswer, checkedLines, lineByte, nameByte, nameLen, named, continuation, wellFormed, lineOk, linesFrom}
 use Rattle.line.specs.Line.{blank}
 use Rattle.line.specs.Line.{crlf, lineLen}
 use Rattle.address.specs.Address.{later, byteThen, scanThen, isAtext, isAtomByte, isQuotedByte, isLiteralByte, dotAtomFrom, dotAtomScan, quotedFrom, quotedScan, literalFrom, literalScan, domainScan, localScan, addressScan, isAddress, isAsciiAddress}
 use Rattle.xtext.specs.Xtext.{isXchar, isHexchar, unitLen, unitByte, decodingAfter, decoding, isXtext, decoded, isAltAddress}
 use Rattle.hex.specs.Hex.{hexDigit, isHexDigit, hexValue}
-use Rattle.envelope_line.specs.EnvelopeLine.{verb, hasVerb, pathScan, pathLen, path, hasPath, tail, paramsAfter, params, spaced, isKeywordByte, keywordLen, keyword, hasValue, value, isOrcpt, isAlt, isValueByte, isParam, alts, altsOk, wellFormed as wellFormedLine, altFault, lineFault}
+use Rattle.envelope_line.specs.EnvelopeLine.{verb, hasVerb, pathScan, pathLen, path, hasPath, tail, paramsAfter, value, wellFormed as wellFormedLine, altFault, lineFault}
+use Rattle.parameter.specs.Parameter.{params, spaced, isKeywordByte, keywordLen, keyword, hasValue, isOrcpt, isAlt, isValueByte, isParam, alts, altsOk}
 
 -- a case and its answer
 pub data Case : Type 0 where

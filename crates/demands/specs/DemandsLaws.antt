@@ -24,7 +24,8 @@ use Rattle.envelope.specs.declared.Checked.{Checked}
 use Rattle.envelope.specs.declared.Checked.the-variants.{Passed, Refused}
 use Rattle.envelope.specs.declared.Orcpt.{Orcpt}
 use Rattle.envelope.specs.declared.Orcpt.the-variants.{Clean, At}
-use Rattle.envelope.specs.Envelope.{frontFault, thenNext, rcptFault, rcptsFrom, checked, numberOf as checkedNumber, faultNumber, orcptLine, written, mailReplacement, rcptReplacement}
+use Rattle.envelope.specs.Envelope.{frontFault, thenNext, rcptFault, rcptsFrom, checked, faultNumber, orcptLine, written, mailReplacement, rcptReplacement}
+use Rattle.call.specs.Outcome.{numberOf as checkedNumber}
 use Rattle.envelope.specs.AsciiLaws.{written-ascii}
 use Rattle.envelope.specs.ReplacementLaws.{mail-replacement-utf8, rcpt-replacement-utf8}
 use Rattle.line.specs.Line.{lineLen}

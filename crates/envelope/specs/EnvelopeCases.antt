@@ -11,7 +11,8 @@ use Rattle.line.specs.Line.{crlf, lineLen}
 use Rattle.address.specs.Address.{later, byteThen, scanThen, isAtext, isAtomByte, isQuotedByte, isLiteralByte, dotAtomFrom, dotAtomScan, quotedFrom, quotedScan, literalFrom, literalScan, domainScan, localScan, addressScan, isAddress, isAsciiAddress}
 use Rattle.xtext.specs.Xtext.{isXchar, isHexchar, unitLen, unitByte, decodingAfter, decoding, isXtext, decoded, isAltAddress}
 use Rattle.hex.specs.Hex.{isHexDigit, hexValue}
-use Rattle.envelope_line.specs.EnvelopeLine.{verb, hasVerb, pathScan, pathLen, path, hasPath, tail, paramsAfter, params, spaced, isKeywordByte, keywordLen, keyword, hasValue, value, isOrcpt, isAlt, isValueByte, isParam, alts, altsOk, alt, altPlace, wellFormed, altFault, lineFault, orcptClean, orcptFault, newPath, withoutAlt, writtenLine, replacement}
+use Rattle.envelope_line.specs.EnvelopeLine.{verb, hasVerb, pathScan, pathLen, path, hasPath, tail, paramsAfter, value, wellFormed, altFault, lineFault, orcptFault, newPath, withoutAlt, writtenLine, replacement}
+use Rattle.parameter.specs.Parameter.{params, spaced, isKeywordByte, keywordLen, keyword, hasValue, isOrcpt, isAlt, isValueByte, isParam, alts, altsOk, alt, altPlace, orcptClean}
 use Rattle.envelope.specs.declared.Orcpt.{Orcpt}
 use Rattle.envelope.specs.declared.Orcpt.the-variants.{Clean, At}
 use Rattle.envelope.specs.Envelope.{lines, lineText, endedFault, faultOf, faultNumber, isFine, checkedFrom, checked, texts, orcptFrom, orcptLine, writtenEnded, writtenOf, written, mailOf, mailReplacement, onlyRcptOf, rcptReplacement}

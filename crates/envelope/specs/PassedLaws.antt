@@ -6,7 +6,7 @@ use Prim.Native.Nat.{ℕ, suc, _+_, _≤_}
 use native.Mathlib.Omega.{arith}
 use lib.Dec.{ltb, eqb·suc-zero}
 use lib.ListN.{length}
-use Rattle.lists.specs.Lists.{by-test, yes-true, no-false}
+use Rattle.lists.specs.ListsLaws.{by-test, yes-true, no-false}
 use Rattle.envelope_line.specs.declared.Fault.the-variants.{Fine}
 use Rattle.envelope.specs.declared.Checked.the-variants.{Passed, Refused}
 use Rattle.envelope.specs.Envelope.{lines, endedFault, faultOf, faultNumber, isFine, checkedFrom, checked}

@@ -8,7 +8,8 @@ use lib.Dec.{T, leb, eqb, eqb→eq}
 use lib.ListN.{length, take, drop, getD}
 use mir.Facts.{and-yes, leb-yes}
 use borrow.Author.Tests.{lt-leb, le-leb, eq-eqb, ne-eqb}
-use Rattle.lists.specs.Lists.{by-test, yes-true, no-false, all}
+use Rattle.lists.specs.ListsLaws.{by-test, yes-true, no-false}
+use Rattle.lists.specs.Lists.{all}
 use Rattle.lists.specs.Byte.{isAscii}
 use Rattle.utf8.specs.Utf8.{utf8}
 use Rattle.address.specs.declared.Scan.{Scan}

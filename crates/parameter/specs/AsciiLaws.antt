@@ -10,9 +10,11 @@ use lib.ListN.{length, take, drop, getD, take-append-drop, drop-of-length-le}
 use lib.Seq.{drop-cons}
 use mir.Facts.{and-yes, yes-and, ltb-yes, ltb-no}
 use borrow.Author.Tests.{lt-leb, ne-eqb, eqb-true, not-false}
-use Rattle.lists.specs.Lists.{by-test, yes-true, all, all-append, all-weaken, nonempty}
+use Rattle.lists.specs.ListsLaws.{by-test, yes-true, all-append, all-weaken}
+use Rattle.lists.specs.Lists.{all, nonempty}
 use Rattle.lists.specs.Byte.{isAscii}
-use Rattle.lists.specs.Run.{run, run-all, run-after}
+use Rattle.lists.specs.Run.{run}
+use Rattle.lists.specs.RunLaws.{run-all, run-after}
 use Rattle.lists.specs.CutBy.{cutBy, cutAfter}
 use Rattle.letter_case.specs.LetterCase.{bytes}
 use Rattle.parameter.specs.Parameter.{notSpace, spacedLen, params, spaced, isKeywordByte, keywordLen, keyword, hasValue, value, isOrcpt, isValueByte, isParam, orcptClean}

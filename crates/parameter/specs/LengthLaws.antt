@@ -5,8 +5,9 @@ use Prim.Native.Nat.{ℕ, zero, suc, pred, _+_, _≤_}
 use native.Mathlib.Numerals.{add-one}
 use native.Mathlib.Omega.{arith}
 use lib.ListN.{length, drop, length-take}
-use Rattle.lists.specs.Lists.{by-test, yes-true, no-false}
-use Rattle.lists.specs.Run.{run, run-le}
+use Rattle.lists.specs.ListsLaws.{by-test, yes-true, no-false}
+use Rattle.lists.specs.Run.{run}
+use Rattle.lists.specs.RunLaws.{run-le}
 use Rattle.lists.specs.CutBy.{cutBy, cutAfter}
 use Rattle.parameter.specs.Parameter.{notSpace, spacedLen, params, isAlt, alts, alt, altPlace}
 

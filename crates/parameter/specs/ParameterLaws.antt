@@ -11,14 +11,16 @@ use lib.ListN.{length, take, drop, getD, drop-of-length-le}
 use lib.Seq.{drop-cons, drop-drop, length-take-le}
 use borrow.Author.Tests.{lt-ltb, le-ltb, eq-eqb, ne-eqb}
 use mir.Facts.{ltb-yes, ltb-no}
-use Rattle.lists.specs.Lists.{by-test, yes-true, no-false, all, nonempty}
+use Rattle.lists.specs.ListsLaws.{by-test, yes-true, no-false}
+use Rattle.lists.specs.Lists.{all, nonempty}
 use Rattle.lists.specs.Byte.{isAscii}
 use Rattle.buffer.specs.Buffer.{greatest}
 use Rattle.letter_case.specs.LetterCase.{sameAnyCase}
 use Rattle.line.specs.LineLaws.{drop-capped, part-rest}
 use Rattle.lists.specs.Run.{run}
 use Rattle.lists.specs.RunLaws.{run-le}
-use Rattle.envelope_line.specs.EnvelopeLine.{notSpace, paramsAfter, params, spaced, isKeywordByte, keywordLen, keyword, hasValue, value, isOrcpt, isAlt, isValueByte, isParam, alts, alt, altPlace, orcptClean}
+use Rattle.parameter.specs.Parameter.{notSpace, params, spaced, isKeywordByte, keywordLen, keyword, hasValue, isOrcpt, isAlt, isValueByte, isParam, alts, alt, altPlace, orcptClean}
+use Rattle.envelope_line.specs.EnvelopeLine.{paramsAfter, value}
 
 -- ---- one parameter after another
 

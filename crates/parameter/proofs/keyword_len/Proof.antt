@@ -6,7 +6,7 @@ use borrow.Author.Needs.{needs}
 use borrow.Author.Tests.{not-true, not-false}
 use Rattle.lists.specs.Run.{run}
 use Rattle.lists.specs.RunLaws.{run-step, run-stop, run-end}
-use Rattle.envelope_line.specs.EnvelopeLine.{isKeywordByte, keywordLen}
+use Rattle.parameter.specs.Parameter.{isKeywordByte, keywordLen}
 use Rattle.envelope_line.proofs.parameter.keyword_len.Statement.{statement}
 use Rattle.envelope_line.proofs.parameter.keyword_len.Tie as tie
 

@@ -5,7 +5,7 @@ use lib.ListN.{length, drop}
 use borrow.Author.Tests.{eq-eqb, ne-eqb}
 use Rattle.lists.specs.Run.{run}
 use Rattle.lists.specs.RunLaws.{run-step, run-stop, run-end}
-use Rattle.envelope_line.specs.EnvelopeLine.{notSpace}
+use Rattle.parameter.specs.Parameter.{notSpace}
 use Rattle.envelope_line.proofs.parameter.param_end.Statement.{statement}
 use Rattle.envelope_line.proofs.parameter.param_end.Tie as tie
 
