@@ -11,8 +11,8 @@ use lib.Dec.{eqb, eqb→eq}
 use lib.ListN.{length, drop, getD, drop-of-length-le}
 use lib.Seq.{take-length, drop-cons, drop-drop, getD-drop}
 use mir.Facts.{not-T, eqb-no}
-use Rattle.lists.specs.Lists.{all}
 use Rattle.lists.specs.ListsLaws.{by-test, yes-true, no-false}
+use Rattle.lists.specs.Lists.{all}
 use Rattle.lists.specs.Byte.{within, isAscii}
 use Rattle.lists.specs.Run.{run}
 use Rattle.lists.specs.RunLaws.{run-all, run-past}

@@ -10,8 +10,8 @@ use lib.Dec.{T, eqb, eqb→eq}
 use lib.ListN.{length, take, drop, getD, length-append, length-drop}
 use lib.Seq.{take-add, take-suc, take-length, append-snoc, drop-append-seam, getD-append-seam, getD-drop, length-take-le, getD-take}
 use mir.Facts.{and-yes, yes-and, or-no, eqb-no, leb-no, yes-eqb}
-use Rattle.lists.specs.Lists.{all, nonempty}
 use Rattle.lists.specs.ListsLaws.{by-test, cond-has, yes-true, no-false, all-append}
+use Rattle.lists.specs.Lists.{all, nonempty}
 use Rattle.lists.specs.Byte.{within}
 use Rattle.utf8.specs.Utf8.{utf8}
 use Rattle.lists.specs.Run.{run}

@@ -13,8 +13,8 @@ use native.Mathlib.Numerals.{add-one}
 use Rattle.utf8.specs.Utf8.{utf8}
 use Rattle.utf8.specs.Utf8Laws.{utf8-cut, utf8-append, utf8-ascii}
 use mir.Facts.{and-yes, yes-and, leb-no, ltb-yes, ltb-no}
-use Rattle.lists.specs.Lists.{all}
 use Rattle.lists.specs.ListsLaws.{by-test, cond-has, yes-true, all-append, all-weaken, all-left, all-right}
+use Rattle.lists.specs.Lists.{all}
 use Rattle.lists.specs.Byte.{within, isAscii}
 use Rattle.lists.specs.ByteLaws.{allBelow, below, implies}
 use Rattle.lists.specs.Run.{run}

@@ -5,12 +5,9 @@ use mathlib.Core.Bool.{Bool, true, false, cond}
 use mathlib.Core.List.{List, [], _∷_, map}
 use Prim.Native.Nat.{ℕ, suc}
 use native.Mathlib.Omega.{arith}
-use lib.Dec.{T}
-use lib.ListN.{take, drop}
-use lib.Seq.{drop-drop}
-use borrow.Author.Tests.{ne-eqb}
+use lib.Dec.{T, eqb·suc-zero}
 use Rattle.lists.specs.Lists.{all, joined}
-use Rattle.lists.specs.ListsLaws.{by-test, yes-true, true-yes, no-false, all-append}
+use Rattle.lists.specs.ListsLaws.{all-append}
 use Rattle.lists.specs.Byte.{isAscii}
 use Rattle.envelope_line.specs.EnvelopeLine.{orcptFault, writtenLine}
 use Rattle.envelope_line.specs.AsciiLaws.{line-ascii}

@@ -5,13 +5,13 @@ use mathlib.Core.List.{List, [], _∷_, _++_}
 use Prim.Native.Nat.{ℕ, suc, _+_, _-_, _≤_, _<_}
 use native.Mathlib.Numerals.{add-one}
 use native.Mathlib.Omega.{arith}
-use lib.Dec.{eqb, ltb, eqb→eq}
-use lib.ListN.{length, take, drop, set, getD, drop-of-length-le}
-use lib.Seq.{drop-cons, drop-drop}
-use borrow.Author.Tests.{eq-eqb, ne-eqb, lt-ltb, le-ltb}
-use mir.Facts.{and-yes, ltb-yes}
-use Rattle.address.specs.AddressLaws.{byte-within}
-use Rattle.lists.specs.ListsLaws.{by-test, true-yes, no-false}
+use lib.Dec.{eqb, leb}
+use lib.ListN.{length, take, drop, set, getD, length-take, length-drop}
+use lib.Seq.{drop-drop}
+use borrow.Author.Tests.{eq-eqb, ne-eqb, le-ltb, le-leb, lt-leb}
+use mir.Facts.{leb-yes}
+use Rattle.lists.specs.ListsLaws.{by-test, yes-true, true-yes, no-false}
+use Rattle.lists.specs.CutBy.{cutBy, cutAfter}
 use Rattle.buffer.specs.Buffer.{overlay, Reached}
 use Rattle.buffer.specs.BufferLaws.{reached-start, reached-then, reached-end, appended-byte, wrote-from}
 use Rattle.line.specs.Line.{crlf, lineLen}

@@ -5,8 +5,7 @@ use mathlib.Core.List.{List, [], _∷_, map}
 use Prim.Native.Nat.{ℕ, _≤_}
 use native.Mathlib.Omega.{arith}
 use lib.Dec.{T}
-use lib.ListN.{length, drop}
-use Rattle.lists.specs.ListsLaws.{by-test, yes-true, no-false}
+use lib.ListN.{length}
 use Rattle.utf8.specs.Utf8.{utf8}
 use Rattle.utf8.specs.Utf8Laws.{utf8-ascii}
 use Rattle.envelope_line.specs.declared.Fault.the-variants.{Fine}

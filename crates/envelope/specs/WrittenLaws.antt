@@ -5,12 +5,15 @@ use mathlib.Core.List.{List, [], _∷_, _++_, map}
 use Prim.Native.Nat.{ℕ, zero, suc, _+_, _-_, _≤_, _<_, min}
 use native.Mathlib.Nat.{add-zero, not-suc-le-zero, le-of-suc-le-suc}
 use native.Mathlib.Omega.{arith}
-use lib.ListN.{length, take, drop, getD, length-append}
-use lib.Seq.{take-suc}
+use lib.Dec.{ltb}
+use lib.ListN.{length, take, drop, getD, length-take, length-drop}
+use lib.Seq.{drop-drop, getD-drop, take-nil}
+use mir.Facts.{ltb-yes, ltb-no}
 use Rattle.lists.specs.Lists.{joined}
-use Rattle.lists.specs.ListsLaws.{joined-append, by-test, yes-true, no-false}
-use Rattle.buffer.specs.Buffer.{overlay, AppendedCapped, greatest}
-use Rattle.buffer.specs.BufferLaws.{length-overlay, overlay-front, capped-none, capped-then, capped-same}
+use Rattle.lists.specs.ListsLaws.{by-test}
+use Rattle.lists.specs.CutBy.{cutBy, cutAfter}
+use Rattle.buffer.specs.Buffer.{overlay, AppendedCapped, ReachedCapped, greatest}
+use Rattle.buffer.specs.BufferLaws.{length-overlay, overlay-front, capped-start, capped-turn, capped-end, capped-then}
 use Rattle.line.specs.Line.{lineLen}
 use Rattle.envelope_line.specs.EnvelopeLine.{path, writtenLine, replacement}
 use Rattle.envelope.specs.declared.Checked.the-variants.{Passed}

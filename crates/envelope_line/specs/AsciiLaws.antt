@@ -9,14 +9,11 @@ use lib.Dec.{T, eqb, leb, ltb, eqb→eq}
 use lib.ListN.{length, take, drop, getD, take-append-drop, drop-of-length-le}
 use lib.Seq.{drop-cons, drop-drop}
 use mir.Facts.{and-yes, yes-and, ltb-yes, yes-ltb, ltb-no}
-use borrow.Author.Tests.{lt-leb, ne-eqb, eqb-true, not-false}
-use Rattle.lists.specs.Lists.{all, nonempty}
-use Rattle.lists.specs.ListsLaws.{by-test, cond-has, yes-true, true-yes, no-false, all-append, all-left, all-right, all-weaken}
+use borrow.Author.Tests.{not-false}
+use Rattle.lists.specs.ListsLaws.{by-test, cond-has, true-yes, no-false, all-append, all-left, all-right}
+use Rattle.lists.specs.Lists.{all}
 use Rattle.lists.specs.Byte.{within, isAscii}
 use Rattle.lists.specs.ByteLaws.{within-high}
-use Rattle.lists.specs.Run.{run}
-use Rattle.lists.specs.RunLaws.{run-all, run-after}
-use Rattle.utf8.specs.Utf8.{utf8}
 use Rattle.letter_case.specs.LetterCase.{bytes, lower, sameAnyCase}
 use Rattle.address.specs.Address.{isAddress, isAsciiAddress}
 use Rattle.xtext.specs.Xtext.{decoded, isXtext, isAltAddress}

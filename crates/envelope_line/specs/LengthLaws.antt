@@ -4,7 +4,6 @@ use mathlib.Core.List.{List, [], _∷_, _++_}
 use Prim.Native.Nat.{ℕ, _+_, _*_, _≤_}
 use native.Mathlib.Omega.{arith}
 use lib.ListN.{length, take, drop, length-append, length-take, length-drop}
-use mir.Facts.{and-yes, yes-and, leb-yes, yes-leb}
 use Rattle.lists.specs.Lists.{all}
 use Rattle.lists.specs.ListsLaws.{cond-has}
 use Rattle.lists.specs.Byte.{isAscii}

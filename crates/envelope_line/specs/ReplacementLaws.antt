@@ -7,9 +7,8 @@ use native.Mathlib.Omega.{arith}
 use lib.Dec.{T}
 use lib.ListN.{length, take, drop, take-append-drop, length-append, length-take, length-drop}
 use lib.Seq.{drop-cons, drop-drop}
-use mir.Facts.{and-yes, leb-yes}
-use Rattle.lists.specs.Lists.{all}
 use Rattle.lists.specs.ListsLaws.{cond-has, no-false}
+use Rattle.lists.specs.Lists.{all}
 use Rattle.lists.specs.Byte.{isAscii}
 use Rattle.utf8.specs.Utf8.{utf8}
 use Rattle.utf8.specs.Utf8Laws.{utf8-right, utf8-append, utf8-ascii, utf8-cut}

@@ -19,8 +19,8 @@ use Rattle.letter_case.specs.LetterCase.{sameAnyCase}
 use Rattle.line.specs.LineLaws.{drop-capped, part-rest}
 use Rattle.lists.specs.Run.{run}
 use Rattle.lists.specs.RunLaws.{run-le}
-use Rattle.parameter.specs.Parameter.{notSpace, params, spaced, isKeywordByte, keywordLen, keyword, hasValue, isOrcpt, isAlt, isValueByte, isParam, alts, alt, altPlace, orcptClean}
-use Rattle.envelope_line.specs.EnvelopeLine.{paramsAfter, value}
+use Rattle.lists.specs.CutByLaws.{cut-nil, cut-next}
+use Rattle.parameter.specs.Parameter.{notSpace, spacedLen, params, spaced, isKeywordByte, keywordLen, keyword, hasValue, value, isOrcpt, isAlt, isValueByte, isParam, alts, alt, altPlace, orcptClean}
 
 -- ---- one parameter after another
 

@@ -7,8 +7,8 @@ use borrow.Author.Tests.{not-true, not-false}
 use Rattle.lists.specs.Run.{run}
 use Rattle.lists.specs.RunLaws.{run-step, run-stop, run-end}
 use Rattle.parameter.specs.Parameter.{isKeywordByte, keywordLen}
-use Rattle.envelope_line.proofs.parameter.keyword_len.Statement.{statement}
-use Rattle.envelope_line.proofs.parameter.keyword_len.Tie as tie
+use Rattle.parameter.proofs.keyword_len.Statement.{statement}
+use Rattle.parameter.proofs.keyword_len.Tie as tie
 
 abbrev Inv-loop : tie.InvT-loop
 Inv-loop p i₀ i = keywordLen p ≡ i + run isKeywordByte (drop i p)

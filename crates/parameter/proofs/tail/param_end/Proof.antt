@@ -6,8 +6,8 @@ use borrow.Author.Tests.{eq-eqb, ne-eqb}
 use Rattle.lists.specs.Run.{run}
 use Rattle.lists.specs.RunLaws.{run-step, run-stop, run-end}
 use Rattle.parameter.specs.Parameter.{notSpace}
-use Rattle.envelope_line.proofs.parameter.param_end.Statement.{statement}
-use Rattle.envelope_line.proofs.parameter.param_end.Tie as tie
+use Rattle.parameter.proofs.tail.param_end.Statement.{statement}
+use Rattle.parameter.proofs.tail.param_end.Tie as tie
 
 abbrev Inv-loop : tie.InvT-loop
 Inv-loop line at i₀ i = at + run notSpace (drop at line) ≡ i + run notSpace (drop i line)
