@@ -20,7 +20,7 @@ fn put_words(out: &mut [u8], phrase: &[u8]) -> usize
         let e = phrase::word_end(phrase, i);
         let a = buffer::clip(next, out.len());
         next = buffer::place_after(next, put_piece(&mut out[a..], &phrase[i..e]));
-        i = phrase::blanks_end(phrase, e);
+        i = line::blanks_end(phrase, e);
     }
     next
 }

@@ -14,10 +14,10 @@ use Rattle.encoded_word.specs.SegmentsLaws.{rendered-append}
 use Rattle.envelope_line.specs.declared.Fault.{Fault}
 use Rattle.envelope.specs.declared.Checked.{Checked}
 use Rattle.envelope.specs.declared.Checked.the-variants.{Passed, Refused}
-use Rattle.envelope.specs.LineStarts.{EnvelopeChecked, entries, rcptStarts}
-use Rattle.envelope.specs.Envelope.{checked, writtenBy, written, orcptLine, mailReplacement, replacementBy, rcptReplacement}
+use Rattle.envelope.specs.Envelope.{checked, texts, writtenOf, written, orcptLine, mailReplacement, onlyRcptOf, rcptReplacement}
+use Rattle.envelope.specs.LineStarts.{EnvelopeChecked, textsAt}
 use Rattle.envelope.specs.WrittenLaws.{stored}
-use Rattle.envelope.specs.LengthLaws.{written-fits}
+use Rattle.envelope.specs.LengthLaws.{written-le}
 use Rattle.envelope.specs.ReplacementLaws.{mail-replacement-short, rcpt-replacement-short}
 use Rattle.header_line.specs.declared.LineCheck.{LineCheck}
 use Rattle.header_line.specs.declared.LineCheck.the-variants.{WellFormed, Malformed}
@@ -183,7 +183,7 @@ pub outgoing-le : (e h : List ℕ) (count : ℕ) → checked e ≡ Passed count 
 outgoing-le e h count p k w =
     let t : Texts e (mailReplacement e) (rcptReplacement e) = record { of-mail = refl; of-rcpt = refl } in
     let s : Short (mailReplacement e) (rcptReplacement e) h =
-    record { of-mail = omega (arith, mail-replacement-short e count p); of-rcpt = omega (arith, rcpt-replacement-short e); of-header = k } in
+    record { of-mail = omega (arith, mail-replacement-short e count p); of-rcpt = omega (arith, rcpt-replacement-short e count p); of-header = k } in
     rw (header-of t h) at (header-of-le s w)
 
 -- ---- what the writers need
@@ -194,7 +194,7 @@ pub record Ready (e h array : List ℕ) (count : ℕ) : Type 0 where
   pub short₁ : length e ≤ 16384
   pub short₂ : length h ≤ 32768
   pub passed : checked e ≡ Passed count
-  pub starts : entries (min count 100) array ≡ rcptStarts e
+  pub starts : textsAt count array e ≡ texts e
 
 pub to-ready : {e h before after : List ℕ} {count : ℕ} {r : Checked} → length e ≤ 16384 → length h ≤ 32768 → EnvelopeChecked e before after r → r ≡ Passed count → length before ≡ 100
     → Ready e h after count
@@ -210,23 +210,23 @@ module _ {e h array : List ℕ} {count : ℕ} (r : Ready e h array count) where
   pub mail-short : length (mailReplacement e) ≤ 2048
   mail-short = omega (arith, mail-replacement-short e count (r .passed))
 
-  rcpt-is : replacementBy (entries (min count 100) array) e ≡ rcptReplacement e
+  rcpt-is : onlyRcptOf (textsAt count array e) ≡ rcptReplacement e
   unfolding rcptReplacement
   rcpt-is = rw (r .starts)
 
-  pub rcpt-short : length (replacementBy (entries (min count 100) array) e) ≤ 2048
-  rcpt-short = rw rcpt-is (omega (arith, rcpt-replacement-short e))
+  pub rcpt-short : length (onlyRcptOf (textsAt count array e)) ≤ 2048
+  rcpt-short = rw rcpt-is (omega (arith, rcpt-replacement-short e count (r .passed)))
 
   -- the envelope
-  pub ready-written : {before after : List ℕ} {n : ℕ} → AppendedCapped (writtenBy (entries (min count 100) array) e) 0 before after n → Wrote (written e) before after n
+  pub ready-written : {before after : List ℕ} {n : ℕ} → AppendedCapped (writtenOf (textsAt count array e)) 0 before after n → Wrote (written e) before after n
   unfolding written
-  ready-written a = rw (r .starts) at (wrote-of a (written-fits e (r .short₁) array count))
+  ready-written a = wrote-of (rw (r .starts) at a) (omega (arith, written-le e count (r .passed), r .short₁))
 
-  pub ready-texts : {mail rcpt : List ℕ} → mail ≡ mailReplacement e → rcpt ≡ replacementBy (entries (min count 100) array) e → Texts e mail rcpt
+  pub ready-texts : {mail rcpt : List ℕ} → mail ≡ mailReplacement e → rcpt ≡ onlyRcptOf (textsAt count array e) → Texts e mail rcpt
   ready-texts p q = record { of-mail = p; of-rcpt = q ∙ rcpt-is }
 
   pub ready-short : {mail rcpt : List ℕ} → Texts e mail rcpt → Short mail rcpt h
-  ready-short t = record { of-mail = rw (t .of-mail) mail-short; of-rcpt = rw (t .of-rcpt) (omega (arith, rcpt-replacement-short e)); of-header = r .short₂ }
+  ready-short t = record { of-mail = rw (t .of-mail) mail-short; of-rcpt = rw (t .of-rcpt) (omega (arith, rcpt-replacement-short e count (r .passed))); of-header = r .short₂ }
 
   -- ---- room
 

@@ -12,16 +12,18 @@ use Rattle.letter_case.specs.LetterCase.{bytes, lower, sameAnyCase}
 use Rattle.cut.specs.Cut.{cut}
 use Rattle.word_spelling.specs.Spelling.{bare, spellByte, spell}
 use Rattle.row.specs.Row.{runs, word, lines, rowIn, row}
-use Rattle.envelope.specs.Envelope.{checked, frontFault, thenNext, rcptFault, rcptsFrom, faultNumber}
-use Rattle.call.specs.Outcome.{numberOf, placeOf}
+use Rattle.envelope_line.specs.declared.Fault.{Fault}
+use Rattle.envelope.specs.declared.Checked.{Checked}
+use Rattle.envelope.specs.declared.Checked.the-variants.{Passed, Refused}
+use Rattle.envelope.specs.Envelope.{lines as envelopeLines, lineText, endedFault, faultOf, faultNumber, isFine, checkedFrom, checked}
 use Rattle.header_line.specs.Lines.{lineAnswer, checkedLines, lineByte, nameByte, nameLen, named, continuation, wellFormed, lineOk, linesFrom}
 use Rattle.line.specs.Line.{blank}
 use Rattle.line.specs.Line.{crlf, lineLen}
 use Rattle.address.specs.Address.{later, byteThen, scanThen, isAtext, isAtomByte, isQuotedByte, isLiteralByte, dotAtomFrom, dotAtomScan, quotedFrom, quotedScan, literalFrom, literalScan, domainScan, localScan, addressScan, isAddress, isAsciiAddress}
 use Rattle.xtext.specs.Xtext.{isXchar, isHexchar, unitLen, unitByte, decodingAfter, decoding, isXtext, decoded, isAltAddress}
 use Rattle.hex.specs.Hex.{hexDigit, isHexDigit, hexValue}
-use Rattle.envelope_line.specs.EnvelopeLine.{verb, hasVerb, pathScan, pathLen, path, hasPath, tail, paramsAfter, value, wellFormed as wellFormedLine, altFault, lineFault}
-use Rattle.parameter.specs.Parameter.{params, spaced, isKeywordByte, keywordLen, keyword, hasValue, isOrcpt, isAlt, isValueByte, isParam, alts, altsOk}
+use Rattle.envelope_line.specs.EnvelopeLine.{verb, hasVerb, pathScan, pathLen, path, hasPath, tail, wellFormed as wellFormedLine, altFault, lineFault}
+use Rattle.parameter.specs.Parameter.{params, spaced, isKeywordByte, keywordLen, keyword, hasValue, value, isOrcpt, isAlt, isValueByte, isParam, alts, altsOk}
 
 -- a case and its answer
 pub data Case : Type 0 where
@@ -38,11 +40,16 @@ pub data Case : Type 0 where
 abbrev pub wordSizes : List ℕ → List (ℕ × ℕ)
 wordSizes text = map (λ (run : List (List ℕ)). (length run, length (spell (joined run)))) (runs 63 (chars text))
 
+-- the number and the place of an envelope's answer
+abbrev answerOf : Checked → ℕ × ℕ
+answerOf (Passed count) = (0, 0)
+answerOf (Refused fault line) = (faultNumber fault, line)
+
 -- what a case says
 abbrev pub Right : Case → Type 0
 Right (cutsTo text sizes) = wordSizes text ≡ sizes
 Right (hasRow text bytes) = row text ≡ bytes
-Right (answers envelope number place) = (numberOf (checked envelope) ≡ number) × (placeOf (checked envelope) ≡ place)
+Right (answers envelope number place) = answerOf (checked envelope) ≡ (number, place)
 Right (lined header number place) = lineAnswer (checkedLines header) ≡ (number, place)
 
 -- each of these cases is right
@@ -127,5 +134,5 @@ cases =
     ∷ []
 
 pub cases-right : AllRight cases
-unfolding rowIn runs cut lines word spell spellByte bare hexDigit bytes lower sameAnyCase crlf lineLen later byteThen scanThen isAtext isAtomByte isQuotedByte isLiteralByte dotAtomFrom dotAtomScan quotedFrom quotedScan literalFrom literalScan domainScan localScan addressScan isAddress isAsciiAddress run utf8 chars cutBy cutAfter charLen leadingOnes leadingZeros isChar secondLow secondHigh isXchar isHexDigit hexValue isHexchar unitLen unitByte decodingAfter decoding isXtext decoded isAltAddress verb hasVerb pathScan pathLen path hasPath tail paramsAfter params spaced isKeywordByte keywordLen keyword hasValue value isOrcpt isAlt isValueByte isParam alts altsOk wellFormed altFault lineFault frontFault thenNext rcptFault rcptsFrom checked faultNumber numberOf placeOf lineByte blank nameByte nameLen named continuation lineOk linesFrom checkedLines lineAnswer wellFormedLine
-cases-right = (refl, (refl, (refl, (refl, (refl, (refl, ((refl, refl), ((refl, refl), ((refl, refl), ((refl, refl), ((refl, refl), ((refl, refl), ((refl, refl), ((refl, refl), (refl, (refl, tt))))))))))))))))
+unfolding rowIn runs cut lines word spell spellByte bare hexDigit bytes lower sameAnyCase crlf lineLen later byteThen scanThen isAtext isAtomByte isQuotedByte isLiteralByte dotAtomFrom dotAtomScan quotedFrom quotedScan literalFrom literalScan domainScan localScan addressScan isAddress isAsciiAddress run utf8 chars cutBy cutAfter charLen leadingOnes leadingZeros isChar secondLow secondHigh isXchar isHexDigit hexValue isHexchar unitLen unitByte decodingAfter decoding isXtext decoded isAltAddress verb hasVerb pathScan pathLen path hasPath tail params spaced isKeywordByte keywordLen keyword hasValue value isOrcpt isAlt isValueByte isParam alts altsOk wellFormed altFault lineFault envelopeLines lineText endedFault faultOf faultNumber isFine checkedFrom checked lineByte blank nameByte nameLen named continuation lineOk linesFrom checkedLines lineAnswer wellFormedLine
+cases-right = (refl, (refl, (refl, (refl, (refl, (refl, (refl, (refl, (refl, (refl, (refl, (refl, (refl, (refl, (refl, (refl, tt))))))))))))))))

@@ -24,11 +24,10 @@ use Rattle.envelope.specs.declared.Checked.{Checked}
 use Rattle.envelope.specs.declared.Checked.the-variants.{Passed, Refused}
 use Rattle.envelope.specs.declared.Orcpt.{Orcpt}
 use Rattle.envelope.specs.declared.Orcpt.the-variants.{Clean, At}
-use Rattle.envelope.specs.Envelope.{frontFault, thenNext, rcptFault, rcptsFrom, checked, faultNumber, orcptLine, written, mailReplacement, rcptReplacement}
-use Rattle.call.specs.Outcome.{numberOf as checkedNumber}
+use Rattle.envelope.specs.Envelope.{checked, faultNumber, orcptLine, written, mailReplacement, rcptReplacement}
+use Rattle.envelope.specs.PassedLaws.{checked-not-fine}
 use Rattle.envelope.specs.AsciiLaws.{written-ascii}
 use Rattle.envelope.specs.ReplacementLaws.{mail-replacement-utf8, rcpt-replacement-utf8}
-use Rattle.line.specs.Line.{lineLen}
 use Rattle.header_line.specs.declared.LineCheck.{LineCheck}
 use Rattle.header_line.specs.declared.LineCheck.the-variants.{WellFormed, Malformed as MalformedLine}
 use Rattle.outgoing_field.specs.declared.HeldField.{HeldField}
@@ -50,31 +49,6 @@ use Rattle.call.specs.OutputLaws.{over-yes, over-no}
 use Rattle.demands.specs.Demands.{InLimits, EnvelopePasses, HeaderPasses, OrcptPasses, Passes, Given, Untouched, KeptPast, Demand1, became, Demand2, Asks, RowThere, DemandThree, Demands}
 use Rattle.demands.specs.Demands.Asks.{unlabelled, afterLabel}
 use Rattle.demands.specs.Demands.Given.{envelope-over, header-over, envelope-malformed, no-alternative, bad-alternative, header-malformed, orcpt-non-ascii, held-non-ascii, envelope-longer, header-longer, none-holds}
-
--- ---- a refused envelope has a line at fault
-
-fine-never : {fault : Fault} {n line : ℕ} → Refused fault n ≡ Refused Fine line → (faultNumber fault ≡ 0 → ⊥) → ⊥
-unfolding checkedNumber faultNumber
-fine-never {fault} e k = k (ap checkedNumber e)
-
-next-not-fine : (fault : Fault) (n line : ℕ) (next : Checked) → (next ≡ Refused Fine line → ⊥) → thenNext fault n next ≡ Refused Fine line → ⊥
-unfolding thenNext faultNumber
-next-not-fine Fine n line next k e = k e
-next-not-fine Malformed n line next k e = fine-never e (λ z. omega arith)
-next-not-fine NoAlternative n line next k e = fine-never e (λ z. omega arith)
-next-not-fine BadAlternative n line next k e = fine-never e (λ z. omega arith)
-
-rcpts-not-fine : (k n line : ℕ) (e : List ℕ) → rcptsFrom k n e ≡ Refused Fine line → ⊥
-unfolding rcptsFrom faultNumber
-rcpts-not-fine k zero line [] q = fine-never q (λ z. omega arith)
-rcpts-not-fine k (suc n) line [] q = let z : _≡_ {A = ℕ} 0 1 = cc in omega arith
-rcpts-not-fine (suc k) n line (b ∷ e) q = rcpts-not-fine k n line e q
-rcpts-not-fine zero n line (b ∷ e) q =
-    next-not-fine (rcptFault n (b ∷ e)) (suc n) line (rcptsFrom (suc (lineLen (b ∷ e))) (suc n) e) (rcpts-not-fine (suc (lineLen (b ∷ e))) (suc n) line e) q
-
-checked-not-fine : (e : List ℕ) (line : ℕ) → checked e ≡ Refused Fine line → ⊥
-unfolding checked
-checked-not-fine e line q = next-not-fine (frontFault true e) 0 line (rcptsFrom 0 0 (drop (lineLen e + 2) e)) (rcpts-not-fine 0 0 line (drop (lineLen e + 2) e)) q
 
 -- ---- demand 1
 
@@ -265,7 +239,7 @@ module _ (e h : List ℕ) (p : Passes e h) where
       all-append sound (newFields e) (headerSegments Spool h)
       (all-append sound (newField (bytes "Downgraded-Mail-From:") (mailReplacement e)) (newField (bytes "Downgraded-Rcpt-To:") (rcptReplacement e))
       (new-field-sound (bytes "Downgraded-Mail-From:") (mailReplacement e) tt mail)
-      (new-field-sound (bytes "Downgraded-Rcpt-To:") (rcptReplacement e) tt (rcpt-replacement-utf8 e)))
+      (new-field-sound (bytes "Downgraded-Rcpt-To:") (rcptReplacement e) tt (rcpt-replacement-utf8 e (q .envelope .recipients) (q .envelope .lines))))
       (owed-header Spool h (q .lines) .sound-all)
 
   field-after-field : outgoingHeader e h ≡ rendered (newFields e) ++ joined (map became (fieldsOf h))

@@ -5,7 +5,7 @@ use Prim.Native.Nat.{ℕ, zero, suc}
 use lib.Count.{leadingZeros}
 use Rattle.lists.specs.Run.{run}
 use Rattle.lists.specs.CutBy.{cutBy, cutAfter}
-use Rattle.utf8.specs.Utf8.{leadingOnes, charLen, secondLow, secondHigh, isChar, charsAfter, chars, utf8}
+use Rattle.utf8.specs.Utf8.{leadingOnes, charLen, secondLow, secondHigh, isChar, chars, utf8}
 use Rattle.letter_case.specs.LetterCase.{bytes, lower, sameAnyCase}
 use Rattle.line.specs.Line.{crlf, lineLen}
 use Rattle.address.specs.Address.{later, byteThen, scanThen, isAtext, isAtomByte, isQuotedByte, isLiteralByte, dotAtomFrom, dotAtomScan, quotedFrom, quotedScan, literalFrom, literalScan, domainScan, localScan, addressScan, isAddress, isAsciiAddress}
@@ -133,5 +133,5 @@ cases =
     ∷ []
 
 pub cases-right : AllRight cases
-unfolding bytes lower sameAnyCase crlf lineLen later byteThen scanThen isAtext isAtomByte isQuotedByte isLiteralByte dotAtomFrom dotAtomScan quotedFrom quotedScan literalFrom literalScan domainScan localScan addressScan isAddress isAsciiAddress run utf8 chars charsAfter charLen leadingOnes leadingZeros isChar secondLow secondHigh isXchar isHexDigit hexValue isHexchar unitLen unitByte decodingAfter decoding isXtext decoded isAltAddress verb hasVerb pathScan pathLen path hasPath tail params spaced isKeywordByte keywordLen keyword hasValue value isOrcpt isAlt isValueByte isParam alts altsOk alt altPlace wellFormed altFault lineFault orcptClean orcptFault newPath withoutAlt writtenLine replacement cutBy cutAfter lines lineText endedFault faultOf faultNumber isFine checkedFrom checked texts orcptFrom orcptLine writtenEnded writtenOf written mailOf mailReplacement onlyRcptOf rcptReplacement startsFrom rcptStarts
+unfolding bytes lower sameAnyCase crlf lineLen later byteThen scanThen isAtext isAtomByte isQuotedByte isLiteralByte dotAtomFrom dotAtomScan quotedFrom quotedScan literalFrom literalScan domainScan localScan addressScan isAddress isAsciiAddress run utf8 chars charLen leadingOnes leadingZeros isChar secondLow secondHigh isXchar isHexDigit hexValue isHexchar unitLen unitByte decodingAfter decoding isXtext decoded isAltAddress verb hasVerb pathScan pathLen path hasPath tail params spaced isKeywordByte keywordLen keyword hasValue value isOrcpt isAlt isValueByte isParam alts altsOk alt altPlace wellFormed altFault lineFault orcptClean orcptFault newPath withoutAlt writtenLine replacement cutBy cutAfter lines lineText endedFault faultOf faultNumber isFine checkedFrom checked texts orcptFrom orcptLine writtenEnded writtenOf written mailOf mailReplacement onlyRcptOf rcptReplacement startsFrom rcptStarts
 cases-right = (refl, (refl, (refl, (refl, (refl, (refl, (refl, (refl, (refl, (refl, (refl, (refl, (refl, (refl, (refl, (refl, (refl, (refl, (refl, (refl, (refl, (refl, (refl, (refl, (refl, (refl, (refl, (refl, (refl, (refl, ((refl, refl), ((refl, refl), (refl, (refl, (refl, ((refl, refl), ((refl, refl), ((refl, refl), tt))))))))))))))))))))))))))))))))))))))
