@@ -13,8 +13,7 @@ use Rattle.buffer.specs.Buffer.{Wrote, AppendedCapped, greatest}
 use Rattle.buffer.specs.BufferLaws.{overlay-front, appended-from, appended-of, appended-then, capped-then, capped-same, length-wrote, length-added, wrote-from, wrote-of}
 use Rattle.rules.specs.Rules.{removalStart, removalEnd}
 use Rattle.rules.specs.declared.Rules.{Rules}
-use Rattle.row.specs.Row.{row}
-use Rattle.row.specs.Row.{bounded}
+use Rattle.row.specs.Row.{row, bounded}
 use Rattle.row.specs.RowLaws.{bounded-short}
 use Rattle.encoded_word.specs.SegmentsLaws.{rendered-append}
 use Rattle.encoded_word.specs.Segments.{rendered, bytesOf}

@@ -17,8 +17,7 @@ use Rattle.envelope.specs.declared.Checked.{Checked}
 use Rattle.envelope.specs.declared.Checked.the-variants.{Passed, Refused}
 use Rattle.envelope.specs.Envelope.{lines as envelopeLines, lineText, endedFault, faultOf, faultNumber, isFine, checkedFrom, checked}
 use Rattle.header_line.specs.Lines.{lineAnswer, checkedLines, lineByte, nameByte, nameLen, named, continuation, wellFormed, lineOk, linesFrom}
-use Rattle.line.specs.Line.{blank}
-use Rattle.line.specs.Line.{crlf, lineLen}
+use Rattle.line.specs.Line.{blank, crlf, lineLen}
 use Rattle.address.specs.Address.{later, byteThen, scanThen, isAtext, isAtomByte, isQuotedByte, isLiteralByte, dotAtomFrom, dotAtomScan, quotedFrom, quotedScan, literalFrom, literalScan, domainScan, localScan, addressScan, isAddress, isAsciiAddress}
 use Rattle.xtext.specs.Xtext.{isXchar, isHexchar, unitLen, unitByte, decodingAfter, decoding, isXtext, decoded, isAltAddress}
 use Rattle.hex.specs.Hex.{hexDigit, isHexDigit, hexValue}

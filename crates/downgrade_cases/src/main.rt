@@ -56,7 +56,7 @@ fn call(
     n: usize,
     header_space: &mut [u8],
     m: usize,
-) -> hennelaku::Answer {
+) -> call::Answer {
     let envelope_end = case_line::room(n, envelope_space);
     let header_end = case_line::room(m, header_space);
     hennelaku::hennelaku_downgrade_slices(

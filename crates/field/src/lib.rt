@@ -1,8 +1,7 @@
 // Fields whose text is written in encoded words.
 ghost use mathlib.Core.List.{[], _∷_, _++_};
 ghost use Rattle.buffer.specs.Buffer.{AppendedCapped};
-ghost use Rattle.row.specs.Row.{row};
-ghost use Rattle.row.specs.Row.{bounded};
+ghost use Rattle.row.specs.Row.{row, bounded};
 ghost use Rattle.encoded_word.specs.Segments.{rendered};
 ghost use Rattle.field.specs.Field.{labelledField, prefix, encodedField};
 

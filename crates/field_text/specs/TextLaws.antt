@@ -18,12 +18,11 @@ use Rattle.lists.specs.RunLaws.{run-le, run-all, run-after}
 use Rattle.buffer.specs.Buffer.{Wrote, AppendedCapped, Reached, greatest}
 use Rattle.buffer.specs.BufferLaws.{overlay-front, length-wrote, appended-of, reached-start, reached-then, reached-within, reached-end, length-reached, wrote-from, wrote-nothing}
 use Rattle.header_line.specs.Lines.{nameLen}
-use Rattle.line.specs.Line.{blank, crlf}
+use Rattle.line.specs.Line.{blank, crlf, notCr, crRun}
 use Rattle.line.specs.LineLaws.{crlf-inside}
 use Rattle.header.specs.Fields.{fold, nameOf, valueOf, unfoldedAfter, trimmed, textOf}
 use Rattle.header.specs.FieldShape.{Shaped}
 use Rattle.header.specs.FieldLaws.{drop-take}
-use Rattle.line.specs.LineLaws.{notCr, crRun}
 use Rattle.field_text.specs.TextPlace.{textPlace}
 use Rattle.field_text.specs.declared.TextPlace.the-variants.{InPlace, Folded}
 

@@ -6,8 +6,7 @@ use lib.Dec.{ltb}
 use lib.ListN.{length}
 use Rattle.lists.specs.Lists.{all}
 use Rattle.lists.specs.Run.{run}
-use Rattle.line.specs.Line.{blank}
-use Rattle.line.specs.LineLaws.{notCr}
+use Rattle.line.specs.Line.{blank, notCr}
 use Rattle.header_line.specs.Lines.{nameLen}
 use Rattle.header.specs.Fields.{valueOf}
 use Rattle.field_text.specs.declared.TextPlace.{TextPlace}

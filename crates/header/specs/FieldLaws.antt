@@ -17,9 +17,7 @@ use Rattle.lists.specs.CutByLaws.{cut-nil, cut-front, cut-next, cut-joined, cut
 use Rattle.lists.specs.Run.{run}
 use Rattle.lists.specs.RunLaws.{run-le, run-all}
 use Rattle.header_line.specs.Lines.{nameByte, nameLen}
-use Rattle.line.specs.Line.{blank}
-use Rattle.line.specs.Line.{crlf}
-use Rattle.line.specs.LineLaws.{notCr}
+use Rattle.line.specs.Line.{blank, crlf, notCr}
 use Rattle.line.specs.LineLaws.{crlf-inside}
 use Rattle.header.specs.Fields.{fold, fieldLen, fieldsOf, nameOf, valueOf, lineCount}
 

@@ -18,13 +18,11 @@ use Rattle.lists.specs.RunLaws.{run-all, run-past}
 use Rattle.utf8.specs.Utf8.{utf8}
 use Rattle.utf8.specs.Utf8Laws.{utf8-right, utf8-append, utf8-ascii, utf8-cut}
 use Rattle.header_line.specs.Lines.{lineByte, nameByte, nameLen, named, continuation, wellFormed, lineOk, linesFrom, checkedLines}
-use Rattle.line.specs.Line.{blank}
-use Rattle.line.specs.Line.{crlf, lineLen}
+use Rattle.line.specs.Line.{blank, crlf, lineLen, notCr}
 use Rattle.header_line.specs.LineLaws.{front-good, front-bad}
 use Rattle.line.specs.LineLaws.{crlf-inside}
 use Rattle.header.specs.Fields.{fold, fieldLen, fieldsOf, nameOf, valueOf, unfoldedAfter, trimmed, textOf}
 use Rattle.header.specs.FieldLaws.{ends, len-cons, len-past, fields-nil, fields-front}
-use Rattle.line.specs.LineLaws.{notCr}
 use Rattle.header.specs.FieldShape.{piece, continued, folded, Shaped, Each, withoutBreaks}
 use Rattle.header_line.specs.declared.LineCheck.the-variants.{WellFormed, Malformed}
 

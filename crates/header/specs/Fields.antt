@@ -6,8 +6,7 @@ use lib.ListN.{length, take, drop, getD}
 use Rattle.lists.specs.CutBy.{cutBy}
 use Rattle.lists.specs.Run.{run}
 use Rattle.header_line.specs.Lines.{nameLen}
-use Rattle.line.specs.Line.{blank}
-use Rattle.line.specs.Line.{crlf}
+use Rattle.line.specs.Line.{blank, crlf}
 
 -- a fold at the front: CRLF before a continuation
 unfoldable pub fold : List ℕ → Bool

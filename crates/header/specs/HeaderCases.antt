@@ -10,8 +10,7 @@ use Rattle.lists.specs.Run.{run}
 use Rattle.utf8.specs.Utf8.{leadingOnes, charLen, chars, isChar, secondLow, secondHigh, utf8}
 use Rattle.letter_case.specs.LetterCase.{bytes}
 use Rattle.header_line.specs.Lines.{lineByte, nameByte, nameLen, named, continuation, wellFormed, lineOk, linesFrom, checkedLines}
-use Rattle.line.specs.Line.{blank}
-use Rattle.line.specs.Line.{crlf, lineLen}
+use Rattle.line.specs.Line.{blank, crlf, lineLen}
 use Rattle.header.specs.Fields.{fold, fieldLen, fieldsOf, nameOf, valueOf, unfoldedAfter, trimmed, textOf}
 use Rattle.lists.specs.CutBy.{cutAfter, cutBy}
 use Rattle.header_line.specs.declared.LineCheck.{LineCheck}

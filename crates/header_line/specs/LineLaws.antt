@@ -20,8 +20,7 @@ use Rattle.utf8.specs.Utf8.{charLen, isChar, charAt, utf8}
 use Rattle.utf8.specs.Utf8Laws.{char-len-some, char-high, utf8-right, utf8-ascii, utf8-char, utf8-of}
 use Rattle.utf8.specs.Utf8AtLaws.{whole-char, char-at-some, char-at-within, utf8-stop}
 use Rattle.header_line.specs.Lines.{lineByte, nameByte, nameLen, named, continuation, wellFormed, lineOk, linesFrom, checkedLines}
-use Rattle.line.specs.Line.{blank}
-use Rattle.line.specs.Line.{crlf, lineLen}
+use Rattle.line.specs.Line.{blank, crlf, lineLen}
 use Rattle.line.specs.LineLaws.{crlf-inside}
 use Rattle.header_line.specs.declared.LineCheck.the-variants.{WellFormed, Malformed}
 

@@ -15,14 +15,7 @@ use Rattle.lists.specs.Run.{run}
 use Rattle.lists.specs.RunLaws.{run-after}
 use mir.Facts.{and-yes, leb-yes, leb-no, ltb-yes, ltb-no}
 use Rattle.buffer.specs.Buffer.{greatest}
-use Rattle.line.specs.Line.{crlf, lineLen}
-
-abbrev pub notCr : ℕ → Bool
-notCr b = not (eqb b 13)
-
--- how many bytes stand before the first CR
-abbrev pub crRun : List ℕ → ℕ
-crRun s = run notCr s
+use Rattle.line.specs.Line.{crlf, lineLen, notCr, crRun}
 
 -- no CRLF stands before the first CR
 pub line-cr : (s : List ℕ) → lineLen s ≡ crRun s + lineLen (drop (crRun s) s)

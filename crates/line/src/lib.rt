@@ -4,8 +4,7 @@ ghost use Prim.Native.Nat.{_+_, _-_, _≤_};
 ghost use lib.ListN.{length, take, drop, getD};
 ghost use Rattle.lists.specs.Lists.{all};
 ghost use Rattle.lists.specs.Run.{run};
-ghost use Rattle.line.specs.Line.{blank, crlf, lineLen};
-ghost use Rattle.line.specs.LineLaws.{notCr, crRun};
+ghost use Rattle.line.specs.Line.{blank, crlf, lineLen, notCr, crRun};
 
 // The byte at a place; 0 past the end.
 pub fn byte_at(s: &[u8], at: usize) -> u8

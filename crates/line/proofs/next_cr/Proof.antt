@@ -1,4 +1,4 @@
-use Rattle.line.specs.LineLaws.{notCr, crRun}
+use Rattle.line.specs.Line.{notCr, crRun}
 use Rattle.lists.specs.RunLaws.{run-step, run-stop, run-end}
 use borrow.Author.Tests.{eq-eqb, ne-eqb}
 use lib.ListN.{length, drop}

@@ -1,4 +1,4 @@
-use Rattle.line.specs.LineLaws.{notCr}
+use Rattle.line.specs.Line.{notCr}
 use Rattle.lists.specs.RunLaws.{Tested, tested-none, tested-more, tested-all}
 use Prim.Native.Nat.{_-_, _≤_}
 use native.Mathlib.Omega.{arith}

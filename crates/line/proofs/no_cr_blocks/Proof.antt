@@ -1,4 +1,4 @@
-use Rattle.line.specs.LineLaws.{notCr, crRun}
+use Rattle.line.specs.Line.{notCr, crRun}
 use Rattle.lists.specs.RunLaws.{run-block}
 use borrow.Author.Tests.{not-false}
 use lib.ListN.{length, drop}

@@ -1,6 +1,5 @@
-use Rattle.outgoing_field.specs.FateLaws.{holds}
+use Rattle.outgoing_field.specs.FateLaws.{holds, kind-address, kind-encoded, kind-none, plain-is, other-is}
 use mathlib.Core.Path.{ap}
-use Rattle.outgoing_field.specs.FateLaws.{kind-address, kind-encoded, kind-none, plain-is, other-is}
 use Rattle.outgoing_field.specs.Fate.{kindFate, isHeld}
 use mathlib.Core.Path.{refl}
 use native.Mathlib.Omega.{arith}
