@@ -1,7 +1,7 @@
 # make test         the gate
 # make quick        what changed since main's last merge, in minutes; not the verdict
 # make run          the program `downgrade` on examples/bulletin.txt, or IN=FILE
-# make try          the same program, built without its proofs: a first look
+# make try          the paper's whole case by the same program, built without its proofs: a first look
 # make lib          dist/libhennelaku.a and dist/hennelaku.h, for C and Rust
 # make install      header, library, pkg-config file, man page; PREFIX, DESTDIR
 # make relay        the C relay, target/relay/relay
@@ -35,6 +35,11 @@ quick:
 run:
 	@.ci/progress downgrade
 	@target/bin/downgrade <$(IN)
+
+# A first look at code that is not proved yet.
+try:
+	@rt try downgrade
+	@echo "nothing is proved by this"
 
 lib: dist/libhennelaku.a dist/hennelaku.h
 
