@@ -1,5 +1,7 @@
 # make test         the gate
+# make quick        what changed since main's last merge, in minutes; not the verdict
 # make run          the program `downgrade` on examples/bulletin.txt, or IN=FILE
+# make try          the paper's whole case by the same program, built without its proofs: a first look
 # make lib          dist/libhennelaku.a and dist/hennelaku.h, for C and Rust
 # make install      header, library, pkg-config file, man page; PREFIX, DESTDIR
 # make relay        the C relay, target/relay/relay
@@ -21,16 +23,23 @@ INSTALL = install
 CARGO = cd rust && HENNELAKU_LIB_DIR=$(CURDIR)/dist cargo
 CODE := crates.txt $(shell find crates -name '*.rt')
 
-.PHONY: test run lib install relay relay-test model fuzz bench clean
+.PHONY: test quick run try lib install relay relay-test model fuzz bench clean
 
 test:
 	.ci/run
 
+quick:
+	.ci/quick
+
 # The kit builds a program only by proving it.
 run:
-	@mkdir -p target
-	@rt check downgrade >target/run.log 2>&1 || { cat target/run.log; exit 1; }
+	@.ci/progress downgrade
 	@target/bin/downgrade <$(IN)
+
+# A first look at code that is not proved yet.
+try:
+	@rt try downgrade
+	@echo "nothing is proved by this"
 
 lib: dist/libhennelaku.a dist/hennelaku.h
 

@@ -24,9 +24,8 @@ extern "C" {
  * Buffers that always suffice.
  *
  * The outgoing header has at most 30 bytes for each byte of the header, and
- * 20,600 for the two fields that may be put before it; this is proved. The
- * outgoing envelope is never longer than the envelope; this is worked out in
- * docs/BOUNDS.md and tested. So with
+ * 20,600 for the two fields that may be put before it; the outgoing envelope is
+ * never longer than the envelope. Both are proved. So with
  *
  *     envelope_room >= envelope_len   (or HENNELAKU_ENVELOPE_ROOM_MAX), and
  *     header_room >= HENNELAKU_HEADER_ROOM_FOR(header_len)

@@ -10,9 +10,9 @@ use mathlib.Core.List.{List, [], _∷_}
 use Prim.Native.Nat.{ℕ, _+_}
 use lib.Dec.{eqb, leb}
 use lib.ListN.{length, drop, getD}
-use Rattle.utf8.specs.Lists.{all}
-use Rattle.utf8.specs.Byte.{within, isAscii}
-use Rattle.utf8.specs.Run.{run}
+use Rattle.lists.specs.Lists.{all}
+use Rattle.lists.specs.Byte.{within, isAscii}
+use Rattle.lists.specs.Run.{run}
 use Rattle.utf8.specs.Utf8.{utf8}
 use Rattle.address.specs.declared.Scan.{Scan}
 use Rattle.address.specs.declared.Scan.the-variants.{To, Stop}

@@ -11,9 +11,11 @@ use lib.Dec.{eqb, eqb→eq}
 use lib.ListN.{length, drop, getD, drop-of-length-le}
 use lib.Seq.{take-length, drop-cons, drop-drop, getD-drop}
 use mir.Facts.{not-T, eqb-no}
-use Rattle.utf8.specs.Lists.{by-test, yes-true, no-false, all}
-use Rattle.utf8.specs.Byte.{within, isAscii}
-use Rattle.utf8.specs.Run.{run, run-all, run-past}
+use Rattle.lists.specs.ListsLaws.{by-test, yes-true, no-false}
+use Rattle.lists.specs.Lists.{all}
+use Rattle.lists.specs.Byte.{within, isAscii}
+use Rattle.lists.specs.Run.{run}
+use Rattle.lists.specs.RunLaws.{run-all, run-past}
 use Rattle.utf8.specs.Utf8.{utf8}
 use Rattle.utf8.specs.Utf8Laws.{utf8-ascii}
 use Rattle.address.specs.declared.Scan.{Scan}

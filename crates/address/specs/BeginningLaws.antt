@@ -9,9 +9,10 @@ use lib.Dec.{T, eqb, eqb→eq}
 use lib.ListN.{length, take, drop, getD, length-drop, length-append}
 use mir.Facts.{yes-and, eqb-no}
 use lib.Seq.{take-add, length-take-le, take-nil, drop-append-le}
-use Rattle.utf8.specs.Lists.{by-test, cond-has, cond-yes, cond-no, yes-true, no-false, all}
-use Rattle.utf8.specs.Byte.{within}
-use Rattle.utf8.specs.Run.{run}
+use Rattle.lists.specs.ListsLaws.{by-test, cond-has, cond-yes, cond-no, yes-true, no-false}
+use Rattle.lists.specs.Lists.{all}
+use Rattle.lists.specs.Byte.{within}
+use Rattle.lists.specs.Run.{run}
 use Rattle.address.specs.declared.Scan.{Scan}
 use Rattle.address.specs.declared.Scan.the-variants.{To, Stop}
 use Rattle.address.specs.Address.{later, byteThen, scanThen, isAtext, isAtomByte, isQuotedByte, isLiteralByte, dotAtomEnd, dotAtomFrom, dotAtomScan, quotedFrom, quotedScan, literalFrom, literalScan, domainScan, localScan, addressScan}

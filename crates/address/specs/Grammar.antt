@@ -4,8 +4,8 @@ use mathlib.Core.Path.{_≡_}
 use mathlib.Core.List.{List, [], _∷_, _++_}
 use Prim.Native.Nat.{ℕ}
 use lib.Dec.{T}
-use Rattle.utf8.specs.Lists.{all, nonempty}
-use Rattle.utf8.specs.Byte.{within}
+use Rattle.lists.specs.Lists.{all, nonempty}
+use Rattle.lists.specs.Byte.{within}
 use Rattle.address.specs.Address.{isAtomByte, isQuotedByte, isLiteralByte}
 
 -- "Atoms are RFC 5322 atext or non-ASCII characters", one or more.

@@ -10,10 +10,12 @@ use lib.Dec.{T, eqb, eqb→eq}
 use lib.ListN.{length, take, drop, getD, length-append, length-drop}
 use lib.Seq.{take-add, take-suc, take-length, append-snoc, drop-append-seam, getD-append-seam, getD-drop, length-take-le, getD-take}
 use mir.Facts.{and-yes, yes-and, or-no, eqb-no, leb-no, yes-eqb}
-use Rattle.utf8.specs.Lists.{by-test, cond-has, yes-true, no-false, all, all-append, nonempty}
-use Rattle.utf8.specs.Byte.{within}
+use Rattle.lists.specs.ListsLaws.{by-test, cond-has, yes-true, no-false, all-append}
+use Rattle.lists.specs.Lists.{all, nonempty}
+use Rattle.lists.specs.Byte.{within}
 use Rattle.utf8.specs.Utf8.{utf8}
-use Rattle.utf8.specs.Run.{run, run-all, run-past}
+use Rattle.lists.specs.Run.{run}
+use Rattle.lists.specs.RunLaws.{run-all, run-past}
 use Rattle.address.specs.declared.Scan.{Scan}
 use Rattle.address.specs.declared.Scan.the-variants.{To, Stop}
 use Rattle.address.specs.Address.{later, byteThen, scanThen, isAtext, isAtomByte, isQuotedByte, isLiteralByte, isHigh, dotAtomEnd, dotAtomFrom, dotAtomScan, quotedFrom, quotedScan, literalFrom, literalScan, domainScan, localScan, addressScan, takesAll, isAddress}

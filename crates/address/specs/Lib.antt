@@ -4,6 +4,4 @@ pub mod TakenLaws
 pub mod Grammar
 pub mod GrammarLaws
 pub mod BeginningLaws
-pub mod Xtext
-pub mod XtextLaws
-pub mod AddressCases
+pub mod AtomBits

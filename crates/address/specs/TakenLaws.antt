@@ -13,9 +13,12 @@ use native.Mathlib.Numerals.{add-one}
 use Rattle.utf8.specs.Utf8.{utf8}
 use Rattle.utf8.specs.Utf8Laws.{utf8-cut, utf8-append, utf8-ascii}
 use mir.Facts.{and-yes, yes-and, leb-no, ltb-yes, ltb-no}
-use Rattle.utf8.specs.Lists.{by-test, cond-has, yes-true, all, all-append, all-weaken, all-left, all-right}
-use Rattle.utf8.specs.Byte.{within, isAscii, allBelow, below, implies}
-use Rattle.utf8.specs.Run.{run, run-le, run-all}
+use Rattle.lists.specs.ListsLaws.{by-test, cond-has, yes-true, all-append, all-weaken, all-left, all-right}
+use Rattle.lists.specs.Lists.{all}
+use Rattle.lists.specs.Byte.{within, isAscii}
+use Rattle.lists.specs.ByteLaws.{allBelow, below, implies}
+use Rattle.lists.specs.Run.{run}
+use Rattle.lists.specs.RunLaws.{run-le, run-all}
 use Rattle.address.specs.declared.Scan.{Scan}
 use Rattle.address.specs.declared.Scan.the-variants.{To, Stop}
 use Rattle.address.specs.Address.{later, byteThen, scanThen, isHigh, isAtext, isAtomByte, isQuotedByte, isLiteralByte, dotAtomEnd, dotAtomFrom, dotAtomScan, quotedFrom, quotedScan, literalFrom, literalScan, domainScan, localScan, addressScan, takesAll, isAddress, isAsciiAddress}

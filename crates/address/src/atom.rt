@@ -2,23 +2,26 @@
 ghost use mathlib.Core.Path.{_≡_};
 ghost use lib.ListN.{drop};
 ghost use Rattle.address.specs.Address.{later, isAtomByte, dotAtomEnd, dotAtomScan};
+ghost use Rattle.address.specs.AtomBits.{bitsOf};
 use crate::Scan;
 
-// Whether a byte is atext or not ASCII. Without branches.
+// The bits of the 64 bytes among which an ASCII byte is: set where one is atext.
+fn bits(b: u8) -> u64
+    ensures { λ r. ⌜ r ≡ bitsOf b ⌝ }
+{
+    if b < 64 {
+        11817354136985272320
+    } else {
+        9223372035915251710
+    }
+}
+
+// Whether a byte is atext or not ASCII. By one bit of a number.
 pub fn is_atom_byte(b: u8) -> bool
     ensures { λ r. ⌜ r ≡ isAtomByte b ⌝ }
 {
-    ((65 <= b) & (b <= 90))
-        | ((94 <= b) & (b <= 126))
-        | ((47 <= b) & (b <= 57))
-        | (b == 45)
-        | (b == 33)
-        | ((35 <= b) & (b <= 39))
-        | (b == 42)
-        | (b == 43)
-        | (b == 61)
-        | (b == 63)
-        | (128 <= b)
+    let row = bits(b);
+    ((row >> (b % 64)) % 2 == 1) | (128 <= b)
 }
 
 // The end of a dot-atom at a place; where an atom is due there is none.

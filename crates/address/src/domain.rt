@@ -2,11 +2,11 @@
 ghost use mathlib.Core.Path.{_≡_};
 ghost use Prim.Native.Nat.{_+_};
 ghost use lib.ListN.{drop};
-ghost use Rattle.utf8.specs.Run.{run};
+ghost use Rattle.lists.specs.Run.{run};
 ghost use Rattle.address.specs.Address.{later, isLiteralByte, literalFrom, domainScan};
 use crate::Scan;
 use crate::atom::dot_atom;
-use crate::byte_at;
+use line::byte_at;
 
 // Where the bytes of a domain literal end.
 fn literal_run(s: &[u8], at: usize) -> usize

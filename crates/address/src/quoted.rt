@@ -4,7 +4,7 @@ ghost use mathlib.Core.Bool.{false};
 ghost use lib.ListN.{drop};
 ghost use Rattle.address.specs.Address.{later, quotedFrom, quotedScan};
 use crate::Scan;
-use crate::byte_at;
+use line::byte_at;
 
 // The rest of a quoted string, from after its opening quote.
 fn inside(s: &[u8], at: usize) -> Scan

@@ -9,36 +9,39 @@ use lib.Dec.{T}
 use lib.ListN.{length, take, drop, getD, length-append}
 use lib.Seq.{drop-append-seam, drop-drop, getD-drop, getD-append-seam, take-append-seam}
 use mir.Facts.{and-yes, yes-and}
-use Rattle.utf8.specs.Byte.{isAscii}
-use Rattle.utf8.specs.Lists.{yes-true, no-false, all, nonempty}
-use Rattle.utf8.specs.Run.{run}
-use Rattle.header.specs.Lines.{blank}
+use Rattle.lists.specs.Byte.{isAscii}
+use Rattle.lists.specs.Lists.{all, nonempty}
+use Rattle.lists.specs.ListsLaws.{yes-true, no-false}
+use Rattle.lists.specs.Run.{run}
+use Rattle.line.specs.Line.{blank}
 use Rattle.address.specs.Address.{isAtext, isAtomByte}
 use Rattle.address.specs.AddressLaws.{front-byte}
 use Rattle.address.specs.GrammarLaws.{Closed}
-use Rattle.address_list.specs.Words.{addressLen}
+use Rattle.rules.specs.Rules.{allowsAlternative}
+use Rattle.rules.specs.declared.Rules.{Rules}
+use Rattle.phrase.specs.Words.{addressLen}
 use Rattle.address_list.specs.Parts.{Part, front, angledAt, namedAt, partAt, partsFrom, partsOf}
 use Rattle.address_list.specs.PartsLaws.{parts-front, parts-end, named-address, named-phrase, angled-there, angled-more, alternative-there}
 use Rattle.address_list.specs.Grammar.{unlessBlank, kindsOf}
 use Rattle.address_list.specs.Table.{after, complete, fits, examined}
-use Rattle.address_list.specs.TableLaws.{complete-unfit}
-use Rattle.address_list.specs.declared.Kind.{Kind}
-use Rattle.address_list.specs.declared.Kind.the-variants.{Blank, Comma, Colon, Semicolon, Phrase, Address, Angled, Alternative, Stray}
-use Rattle.address_list.specs.declared.Place.{Place}
-use Rattle.address_list.specs.declared.Place.the-variants.{ItemDue, ItemNamed, ItemDone, GroupOpen, MemberDue, MemberNamed, MemberDone, Unfit}
+use Rattle.address_list.specs.TableLaws.{after-stray, complete-unfit}
+use Rattle.address_list.specs.declared.PartKind.{PartKind}
+use Rattle.address_list.specs.declared.PartKind.the-variants.{Blank, Comma, Colon, Semicolon, Phrase, Address, Angled, Alternative, Stray}
+use Rattle.address_list.specs.declared.State.{State}
+use Rattle.address_list.specs.declared.State.the-variants.{ItemDue}
 use Rattle.address_list.specs.declared.Examined.the-variants.{DoesNotFit}
-use Rattle.address_grammar.specs.PartGrammar.{AddressText, Blanks, SomeBlanks, PhraseText, AngledText, AlternativeText, IsPart, EachIsPart, joinedParts, AddressList}
+use Rattle.address_grammar.specs.PartGrammar.{AddressText, Blanks, SomeBlanks, PhraseText, AngledText, AlternativeText, OneByte, IsPart, EachIsPart, joinedParts, AddressList}
 use Rattle.address_grammar.specs.PartGrammarLaws.{parts-made, parts-joined}
 use Rattle.address_grammar.specs.GrammarLaws.{false-true, isMark, opensWithMark, markBetween, items-marked, fits-made, made-complete, made-fits, examined-unfit, unfit-examined}
-use Rattle.address_grammar.specs.FoundLaws.{starting, starts, ending, Ended, ended-apart, stops-blanks, apart-closed, run-whole, phrase-starts, phrase-no-address, phrase-found, phrase-some, address-starts, address-some, address-found}
+use Rattle.address_grammar.specs.FoundLaws.{starting, starts, ending, Ended, ended-apart, stops-blanks, apart-closed, run-whole, some-length, phrase-starts, phrase-no-address, phrase-found, phrase-some, address-starts, address-some, address-found}
 
 -- a text that fits is such a list
-pub fitting-text : (text : List ℕ) → fits text ≡ true → AddressList text
-fitting-text text h = record { parts = partsOf text; kinds = fits-made text h; each = parts-made text; joined = parts-joined text }
+pub fitting-text : (rules : Rules) (text : List ℕ) → fits rules text ≡ true → AddressList rules text
+fitting-text rules text h = record { parts = partsOf rules text; kinds = fits-made rules text h; each = parts-made rules text; joined = parts-joined rules text }
 
 -- ---- what follows a phrase or a bare address
 
-after-blank : {t y : List ℕ} → IsPart Blank t → Ended y → Ended (t ++ y)
+after-blank : {t y : List ℕ} → OneByte (λ b. T (blank b)) t → Ended y → Ended (t ++ y)
 after-blank {t} {y} p r = record {
   gap = p .byte ∷ r .gap;
   tail = r .tail;
@@ -51,30 +54,30 @@ after-mark : {t : List ℕ} (b : ℕ) (more y : List ℕ) → T (ending b) → t
 after-mark {t} b more y m e = record { gap = []; tail = t ++ y; made = refl; blanks = tt; ends = rw e m }
 
 -- the next part that is not blank opens with a mark
-ended-next : (k l : Kind) (t : List ℕ) (ps : List Part) → isMark k ≡ false → T (markBetween (k ∷ unlessBlank l (kindsOf ps))) → IsPart l t
+ended-next : (rules : Rules) (k l : PartKind) (t : List ℕ) (ps : List Part) → isMark k ≡ false → T (markBetween (k ∷ unlessBlank l (kindsOf ps))) → IsPart rules l t
     → (T (markBetween (k ∷ kindsOf ps)) → Ended (joinedParts ps)) → Ended (t ++ joinedParts ps)
 unfolding unlessBlank ending
-ended-next k Blank t ps n m p more = after-blank p (more m)
-ended-next k Comma t ps n m p more = after-mark 44 [] (joinedParts ps) tt p
-ended-next k Colon t ps n m p more = after-mark 58 [] (joinedParts ps) tt p
-ended-next k Semicolon t ps n m p more = after-mark 59 [] (joinedParts ps) tt p
-ended-next k (Angled start size) t ps n m p more = after-mark 60 _ (joinedParts ps) tt (p .made)
-ended-next k (Alternative start size) t ps n m p more = after-mark 60 _ (joinedParts ps) tt (p .made)
-ended-next k Phrase t ps n m p more = absurd (rw n at m)
-ended-next k Address t ps n m p more = absurd (rw n at m)
-ended-next k Stray t ps n m p more = absurd (rw n at m)
+ended-next rules k Blank t ps n m p more = after-blank p (more m)
+ended-next rules k Comma t ps n m p more = after-mark 44 [] (joinedParts ps) tt p
+ended-next rules k Colon t ps n m p more = after-mark 58 [] (joinedParts ps) tt p
+ended-next rules k Semicolon t ps n m p more = after-mark 59 [] (joinedParts ps) tt p
+ended-next rules k (Angled start size) t ps n m p more = after-mark 60 _ (joinedParts ps) tt (p .made)
+ended-next rules k (Alternative start size) t ps n m p more = after-mark 60 _ (joinedParts ps) tt (p .made)
+ended-next rules k Phrase t ps n m p more = absurd (rw n at m)
+ended-next rules k Address t ps n m p more = absurd (rw n at m)
+ended-next rules k Stray t ps n m p more = absurd (rw n at m)
 
-ended-rest : (k : Kind) (ps : List Part) → isMark k ≡ false → T (markBetween (k ∷ kindsOf ps)) → EachIsPart ps → Ended (joinedParts ps)
+ended-rest : (rules : Rules) (k : PartKind) (ps : List Part) → isMark k ≡ false → T (markBetween (k ∷ kindsOf ps)) → EachIsPart rules ps → Ended (joinedParts ps)
 unfolding kindsOf ending
-ended-rest k [] n m e = record { gap = []; tail = []; made = refl; blanks = tt; ends = tt }
-ended-rest k (p ∷ ps) n m e = ended-next k (p .kind) (p .text) ps n m (e .0) (λ h. ended-rest k ps n h (e .1))
+ended-rest rules k [] n m e = record { gap = []; tail = []; made = refl; blanks = tt; ends = tt }
+ended-rest rules k (p ∷ ps) n m e = ended-next rules k (p .kind) (p .text) ps n m (e .0) (λ h. ended-rest rules k ps n h (e .1))
 
 -- between the parts after the first
-marked-more : (k : Kind) (ks : List Kind) → T (markBetween (k ∷ ks)) → T (markBetween ks)
+marked-more : (k : PartKind) (ks : List PartKind) → T (markBetween (k ∷ ks)) → T (markBetween ks)
 marked-more k [] m = tt
 marked-more k (l ∷ ks) m = and-yes (isMark k || opensWithMark l) (markBetween (l ∷ ks)) m .1
 
-marked-rest : (k : Kind) (ks : List Kind) → T (markBetween (unlessBlank k ks)) → T (markBetween ks)
+marked-rest : (k : PartKind) (ks : List PartKind) → T (markBetween (unlessBlank k ks)) → T (markBetween ks)
 unfolding unlessBlank
 marked-rest Blank ks m = m
 marked-rest Comma ks m = marked-more Comma ks m
@@ -86,52 +89,41 @@ marked-rest (Angled start size) ks m = marked-more (Angled start size) ks m
 marked-rest (Alternative start size) ks m = marked-more (Alternative start size) ks m
 marked-rest Stray ks m = marked-more Stray ks m
 
-after-stray : (place : Place) → after place Stray ≡ Unfit
-unfolding after
-after-stray ItemDue = refl
-after-stray ItemNamed = refl
-after-stray ItemDone = refl
-after-stray GroupOpen = refl
-after-stray MemberDue = refl
-after-stray MemberNamed = refl
-after-stray MemberDone = refl
-after-stray Unfit = refl
-
 -- ---- a part that the grammar makes is found
 
-record Found (s : List ℕ) (kind : Kind) (size : ℕ) : Type 0 where
-  is : front kind size ≡ partAt s
+record Found (rules : Rules) (s : List ℕ) (kind : PartKind) (size : ℕ) : Type 0 where
+  is : front kind size ≡ partAt rules s
   some : 0 < size
 
-whole-found : {s : List ℕ} (k : Kind) (n : ℕ) → front k n ≡ partAt s → 0 < n → Found s k n
+whole-found : {rules : Rules} {s : List ℕ} (k : PartKind) (n : ℕ) → front k n ≡ partAt rules s → 0 < n → Found rules s k n
 whole-found k n e p = record { is = e; some = p }
 
-blank-found : {t : List ℕ} → IsPart Blank t → (y : List ℕ) → Found (t ++ y) Blank (length t)
+blank-found : {rules : Rules} {t : List ℕ} → OneByte (λ b. T (blank b)) t → (y : List ℕ) → Found rules (t ++ y) Blank (length t)
 unfolding partAt
 blank-found p y = rw (p .made) (whole-found Blank 1 (rw (yes-true (blank (p .byte)) (p .is))) (omega arith))
 
-mark-found : {t : List ℕ} (k : Kind) (b : ℕ) → t ≡ b ∷ [] → (y : List ℕ) → front k 1 ≡ partAt (b ∷ y) → Found (t ++ y) k (length t)
+mark-found : {rules : Rules} {t : List ℕ} (k : PartKind) (b : ℕ) → t ≡ b ∷ [] → (y : List ℕ) → front k 1 ≡ partAt rules (b ∷ y) → Found rules (t ++ y) k (length t)
 mark-found k b p y e = rw p (whole-found k 1 e (omega arith))
 
-named-part : (s : List ℕ) → T (starting (getD s 0 0)) → namedAt s ≡ partAt s
+named-part : (rules : Rules) (s : List ℕ) → T (starting (getD s 0 0)) → namedAt s ≡ partAt rules s
 unfolding partAt
-named-part s t = let n = starts (getD s 0 0) t in rw (n .no-blank, n .no-comma, n .no-colon, n .no-semicolon, n .no-bracket)
+named-part rules s t = let n = starts (getD s 0 0) t in rw (n .no-blank, n .no-comma, n .no-colon, n .no-semicolon, n .no-bracket)
 
-bare-found : {t : List ℕ} → AddressText t → (y : List ℕ) → Ended y → Found (t ++ y) Address (length t)
-bare-found {t} p y r =
+bare-found : {rules : Rules} {t : List ℕ} → AddressText t → (y : List ℕ) → Ended y → Found rules (t ++ y) Address (length t)
+bare-found {rules} {t} p y r =
     whole-found Address (length t)
-    (named-address (t ++ y) (length t) (sym (address-found p y (apart-closed (ended-apart r)))) (λ z. not-suc-le-zero {n = 0} (omega (arith, address-some p))) ∙ named-part (t ++ y) (address-starts p y))
+    (named-address (t ++ y) (length t) (sym (address-found p y (apart-closed (ended-apart r)))) (λ z. not-suc-le-zero {n = 0} (omega (arith, address-some p))) ∙ named-part rules (t ++ y) (address-starts p y))
     (address-some p)
 
-phrase-part : {t : List ℕ} → PhraseText t → (y : List ℕ) → Ended y → Found (t ++ y) Phrase (length t)
-phrase-part {t} p y r =
+phrase-part : {rules : Rules} {t : List ℕ} → PhraseText t → (y : List ℕ) → Ended y → Found rules (t ++ y) Phrase (length t)
+phrase-part {rules} {t} p y r =
     whole-found Phrase (length t)
-    (named-phrase (t ++ y) 0 (sym (phrase-no-address p y r)) refl (length t) (sym (phrase-found p y r)) (λ z. not-suc-le-zero {n = 0} (omega (arith, phrase-some p))) ∙ named-part (t ++ y) (phrase-starts p y r))
+    (named-phrase (t ++ y) 0 (sym (phrase-no-address p y r)) refl (length t) (sym (phrase-found p y r)) (λ z. not-suc-le-zero {n = 0} (omega (arith, phrase-some p))) ∙ named-part rules (t ++ y) (phrase-starts p y r))
     (phrase-some p)
 
-bracket-part : (y : List ℕ) → angledAt (60 ∷ y) ≡ partAt (60 ∷ y)
+bracket-part : (rules : Rules) (y : List ℕ) → angledAt rules (60 ∷ y) ≡ partAt rules (60 ∷ y)
 unfolding partAt blank
-bracket-part y = refl
+bracket-part rules y = refl
 
 close-closed : (y : List ℕ) → Closed (62 ∷ y)
 unfolding isAtomByte isAtext
@@ -144,8 +136,8 @@ gap-run gap {a} b h y = run-whole blank gap (a ++ y) b (starts (getD (a ++ y) 0 
 no-address : {a : List ℕ} → AddressText a → length a ≡ 0 → ⊥
 no-address h z = not-suc-le-zero {n = 0} (omega (arith, address-some h))
 
-angled-found : {start size : ℕ} {t : List ℕ} → AngledText start size t → (y : List ℕ) → Found (t ++ y) (Angled start size) (length t)
-angled-found {start} {size} {t} p y =
+angled-found : {rules : Rules} {start size : ℕ} {t : List ℕ} → AngledText start size t → (y : List ℕ) → Found rules (t ++ y) (Angled start size) (length t)
+angled-found {rules} {start} {size} {t} p y =
     let gap = p .gap in
     let address = p .address in
     let s : List ℕ = 60 ∷ (gap ++ (address ++ (62 ∷ y))) in
@@ -160,7 +152,7 @@ angled-found {start} {size} {t} p y =
     let size-is : a + n + 1 ≡ length t = omega (arith, ap length (p .made), length-append gap (address ++ (62 ∷ [])), length-append address (62 ∷ [])) in
     let start-is : start ≡ a = omega (arith, p .start-is) in
     rw (whole, start-is, p .size-is, ← size-is)
-    (whole-found (Angled a n) (a + n + 1) (angled-there s a n qs qz (no-address (p .is)) close ∙ bracket-part (gap ++ (address ++ (62 ∷ y)))) (omega arith))
+    (whole-found (Angled a n) (a + n + 1) (angled-there rules s a n qs qz (no-address (p .is)) close ∙ bracket-part rules (gap ++ (address ++ (62 ∷ y)))) (omega arith))
 
 beyond : (s : List ℕ) (i : ℕ) (x y : List ℕ) → drop i s ≡ x ++ y → drop (i + length x) s ≡ y
 beyond s i x y e = sym (drop-drop (length x) i s) ∙ rw e (drop-append-seam x y)
@@ -180,12 +172,8 @@ close-no-blank : (b : ℕ) → T (blank b) → b ≡ 62 → ⊥
 unfolding blank
 close-no-blank b t e = rw e at t
 
-some-length : (gap : List ℕ) → T (nonempty gap) → 0 < length gap
-some-length [] s = absurd s
-some-length (b ∷ gap) s = omega arith
-
-alternative-found : {start size : ℕ} {t : List ℕ} → AlternativeText start size t → (y : List ℕ) → Found (t ++ y) (Alternative start size) (length t)
-alternative-found {start} {size} {t} p y =
+alternative-found : {rules : Rules} {start size : ℕ} {t : List ℕ} → AlternativeText rules start size t → (y : List ℕ) → Found rules (t ++ y) (Alternative start size) (length t)
+alternative-found {rules} {start} {size} {t} p y =
     let gap = p .gap in
     let first = p .first in
     let between = p .between in
@@ -245,53 +233,53 @@ alternative-found {start} {size} {t} p y =
     rw (whole, start-is, p .size-is, ← size-is)
     (whole-found (Alternative from m) (end + 2)
     (alternative-there s a b inner from m qi qf qm high gap-some opens (address-some (p .alternative-is)) close close₂ ascii
-    ∙ angled-more s a n qs qn (no-address (p .first-is)) apart ∙ bracket-part (gap ++ (first ++ y₁)))
+    ∙ angled-more rules s a n qs qn (no-address (p .first-is)) apart (yes-true (allowsAlternative rules) (p .allowed)) ∙ bracket-part rules (gap ++ (first ++ y₁)))
     (omega arith))
 
-part-found : (k : Kind) (t : List ℕ) (place : Place) (ps : List Part) → complete (after place k) ps ≡ true → T (markBetween (unlessBlank k (kindsOf ps)))
-    → IsPart k t → EachIsPart ps → Found (t ++ joinedParts ps) k (length t)
+part-found : (rules : Rules) (k : PartKind) (t : List ℕ) (state : State) (ps : List Part) → complete (after state k) ps ≡ true → T (markBetween (unlessBlank k (kindsOf ps)))
+    → IsPart rules k t → EachIsPart rules ps → Found rules (t ++ joinedParts ps) k (length t)
 unfolding unlessBlank partAt blank
-part-found Blank t place ps h m p e = blank-found p (joinedParts ps)
-part-found Comma t place ps h m p e = mark-found Comma 44 p (joinedParts ps) refl
-part-found Colon t place ps h m p e = mark-found Colon 58 p (joinedParts ps) refl
-part-found Semicolon t place ps h m p e = mark-found Semicolon 59 p (joinedParts ps) refl
-part-found Phrase t place ps h m p e = phrase-part p (joinedParts ps) (ended-rest Phrase ps refl m e)
-part-found Address t place ps h m p e = bare-found p (joinedParts ps) (ended-rest Address ps refl m e)
-part-found (Angled start size) t place ps h m p e = angled-found p (joinedParts ps)
-part-found (Alternative start size) t place ps h m p e = alternative-found p (joinedParts ps)
-part-found Stray t place ps h m p e = false-true (sym (complete-unfit ps) ∙ (rw (after-stray place) at h))
+part-found rules Blank t state ps h m p e = blank-found p (joinedParts ps)
+part-found rules Comma t state ps h m p e = mark-found Comma 44 p (joinedParts ps) refl
+part-found rules Colon t state ps h m p e = mark-found Colon 58 p (joinedParts ps) refl
+part-found rules Semicolon t state ps h m p e = mark-found Semicolon 59 p (joinedParts ps) refl
+part-found rules Phrase t state ps h m p e = phrase-part p (joinedParts ps) (ended-rest rules Phrase ps refl m e)
+part-found rules Address t state ps h m p e = bare-found p (joinedParts ps) (ended-rest rules Address ps refl m e)
+part-found rules (Angled start size) t state ps h m p e = angled-found p (joinedParts ps)
+part-found rules (Alternative start size) t state ps h m p e = alternative-found p (joinedParts ps)
+part-found rules Stray t state ps h m p e = false-true (sym (complete-unfit ps) ∙ (rw (after-stray state) at h))
 
 -- ---- a list that the grammar makes fits
 
-joined-parts : (place : Place) (ps : List Part) → complete place ps ≡ true → T (markBetween (kindsOf ps)) → EachIsPart ps → partsFrom 0 (joinedParts ps) ≡ ps
+joined-parts : (rules : Rules) (state : State) (ps : List Part) → complete state ps ≡ true → T (markBetween (kindsOf ps)) → EachIsPart rules ps → partsFrom rules 0 (joinedParts ps) ≡ ps
 unfolding complete kindsOf
-joined-parts place [] h m e = parts-end [] 0 (omega arith)
-joined-parts place (p ∷ ps) h m e =
+joined-parts rules state [] h m e = parts-end rules [] 0 (omega arith)
+joined-parts rules state (p ∷ ps) h m e =
     let text = p .text in
     let rest = joinedParts ps in
     let s = text ++ rest in
     let n = length text in
-    let f = part-found (p .kind) text place ps h m (e .0) (e .1) in
+    let f = part-found rules (p .kind) text state ps h m (e .0) (e .1) in
     let long : 0 < length s = omega (arith, f .some, length-append text rest) in
-    let more = joined-parts (after place (p .kind)) ps h (marked-rest (p .kind) (kindsOf ps) m) (e .1) in
-    parts-front (front (p .kind) n) s (f .is) (f .some) long ∙ rw (take-append-seam text rest, drop-append-seam text rest, more)
+    let more = joined-parts rules (after state (p .kind)) ps h (marked-rest (p .kind) (kindsOf ps) m) (e .1) in
+    parts-front rules (front (p .kind) n) s (f .is) (f .some) long ∙ rw (take-append-seam text rest, drop-append-seam text rest, more)
 
 -- a text is such a list in one way only
-pub one-reading : (text : List ℕ) (l : AddressList text) → partsOf text ≡ l .parts
+pub one-reading : (rules : Rules) (text : List ℕ) (l : AddressList rules text) → partsOf rules text ≡ l .parts
 unfolding partsOf
-one-reading text l = rw (l .joined) at (joined-parts ItemDue (l .parts) (made-complete (l .parts) (l .kinds)) (items-marked (l .kinds)) (l .each))
+one-reading rules text l = rw (l .joined) at (joined-parts rules ItemDue (l .parts) (made-complete (l .parts) (l .kinds)) (items-marked (l .kinds)) (l .each))
 
 -- such a list fits
-pub listed-fits : (text : List ℕ) → AddressList text → fits text ≡ true
-listed-fits text l = made-fits text (rw (one-reading text l) (l .kinds))
+pub listed-fits : (rules : Rules) (text : List ℕ) → AddressList rules text → fits rules text ≡ true
+listed-fits rules text l = made-fits rules text (rw (one-reading rules text l) (l .kinds))
 
 -- `DoesNotFit` is told exactly of the other texts
-pub unfit-text : (text : List ℕ) → examined text ≡ DoesNotFit → AddressList text → ⊥
-unfit-text text h l = false-true (sym (unfit-examined text h) ∙ listed-fits text l)
+pub unfit-text : (rules : Rules) (text : List ℕ) → examined rules text ≡ DoesNotFit → AddressList rules text → ⊥
+unfit-text rules text h l = false-true (sym (unfit-examined rules text h) ∙ listed-fits rules text l)
 
-pub text-unfit : (text : List ℕ) → (AddressList text → ⊥) → examined text ≡ DoesNotFit
-text-unfit text none = examined-unfit text (go (fits text) refl)
+pub text-unfit : (rules : Rules) (text : List ℕ) → (AddressList rules text → ⊥) → examined rules text ≡ DoesNotFit
+text-unfit rules text none = examined-unfit rules text (go (fits rules text) refl)
   where
-    go : (b : Bool) → fits text ≡ b → fits text ≡ false
-    go true e = absurd (none (fitting-text text e))
+    go : (b : Bool) → fits rules text ≡ b → fits rules text ≡ false
+    go true e = absurd (none (fitting-text rules text e))
     go false e = e

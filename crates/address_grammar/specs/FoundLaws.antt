@@ -1,7 +1,7 @@
 -- Words, phrases and addresses that the grammar makes are found in a text, where what follows does not go on with them. Assumes
 -- nothing.
 use mathlib.Core.Path.{_≡_, refl, sym, _∙_}
-use mathlib.Core.Bool.{Bool, true, false, not, _&&_, _||_, and-false}
+use mathlib.Core.Bool.{Bool, true, false, _&&_, _||_, and-false}
 use mathlib.Core.List.{List, [], _∷_, _++_, append-assoc}
 use Prim.Native.Nat.{ℕ, suc, _+_, _≤_, _<_}
 use native.Mathlib.Nat.{add-zero}
@@ -11,16 +11,18 @@ use borrow.Author.Tests.{lt-ltb, ne-eqb}
 use lib.ListN.{length, drop, getD, length-append}
 use lib.Seq.{drop-append-seam, drop-at}
 use mir.Facts.{and-yes, or-no}
-use Rattle.utf8.specs.Lists.{cond-has, by-test, yes-true, no-false, all, nonempty}
-use Rattle.utf8.specs.Run.{run, run-past}
-use Rattle.header.specs.Lines.{blank}
+use Rattle.lists.specs.Lists.{all, nonempty}
+use Rattle.lists.specs.ListsLaws.{cond-has, by-test, yes-true, no-false}
+use Rattle.lists.specs.Run.{run}
+use Rattle.lists.specs.RunLaws.{run-past}
+use Rattle.line.specs.Line.{blank}
 use Rattle.address.specs.declared.Scan.{Scan}
 use Rattle.address.specs.declared.Scan.the-variants.{To, Stop}
 use Rattle.address.specs.Address.{later, byteThen, scanThen, isAtext, isAtomByte, dotAtomEnd, dotAtomFrom, dotAtomScan, domainScan, localScan, addressScan}
 use Rattle.address.specs.Grammar.{Atom, DotAtom, QuotedString, LocalPart, Address as AddressForm}
 use Rattle.address.specs.GrammarLaws.{Closed, quoted-string-complete, address-complete}
-use Rattle.address_list.specs.Words.{found, capped, isWordByte, addressLen, wordLen, nextWordLen, nextWordsLen, phraseLen}
-use Rattle.address_list.specs.WordsLaws.{capped-in, words-front, words-stop}
+use Rattle.phrase.specs.Words.{found, capped, isWordByte, addressLen, wordLen, nextWordLen, nextWordsLen, phraseLen}
+use Rattle.phrase.specs.WordsLaws.{capped-in, words-front, words-stop}
 use Rattle.address_grammar.specs.PartGrammar.{WordForm, WordText, AddressText, Blanks, SomeBlanks, PhraseText}
 
 -- ---- bytes
@@ -93,6 +95,10 @@ run-none f (b ∷ y) e = rw e
 pub run-whole : (f : ℕ → Bool) (x y : List ℕ) → T (all f x) → f (getD y 0 0) ≡ false → run f (x ++ y) ≡ length x
 run-whole f x y h e = run-past f x y h ∙ rw (run-none f y e, add-zero)
 
+pub some-length : (x : List ℕ) → T (nonempty x) → 0 < length x
+some-length [] s = absurd s
+some-length (b ∷ x) s = omega arith
+
 -- ---- words
 
 run-starts : (w y : List ℕ) → T (nonempty w) → T (all isWordByte w) → T (starting (getD (w ++ y) 0 0))
@@ -114,13 +120,9 @@ word-starts {w} h y = go (h .form)
 pub word-some : {w : List ℕ} → WordText w → 0 < length w
 word-some {w} h = go (h .form)
   where
-    runs : (w : List ℕ) → T (nonempty w) → 0 < length w
-    runs [] s = absurd s
-    runs (b ∷ w) s = omega arith
-
     go : {w : List ℕ} → WordForm w → 0 < length w
     go (WordForm.string (QuotedString.quoted q)) = omega arith
-    go (WordForm.run {w} s t) = runs w s
+    go (WordForm.run {w} s t) = some-length w s
 
 -- a run of word bytes starts with no quote
 no-quote : (w y : List ℕ) → T (nonempty w) → T (all isWordByte w) → eqb (getD (w ++ y) 0 0) 34 ≡ false
@@ -233,12 +235,8 @@ next-found {w} {gap} h g y a =
       drop-append-seam gap (w ++ y),
       word-found h y a,
       lt-ltb 0 (length w) (word-some h),
-      lt-ltb 0 (length gap) (blanks-some gap (g .some)),
+      lt-ltb 0 (length gap) (some-length gap (g .some)),
     )
-  where
-    blanks-some : (gap : List ℕ) → T (nonempty gap) → 0 < length gap
-    blanks-some [] s = absurd s
-    blanks-some (b ∷ gap) s = omega arith
 
 -- blanks, a word, and what follows it
 words-next : {w gap : List ℕ} → WordText w → SomeBlanks gap → (y : List ℕ) → Apart y

@@ -6,12 +6,12 @@ use Prim.Native.Nat.{ℕ}
 use native.Mathlib.Omega.{arith}
 use lib.Dec.{T}
 use mir.Facts.{and-yes, yes-and}
-use Rattle.address_list.specs.declared.Kind.{Kind}
-use Rattle.address_list.specs.declared.Kind.the-variants.{Blank, Comma, Colon, Semicolon, Phrase, Address, Angled, Alternative, Stray}
-use Rattle.address_list.specs.declared.Place.{Place}
-use Rattle.address_list.specs.declared.Place.the-variants.{ItemDue, ItemNamed, ItemDone, GroupOpen, MemberDue, MemberNamed, MemberDone, Unfit}
-use Rattle.address_list.specs.declared.Examined.{Examined}
+use Rattle.address_list.specs.declared.PartKind.{PartKind}
+use Rattle.address_list.specs.declared.PartKind.the-variants.{Blank, Comma, Colon, Semicolon, Phrase, Address, Angled, Alternative, Stray}
+use Rattle.address_list.specs.declared.State.{State}
+use Rattle.address_list.specs.declared.State.the-variants.{ItemDue, ItemNamed, ItemDone, GroupOpen, MemberDue, MemberNamed, MemberDone, Unfit}
 use Rattle.address_list.specs.declared.Examined.the-variants.{DoesNotFit, Kept, Changed}
+use Rattle.rules.specs.declared.Rules.{Rules}
 use Rattle.address_list.specs.Parts.{Part, partsOf, anyChanges}
 use Rattle.address_list.specs.Grammar.{InAngles, Mailbox, Mailboxes, Item, Items, unlessBlank, kindsOf}
 use Rattle.address_list.specs.Table.{after, isDone, complete, fits, examinedFrom, examined}
@@ -22,21 +22,21 @@ false-true h = absurd (let z : _≡_ {A = ℕ} 0 1 = ap (λ (t : Bool). cond t 1
 -- ---- what the table takes is made by the grammar
 
 -- mailboxes of a group, up to where the next one is due
-Room : List Kind → Type 0
-Room p = (m : List Kind) → Mailbox m → Mailboxes (p ++ m)
+Room : List PartKind → Type 0
+Room p = (m : List PartKind) → Mailbox m → Mailboxes (p ++ m)
 
--- what the kinds that are left make at each place
-abbrev Left : Place → List Kind → Type 0
+-- what the kinds that are left make at each state
+abbrev Left : State → List PartKind → Type 0
 Left ItemDue ks = Items ks
 Left ItemNamed ks = Items (Phrase ∷ ks)
-Left ItemDone ks = (i : List Kind) → Item i → Items (i ++ ks)
+Left ItemDone ks = (i : List PartKind) → Item i → Items (i ++ ks)
 Left GroupOpen ks = Items (Phrase ∷ Colon ∷ ks)
-Left MemberDue ks = (p : List Kind) → Room p → Items (Phrase ∷ Colon ∷ (p ++ ks))
-Left MemberNamed ks = (p : List Kind) → Room p → Items (Phrase ∷ Colon ∷ (p ++ (Phrase ∷ ks)))
-Left MemberDone ks = (ms : List Kind) → Mailboxes ms → Items (Phrase ∷ Colon ∷ (ms ++ ks))
+Left MemberDue ks = (p : List PartKind) → Room p → Items (Phrase ∷ Colon ∷ (p ++ ks))
+Left MemberNamed ks = (p : List PartKind) → Room p → Items (Phrase ∷ Colon ∷ (p ++ (Phrase ∷ ks)))
+Left MemberDone ks = (ms : List PartKind) → Mailboxes ms → Items (Phrase ∷ Colon ∷ (ms ++ ks))
 Left Unfit ks = ⊥
 
-back-item : (k : Kind) (ks : List Kind) → Left (after ItemDue k) ks → Left ItemDue (unlessBlank k ks)
+back-item : (k : PartKind) (ks : List PartKind) → Left (after ItemDue k) ks → Left ItemDue (unlessBlank k ks)
 unfolding after unlessBlank Room
 back-item Blank ks x = x
 back-item Comma ks x = absurd x
@@ -48,7 +48,7 @@ back-item (Angled start size) ks x = x _ (Item.mailbox (Mailbox.angled (InAngles
 back-item (Alternative start size) ks x = x _ (Item.mailbox (Mailbox.angled (InAngles.alternative start size)))
 back-item Stray ks x = absurd x
 
-back-named : (k : Kind) (ks : List Kind) → Left (after ItemNamed k) ks → Left ItemNamed (unlessBlank k ks)
+back-named : (k : PartKind) (ks : List PartKind) → Left (after ItemNamed k) ks → Left ItemNamed (unlessBlank k ks)
 unfolding after unlessBlank Room
 back-named Blank ks x = x
 back-named Comma ks x = absurd x
@@ -60,7 +60,7 @@ back-named (Angled start size) ks x = x _ (Item.mailbox (Mailbox.named (InAngles
 back-named (Alternative start size) ks x = x _ (Item.mailbox (Mailbox.named (InAngles.alternative start size)))
 back-named Stray ks x = absurd x
 
-back-done : (k : Kind) (ks : List Kind) → Left (after ItemDone k) ks → Left ItemDone (unlessBlank k ks)
+back-done : (k : PartKind) (ks : List PartKind) → Left (after ItemDone k) ks → Left ItemDone (unlessBlank k ks)
 unfolding after unlessBlank Room
 back-done Blank ks x = x
 back-done Comma ks x = λ i e. Items.then e x
@@ -72,7 +72,7 @@ back-done (Angled start size) ks x = absurd x
 back-done (Alternative start size) ks x = absurd x
 back-done Stray ks x = absurd x
 
-back-open : (k : Kind) (ks : List Kind) → Left (after GroupOpen k) ks → Left GroupOpen (unlessBlank k ks)
+back-open : (k : PartKind) (ks : List PartKind) → Left (after GroupOpen k) ks → Left GroupOpen (unlessBlank k ks)
 unfolding after unlessBlank Room
 back-open Blank ks x = x
 back-open Comma ks x = absurd x
@@ -84,7 +84,7 @@ back-open (Angled start size) ks x = x _ (Mailboxes.one (Mailbox.angled (InAngle
 back-open (Alternative start size) ks x = x _ (Mailboxes.one (Mailbox.angled (InAngles.alternative start size)))
 back-open Stray ks x = absurd x
 
-back-member : (k : Kind) (ks : List Kind) → Left (after MemberDue k) ks → Left MemberDue (unlessBlank k ks)
+back-member : (k : PartKind) (ks : List PartKind) → Left (after MemberDue k) ks → Left MemberDue (unlessBlank k ks)
 unfolding after unlessBlank Room
 back-member Blank ks x = x
 back-member Comma ks x = absurd x
@@ -96,7 +96,7 @@ back-member (Angled start size) ks x = λ p r. rw (append-assoc p (Angled start 
 back-member (Alternative start size) ks x = λ p r. rw (append-assoc p (Alternative start size ∷ []) ks) at (x _ (r _ (Mailbox.angled (InAngles.alternative start size))))
 back-member Stray ks x = absurd x
 
-back-member-named : (k : Kind) (ks : List Kind) → Left (after MemberNamed k) ks → Left MemberNamed (unlessBlank k ks)
+back-member-named : (k : PartKind) (ks : List PartKind) → Left (after MemberNamed k) ks → Left MemberNamed (unlessBlank k ks)
 unfolding after unlessBlank Room
 back-member-named Blank ks x = x
 back-member-named Comma ks x = absurd x
@@ -108,7 +108,7 @@ back-member-named (Angled start size) ks x = λ p r. rw (append-assoc p (Phrase 
 back-member-named (Alternative start size) ks x = λ p r. rw (append-assoc p (Phrase ∷ Alternative start size ∷ []) ks) at (x _ (r _ (Mailbox.named (InAngles.alternative start size))))
 back-member-named Stray ks x = absurd x
 
-back-member-done : (k : Kind) (ks : List Kind) → Left (after MemberDone k) ks → Left MemberDone (unlessBlank k ks)
+back-member-done : (k : PartKind) (ks : List PartKind) → Left (after MemberDone k) ks → Left MemberDone (unlessBlank k ks)
 unfolding after unlessBlank Room
 back-member-done Blank ks x = x
 back-member-done Comma ks x = λ ms a. rw (append-assoc ms (Comma ∷ []) ks) at (x (ms ++ (Comma ∷ [])) (λ m b. rw (append-assoc ms (Comma ∷ []) m) (Mailboxes.then a b)))
@@ -120,7 +120,7 @@ back-member-done (Angled start size) ks x = absurd x
 back-member-done (Alternative start size) ks x = absurd x
 back-member-done Stray ks x = absurd x
 
-back : (place : Place) (k : Kind) (ks : List Kind) → Left (after place k) ks → Left place (unlessBlank k ks)
+back : (state : State) (k : PartKind) (ks : List PartKind) → Left (after state k) ks → Left state (unlessBlank k ks)
 unfolding after
 back ItemDue k ks x = back-item k ks x
 back ItemNamed k ks x = back-named k ks x
@@ -131,7 +131,7 @@ back MemberNamed k ks x = back-member-named k ks x
 back MemberDone k ks x = back-member-done k ks x
 back Unfit k ks x = absurd x
 
-ended : (place : Place) → isDone place ≡ true → Left place []
+ended : (state : State) → isDone state ≡ true → Left state []
 ended ItemDone h = λ i e. rw append-nil (Items.one e)
 ended ItemDue h = false-true h
 ended ItemNamed h = false-true h
@@ -141,24 +141,24 @@ ended MemberNamed h = λ p r. false-true h
 ended MemberDone h = λ ms a. false-true h
 ended Unfit h = false-true h
 
-made : (place : Place) (ps : List Part) → complete place ps ≡ true → Left place (kindsOf ps)
+made : (state : State) (ps : List Part) → complete state ps ≡ true → Left state (kindsOf ps)
 unfolding complete kindsOf
-made place [] h = ended place h
-made place (p ∷ ps) h = back place (p .kind) (kindsOf ps) (made (after place (p .kind)) ps h)
+made state [] h = ended state h
+made state (p ∷ ps) h = back state (p .kind) (kindsOf ps) (made (after state (p .kind)) ps h)
 
 -- a text that fits is a comma list of mailboxes or groups
-pub fits-made : (text : List ℕ) → fits text ≡ true → Items (kindsOf (partsOf text))
+pub fits-made : (rules : Rules) (text : List ℕ) → fits rules text ≡ true → Items (kindsOf (partsOf rules text))
 unfolding fits
-fits-made text h = made ItemDue (partsOf text) h
+fits-made rules text h = made ItemDue (partsOf rules text) h
 
 -- ---- what the grammar makes, the table takes
 
--- from a place on, the kinds lead to where a text may end
-leads : Place → List Kind → Bool
-leads place [] = isDone place
-leads place (k ∷ ks) = leads (after place k) ks
+-- from a state on, the kinds lead to where a text may end
+leads : State → List PartKind → Bool
+leads state [] = isDone state
+leads state (k ∷ ks) = leads (after state k) ks
 
-blank-stays : (place : Place) → after place Blank ≡ place
+blank-stays : (state : State) → after state Blank ≡ state
 unfolding after
 blank-stays ItemDue = refl
 blank-stays ItemNamed = refl
@@ -169,24 +169,24 @@ blank-stays MemberNamed = refl
 blank-stays MemberDone = refl
 blank-stays Unfit = refl
 
-leads-unless-blank : (place : Place) (k : Kind) (ks : List Kind) → leads (after place k) ks ≡ leads place (unlessBlank k ks)
+leads-unless-blank : (state : State) (k : PartKind) (ks : List PartKind) → leads (after state k) ks ≡ leads state (unlessBlank k ks)
 unfolding leads unlessBlank
-leads-unless-blank place Blank ks = rw (blank-stays place)
-leads-unless-blank place Comma ks = refl
-leads-unless-blank place Colon ks = refl
-leads-unless-blank place Semicolon ks = refl
-leads-unless-blank place Phrase ks = refl
-leads-unless-blank place Address ks = refl
-leads-unless-blank place (Angled start size) ks = refl
-leads-unless-blank place (Alternative start size) ks = refl
-leads-unless-blank place Stray ks = refl
+leads-unless-blank state Blank ks = rw (blank-stays state)
+leads-unless-blank state Comma ks = refl
+leads-unless-blank state Colon ks = refl
+leads-unless-blank state Semicolon ks = refl
+leads-unless-blank state Phrase ks = refl
+leads-unless-blank state Address ks = refl
+leads-unless-blank state (Angled start size) ks = refl
+leads-unless-blank state (Alternative start size) ks = refl
+leads-unless-blank state Stray ks = refl
 
-complete-leads : (place : Place) (ps : List Part) → complete place ps ≡ leads place (kindsOf ps)
+complete-leads : (state : State) (ps : List Part) → complete state ps ≡ leads state (kindsOf ps)
 unfolding complete leads kindsOf
-complete-leads place [] = refl
-complete-leads place (p ∷ ps) = complete-leads (after place (p .kind)) ps ∙ leads-unless-blank place (p .kind) (kindsOf ps)
+complete-leads state [] = refl
+complete-leads state (p ∷ ps) = complete-leads (after state (p .kind)) ps ∙ leads-unless-blank state (p .kind) (kindsOf ps)
 
-mailbox-item : {m : List Kind} → Mailbox m → (r : List Kind) → leads ItemDue (m ++ r) ≡ leads ItemDone r
+mailbox-item : {m : List PartKind} → Mailbox m → (r : List PartKind) → leads ItemDue (m ++ r) ≡ leads ItemDone r
 unfolding leads after
 mailbox-item Mailbox.bare r = refl
 mailbox-item (Mailbox.angled (InAngles.address start size)) r = refl
@@ -194,7 +194,7 @@ mailbox-item (Mailbox.angled (InAngles.alternative start size)) r = refl
 mailbox-item (Mailbox.named (InAngles.address start size)) r = refl
 mailbox-item (Mailbox.named (InAngles.alternative start size)) r = refl
 
-mailbox-open : {m : List Kind} → Mailbox m → (r : List Kind) → leads GroupOpen (m ++ r) ≡ leads MemberDone r
+mailbox-open : {m : List PartKind} → Mailbox m → (r : List PartKind) → leads GroupOpen (m ++ r) ≡ leads MemberDone r
 unfolding leads after
 mailbox-open Mailbox.bare r = refl
 mailbox-open (Mailbox.angled (InAngles.address start size)) r = refl
@@ -202,7 +202,7 @@ mailbox-open (Mailbox.angled (InAngles.alternative start size)) r = refl
 mailbox-open (Mailbox.named (InAngles.address start size)) r = refl
 mailbox-open (Mailbox.named (InAngles.alternative start size)) r = refl
 
-mailbox-member : {m : List Kind} → Mailbox m → (r : List Kind) → leads MemberDue (m ++ r) ≡ leads MemberDone r
+mailbox-member : {m : List PartKind} → Mailbox m → (r : List PartKind) → leads MemberDue (m ++ r) ≡ leads MemberDone r
 unfolding leads after
 mailbox-member Mailbox.bare r = refl
 mailbox-member (Mailbox.angled (InAngles.address start size)) r = refl
@@ -210,18 +210,18 @@ mailbox-member (Mailbox.angled (InAngles.alternative start size)) r = refl
 mailbox-member (Mailbox.named (InAngles.address start size)) r = refl
 mailbox-member (Mailbox.named (InAngles.alternative start size)) r = refl
 
-mailboxes-open : {ms : List Kind} → Mailboxes ms → (r : List Kind) → leads GroupOpen (ms ++ r) ≡ leads MemberDone r
+mailboxes-open : {ms : List PartKind} → Mailboxes ms → (r : List PartKind) → leads GroupOpen (ms ++ r) ≡ leads MemberDone r
 unfolding leads after
 mailboxes-open (Mailboxes.one a) r = mailbox-open a r
 mailboxes-open (Mailboxes.then {ms} {m} a b) r = rw (append-assoc ms (Comma ∷ m) r) (mailboxes-open a (Comma ∷ (m ++ r)) ∙ mailbox-member b r)
 
-item-due : {i : List Kind} → Item i → (r : List Kind) → leads ItemDue (i ++ r) ≡ leads ItemDone r
+item-due : {i : List PartKind} → Item i → (r : List PartKind) → leads ItemDue (i ++ r) ≡ leads ItemDone r
 unfolding leads after
 item-due (Item.mailbox a) r = mailbox-item a r
 item-due Item.emptyGroup r = refl
 item-due (Item.group {ms} a) r = rw (append-assoc ms (Semicolon ∷ []) r) (mailboxes-open a (Semicolon ∷ r))
 
-items-lead : {ks : List Kind} → Items ks → leads ItemDue ks ≡ true
+items-lead : {ks : List PartKind} → Items ks → leads ItemDue ks ≡ true
 unfolding leads after
 items-lead (Items.one {i} a) = ap (leads ItemDue) (sym (append-nil i)) ∙ item-due a []
 items-lead (Items.then {i} {is} a b) = item-due a (Comma ∷ is) ∙ items-lead b
@@ -230,14 +230,14 @@ pub made-complete : (ps : List Part) → Items (kindsOf ps) → complete ItemDue
 made-complete ps e = complete-leads ItemDue ps ∙ items-lead e
 
 -- a comma list of mailboxes or groups fits
-pub made-fits : (text : List ℕ) → Items (kindsOf (partsOf text)) → fits text ≡ true
+pub made-fits : (rules : Rules) (text : List ℕ) → Items (kindsOf (partsOf rules text)) → fits rules text ≡ true
 unfolding fits
-made-fits text e = made-complete (partsOf text) e
+made-fits rules text e = made-complete (partsOf rules text) e
 
 -- ---- "runs of spaces and TABs allowed around `, : ; <`"
 
 -- such a mark, or `< >`, which starts with one
-abbrev pub isMark : Kind → Bool
+abbrev pub isMark : PartKind → Bool
 isMark Comma = true
 isMark Colon = true
 isMark Semicolon = true
@@ -248,7 +248,7 @@ isMark (Angled start size) = false
 isMark (Alternative start size) = false
 isMark Stray = false
 
-abbrev pub opensWithMark : Kind → Bool
+abbrev pub opensWithMark : PartKind → Bool
 opensWithMark (Angled start size) = true
 opensWithMark (Alternative start size) = true
 opensWithMark Comma = true
@@ -260,12 +260,12 @@ opensWithMark Address = false
 opensWithMark Stray = false
 
 -- a mark stands between any two parts: blanks between them stand around it
-abbrev pub markBetween : List Kind → Bool
+abbrev pub markBetween : List PartKind → Bool
 markBetween [] = true
 markBetween (k ∷ []) = true
 markBetween (k ∷ l ∷ ks) = (isMark k || opensWithMark l) && markBetween (l ∷ ks)
 
-mark-first : (k : Kind) (ks : List Kind) → T (isMark k) → T (markBetween ks) → T (markBetween (k ∷ ks))
+mark-first : (k : PartKind) (ks : List PartKind) → T (isMark k) → T (markBetween ks) → T (markBetween (k ∷ ks))
 mark-first k [] m h = tt
 mark-first k (l ∷ ks) m h = yes-and (isMark k || opensWithMark l) (markBetween (l ∷ ks)) (or-left (isMark k) m) h
   where
@@ -273,7 +273,7 @@ mark-first k (l ∷ ks) m h = yes-and (isMark k || opensWithMark l) (markBetween
     or-left true t = tt
     or-left false t = absurd t
 
-mark-joins : (ks : List Kind) (k : Kind) (ls : List Kind) → T (isMark k) → T (opensWithMark k) → T (markBetween ks) → T (markBetween ls) → T (markBetween (ks ++ (k ∷ ls)))
+mark-joins : (ks : List PartKind) (k : PartKind) (ls : List PartKind) → T (isMark k) → T (opensWithMark k) → T (markBetween ks) → T (markBetween ls) → T (markBetween (ks ++ (k ∷ ls)))
 mark-joins [] k ls m o h g = mark-first k ls m g
 mark-joins (a ∷ []) k ls m o h g = yes-and (isMark a || opensWithMark k) (markBetween (k ∷ ls)) (or-right (isMark a) (opensWithMark k) o) (mark-first k ls m g)
   where
@@ -284,70 +284,61 @@ mark-joins (a ∷ b ∷ ks) k ls m o h g =
     let both = and-yes (isMark a || opensWithMark b) (markBetween (b ∷ ks)) h in
     yes-and (isMark a || opensWithMark b) (markBetween (b ∷ (ks ++ (k ∷ ls)))) (both .0) (mark-joins (b ∷ ks) k ls m o (both .1) g)
 
-mailbox-marked : {m : List Kind} → Mailbox m → T (markBetween m)
+mailbox-marked : {m : List PartKind} → Mailbox m → T (markBetween m)
 mailbox-marked Mailbox.bare = tt
 mailbox-marked (Mailbox.angled a) = tt
 mailbox-marked (Mailbox.named (InAngles.address start size)) = tt
 mailbox-marked (Mailbox.named (InAngles.alternative start size)) = tt
 
-mailboxes-marked : {ms : List Kind} → Mailboxes ms → T (markBetween ms)
+mailboxes-marked : {ms : List PartKind} → Mailboxes ms → T (markBetween ms)
 mailboxes-marked (Mailboxes.one a) = mailbox-marked a
 mailboxes-marked (Mailboxes.then {ms} {m} a b) = mark-joins ms Comma m tt tt (mailboxes-marked a) (mailbox-marked b)
 
-item-marked : {i : List Kind} → Item i → T (markBetween i)
+item-marked : {i : List PartKind} → Item i → T (markBetween i)
 item-marked (Item.mailbox a) = mailbox-marked a
 item-marked Item.emptyGroup = tt
 item-marked (Item.group {ms} a) = mark-first Colon (ms ++ (Semicolon ∷ [])) tt (mark-joins ms Semicolon [] tt tt (mailboxes-marked a) tt)
 
-pub items-marked : {ks : List Kind} → Items ks → T (markBetween ks)
+pub items-marked : {ks : List PartKind} → Items ks → T (markBetween ks)
 items-marked (Items.one a) = item-marked a
 items-marked (Items.then {i} {is} a b) = mark-joins i Comma is tt tt (item-marked a) (items-marked b)
 
 -- ---- what is told of a text
 
-module _ (text : List ℕ) where
-  pub examined-is : examined text ≡ cond (fits text) (cond (anyChanges (partsOf text)) Changed Kept) DoesNotFit
+module _ (rules : Rules) (text : List ℕ) where
+  pub examined-is : examined rules text ≡ cond (fits rules text) (cond (anyChanges (partsOf rules text)) Changed Kept) DoesNotFit
   unfolding examined examinedFrom fits
   examined-is = refl
 
-  pub examined-unfit : fits text ≡ false → examined text ≡ DoesNotFit
+  pub examined-unfit : fits rules text ≡ false → examined rules text ≡ DoesNotFit
   examined-unfit f = rw (examined-is, f)
 
-  pub examined-changed : fits text ≡ true → anyChanges (partsOf text) ≡ true → examined text ≡ Changed
+  pub examined-changed : fits rules text ≡ true → anyChanges (partsOf rules text) ≡ true → examined rules text ≡ Changed
   examined-changed f c = rw (examined-is, f, c)
 
-  pub examined-kept : fits text ≡ true → anyChanges (partsOf text) ≡ false → examined text ≡ Kept
+  pub examined-kept : fits rules text ≡ true → anyChanges (partsOf rules text) ≡ false → examined rules text ≡ Kept
   examined-kept f c = rw (examined-is, f, c)
 
-  -- a number of each answer, so that no two are equal
-  which : Examined → ℕ
-  which DoesNotFit = 0
-  which Kept = 1
-  which Changed = 2
-
-  pub unfit-examined : examined text ≡ DoesNotFit → fits text ≡ false
-  unfolding which
-  unfit-examined h = go (fits text) (anyChanges (partsOf text)) (sym examined-is ∙ h)
+  pub unfit-examined : examined rules text ≡ DoesNotFit → fits rules text ≡ false
+  unfit-examined h = go (fits rules text) (anyChanges (partsOf rules text)) (sym examined-is ∙ h)
     where
       go : (f c : Bool) → cond f (cond c Changed Kept) DoesNotFit ≡ DoesNotFit → f ≡ false
       go false c h = refl
-      go true true h = absurd (let z : _≡_ {A = ℕ} 2 0 = ap which h in omega arith)
-      go true false h = absurd (let z : _≡_ {A = ℕ} 1 0 = ap which h in omega arith)
+      go true true h = absurd (let z : _≡_ {A = ℕ} 0 1 = cc in omega arith)
+      go true false h = absurd (let z : _≡_ {A = ℕ} 0 1 = cc in omega arith)
 
-  pub changed-examined : examined text ≡ Changed → (fits text ≡ true) × (anyChanges (partsOf text) ≡ true)
-  unfolding which
-  changed-examined h = go (fits text) (anyChanges (partsOf text)) (sym examined-is ∙ h)
+  pub changed-examined : examined rules text ≡ Changed → (fits rules text ≡ true) × (anyChanges (partsOf rules text) ≡ true)
+  changed-examined h = go (fits rules text) (anyChanges (partsOf rules text)) (sym examined-is ∙ h)
     where
       go : (f c : Bool) → cond f (cond c Changed Kept) DoesNotFit ≡ Changed → (f ≡ true) × (c ≡ true)
       go true true h = (refl, refl)
-      go true false h = absurd (let z : _≡_ {A = ℕ} 1 2 = ap which h in omega arith)
-      go false c h = absurd (let z : _≡_ {A = ℕ} 0 2 = ap which h in omega arith)
+      go true false h = absurd (let z : _≡_ {A = ℕ} 0 1 = cc in omega arith)
+      go false c h = absurd (let z : _≡_ {A = ℕ} 0 1 = cc in omega arith)
 
-  pub kept-examined : examined text ≡ Kept → (fits text ≡ true) × (anyChanges (partsOf text) ≡ false)
-  unfolding which
-  kept-examined h = go (fits text) (anyChanges (partsOf text)) (sym examined-is ∙ h)
+  pub kept-examined : examined rules text ≡ Kept → (fits rules text ≡ true) × (anyChanges (partsOf rules text) ≡ false)
+  kept-examined h = go (fits rules text) (anyChanges (partsOf rules text)) (sym examined-is ∙ h)
     where
       go : (f c : Bool) → cond f (cond c Changed Kept) DoesNotFit ≡ Kept → (f ≡ true) × (c ≡ false)
       go true false h = (refl, refl)
-      go true true h = absurd (let z : _≡_ {A = ℕ} 2 1 = ap which h in omega arith)
-      go false c h = absurd (let z : _≡_ {A = ℕ} 0 1 = ap which h in omega arith)
+      go true true h = absurd (let z : _≡_ {A = ℕ} 0 1 = cc in omega arith)
+      go false c h = absurd (let z : _≡_ {A = ℕ} 0 1 = cc in omega arith)

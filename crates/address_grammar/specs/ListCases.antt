@@ -3,11 +3,13 @@ use mathlib.Core.Path.{_≡_, refl}
 use mathlib.Core.List.{List, [], _∷_, _++_}
 use Prim.Native.Nat.{ℕ}
 use lib.ListN.{replicate}
-use Rattle.utf8.specs.Run.{run}
+use Rattle.lists.specs.Run.{run}
 use Rattle.letter_case.specs.LetterCase.{bytes}
-use Rattle.header.specs.Lines.{blank}
+use Rattle.line.specs.Line.{blank}
 use Rattle.address.specs.Address.{later, byteThen, scanThen, isAtext, isAtomByte, isQuotedByte, isLiteralByte, dotAtomFrom, dotAtomScan, quotedFrom, quotedScan, literalFrom, literalScan, domainScan, localScan, addressScan}
-use Rattle.address_list.specs.Words.{capped, isWordByte, addressLen, wordLen, nextWordLen, nextWordsLen, phraseLen}
+use Rattle.rules.specs.declared.Rules.{Rules}
+use Rattle.rules.specs.declared.Rules.the-variants.{Spool, Current, Mailbox}
+use Rattle.phrase.specs.Words.{capped, isWordByte, addressLen, wordLen, nextWordLen, nextWordsLen, phraseLen}
 use Rattle.address_list.specs.Parts.{alternativeAt, angledAt, namedAt, partAt, partsFrom, partsOf, changes, anyChanges}
 use Rattle.address_list.specs.Table.{after, complete, examinedFrom, examined}
 use Rattle.address_list.specs.declared.Examined.{Examined}
@@ -20,13 +22,15 @@ abbrev é : List ℕ
 abbrev TAB : List ℕ
 TAB = 9 ∷ []
 
--- a text, and what is told of it
+-- a text, and what is told of it in a message from the spool, or by other rules
 pub data Case : Type 0 where
   told : List ℕ → Examined → Case
+  toldBy : Rules → List ℕ → Examined → Case
 
 -- what a case says
 abbrev pub Right : Case → Type 0
-Right (told text answer) = examined text ≡ answer
+Right (told text answer) = examined Spool text ≡ answer
+Right (toldBy rules text answer) = examined rules text ≡ answer
 
 abbrev pub AllRight : List Case → Type 0
 AllRight [] = Unit {0}
@@ -63,6 +67,9 @@ cases =
     ∷ Case.told (bytes "<" ++ (é ++ bytes "@b <a@b> >")) DoesNotFit
     ∷ Case.told (bytes "<" ++ (é ++ bytes "@b <a@b >>")) DoesNotFit
     ∷ Case.told (bytes "<" ++ (é ++ bytes "@b <a@b>")) DoesNotFit
+    ∷ Case.toldBy Current (bytes "<" ++ (é ++ bytes "@b <a@b>>")) DoesNotFit
+    ∷ Case.toldBy Mailbox (bytes "<" ++ (é ++ bytes "@b <a@b>>")) DoesNotFit
+    ∷ Case.toldBy Current (bytes "A <" ++ (é ++ bytes "@b>")) Changed
     -- groups
     ∷ Case.told (bytes "G:;") Kept
     ∷ Case.told (bytes "G: ;") Kept
@@ -103,4 +110,4 @@ cases =
 
 pub cases-right : AllRight cases
 unfolding bytes later byteThen scanThen isAtext isAtomByte isQuotedByte isLiteralByte dotAtomFrom dotAtomScan quotedFrom quotedScan literalFrom literalScan domainScan localScan addressScan run blank capped isWordByte addressLen wordLen nextWordLen nextWordsLen phraseLen alternativeAt angledAt namedAt partAt partsFrom partsOf changes anyChanges after complete examinedFrom examined
-cases-right = (refl, (refl, (refl, (refl, (refl, (refl, (refl, (refl, (refl, (refl, (refl, (refl, (refl, (refl, (refl, (refl, (refl, (refl, (refl, (refl, (refl, (refl, (refl, (refl, (refl, (refl, (refl, (refl, (refl, (refl, (refl, (refl, (refl, (refl, (refl, (refl, (refl, (refl, (refl, (refl, (refl, (refl, (refl, (refl, (refl, (refl, (refl, (refl, (refl, (refl, (refl, (refl, (refl, (refl, (refl, (refl, (refl, tt)))))))))))))))))))))))))))))))))))))))))))))))))))))))))
+cases-right = (refl, (refl, (refl, (refl, (refl, (refl, (refl, (refl, (refl, (refl, (refl, (refl, (refl, (refl, (refl, (refl, (refl, (refl, (refl, (refl, (refl, (refl, (refl, (refl, (refl, (refl, (refl, (refl, (refl, (refl, (refl, (refl, (refl, (refl, (refl, (refl, (refl, (refl, (refl, (refl, (refl, (refl, (refl, (refl, (refl, (refl, (refl, (refl, (refl, (refl, (refl, (refl, (refl, (refl, (refl, (refl, (refl, (refl, (refl, (refl, tt))))))))))))))))))))))))))))))))))))))))))))))))))))))))))))

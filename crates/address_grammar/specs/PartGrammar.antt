@@ -6,15 +6,17 @@ use mathlib.Core.List.{List, [], _∷_, _++_}
 use Prim.Native.Nat.{ℕ, _+_, _≤_}
 use lib.Dec.{T}
 use lib.ListN.{length}
-use Rattle.utf8.specs.Lists.{all, nonempty}
-use Rattle.utf8.specs.Byte.{isAscii}
-use Rattle.header.specs.Lines.{blank}
+use Rattle.lists.specs.Lists.{all, nonempty}
+use Rattle.lists.specs.Byte.{isAscii}
+use Rattle.line.specs.Line.{blank}
 use Rattle.address.specs.Grammar.{QuotedString, Address as AddressForm}
-use Rattle.address_list.specs.Words.{isWordByte}
+use Rattle.rules.specs.Rules.{allowsAlternative}
+use Rattle.rules.specs.declared.Rules.{Rules}
+use Rattle.phrase.specs.Words.{isWordByte}
 use Rattle.address_list.specs.Parts.{Part}
 use Rattle.address_list.specs.Grammar.{Items, kindsOf}
-use Rattle.address_list.specs.declared.Kind.{Kind}
-use Rattle.address_list.specs.declared.Kind.the-variants.{Blank, Comma, Colon, Semicolon, Phrase, Address, Angled, Alternative, Stray}
+use Rattle.address_list.specs.declared.PartKind.{PartKind}
+use Rattle.address_list.specs.declared.PartKind.the-variants.{Blank, Comma, Colon, Semicolon, Phrase, Address, Angled, Alternative, Stray}
 
 -- "a word is a quoted string or a run of atext, dots and non-ASCII characters"
 pub data WordForm : List ℕ → Type 0 where
@@ -54,9 +56,10 @@ pub record AngledText (start size : ℕ) (text : List ℕ) : Type 0 where
   pub start-is : start ≡ 1 + length gap
   pub size-is : size ≡ length address
 
--- "with an alternative `<address <ASCII address>>`, the first non-ASCII, at least one space or TAB between". The kind tells where
--- the alternative is.
-pub record AlternativeText (start size : ℕ) (text : List ℕ) : Type 0 where
+-- "with an alternative `<address <ASCII address>>`, the first non-ASCII, at least one space or TAB between", where the rules allow it.
+-- The kind tells where the alternative is.
+pub record AlternativeText (rules : Rules) (start size : ℕ) (text : List ℕ) : Type 0 where
+  pub allowed : T (allowsAlternative rules)
   pub gap : List ℕ
   pub first : List ℕ
   pub between : List ℕ
@@ -80,20 +83,20 @@ pub record OneByte (f : ℕ → Type 0) (text : List ℕ) : Type 0 where
   pub is : f byte
 
 -- what the bytes of a part of each kind are: `,` is 44, `:` is 58, `;` is 59; of a stray byte nothing is said
-abbrev pub IsPart : Kind → List ℕ → Type 0
-IsPart Blank text = OneByte (λ b. T (blank b)) text
-IsPart Comma text = text ≡ 44 ∷ []
-IsPart Colon text = text ≡ 58 ∷ []
-IsPart Semicolon text = text ≡ 59 ∷ []
-IsPart Phrase text = PhraseText text
-IsPart Address text = AddressText text
-IsPart (Angled start size) text = AngledText start size text
-IsPart (Alternative start size) text = AlternativeText start size text
-IsPart Stray text = OneByte (λ b. Unit {0}) text
+abbrev pub IsPart : Rules → PartKind → List ℕ → Type 0
+IsPart rules Blank text = OneByte (λ b. T (blank b)) text
+IsPart rules Comma text = text ≡ 44 ∷ []
+IsPart rules Colon text = text ≡ 58 ∷ []
+IsPart rules Semicolon text = text ≡ 59 ∷ []
+IsPart rules Phrase text = PhraseText text
+IsPart rules Address text = AddressText text
+IsPart rules (Angled start size) text = AngledText start size text
+IsPart rules (Alternative start size) text = AlternativeText rules start size text
+IsPart rules Stray text = OneByte (λ b. Unit {0}) text
 
-abbrev pub EachIsPart : List Part → Type 0
-EachIsPart [] = Unit {0}
-EachIsPart (p ∷ ps) = IsPart (p .kind) (p .text) × EachIsPart ps
+abbrev pub EachIsPart : Rules → List Part → Type 0
+EachIsPart rules [] = Unit {0}
+EachIsPart rules (p ∷ ps) = IsPart rules (p .kind) (p .text) × EachIsPart rules ps
 
 -- the texts of the parts, one after another
 abbrev pub joinedParts : List Part → List ℕ
@@ -101,8 +104,8 @@ joinedParts [] = []
 joinedParts (p ∷ ps) = p .text ++ joinedParts ps
 
 -- "The text must be a comma list of mailboxes or groups": parts whose kinds are such a list, each what its kind says
-pub record AddressList (text : List ℕ) : Type 0 where
+pub record AddressList (rules : Rules) (text : List ℕ) : Type 0 where
   pub parts : List Part
   pub kinds : Items (kindsOf parts)
-  pub each : EachIsPart parts
+  pub each : EachIsPart rules parts
   pub joined : joinedParts parts ≡ text

@@ -1,27 +1,31 @@
 -- The parts of every text are what their kinds say, and joined they are the text. Assumes nothing.
 use mathlib.Core.Path.{_≡_, refl, ap, sym, _∙_}
-use mathlib.Core.Bool.{Bool, cond, not, _&&_}
+use mathlib.Core.Bool.{Bool, cond, _&&_}
 use mathlib.Core.List.{List, [], _∷_, _++_, append-assoc, append-nil}
 use Prim.Native.Nat.{ℕ, zero, suc, pred, _+_, _-_, _≤_, _<_}
 use native.Mathlib.Nat.{not-suc-le-zero}
 use native.Mathlib.Numerals.{add-one}
 use native.Mathlib.Omega.{arith}
-use lib.Dec.{T, ltb, leb, eqb, eqb→eq}
+use lib.Dec.{T, ltb, leb, eqb}
 use lib.ListN.{length, take, drop, getD, length-append, length-drop, take-append-drop}
 use lib.Seq.{drop-cons, drop-drop, drop-append-seam, drop-at, take-add, take-nil, take-append-seam, length-take-le}
-use mir.Facts.{and-yes, ltb-yes, leb-yes, eqb-no}
-use Rattle.utf8.specs.Byte.{isAscii}
-use Rattle.utf8.specs.Lists.{cond-has, all, nonempty}
-use Rattle.utf8.specs.Run.{run, run-le, run-all}
-use Rattle.header.specs.Lines.{blank}
+use mir.Facts.{and-yes, ltb-yes, leb-yes}
+use Rattle.lists.specs.ListsLaws.{cond-has}
+use Rattle.lists.specs.Lists.{nonempty}
+use Rattle.lists.specs.Run.{run}
+use Rattle.lists.specs.RunLaws.{run-le, run-all}
+use Rattle.line.specs.Line.{blank}
 use Rattle.address.specs.declared.Scan.{Scan}
 use Rattle.address.specs.declared.Scan.the-variants.{To, Stop}
 use Rattle.address.specs.Address.{quotedScan, addressScan}
 use Rattle.address.specs.AddressLaws.{byte-within}
 use Rattle.address.specs.GrammarLaws.{quoted-string-sound, address-sound}
-use Rattle.address_list.specs.Words.{found, capped, isWordByte, addressLen, wordLen, nextWordLen, nextWordsLen, phraseLen}
-use Rattle.address_list.specs.Parts.{front, stray, alternativeAt, angledAt, namedAt, partAt, partsFrom, partsOf}
-use Rattle.address_list.specs.declared.Kind.the-variants.{Blank, Comma, Colon, Semicolon, Phrase, Address, Angled, Alternative}
+use Rattle.rules.specs.Rules.{allowsAlternative}
+use Rattle.rules.specs.declared.Rules.{Rules}
+use Rattle.phrase.specs.Words.{found, capped, isWordByte, addressLen, wordLen, nextWordLen, nextWordsLen, phraseLen}
+use Rattle.address_list.specs.Parts.{front, partAt, partsFrom, partsOf}
+use Rattle.address_list.specs.PartCasesLaws.{Opened, Replaced, part-has}
+use Rattle.address_list.specs.declared.PartKind.the-variants.{Angled, Alternative}
 use Rattle.address_list.specs.declared.Front.{Front}
 use Rattle.address_grammar.specs.PartGrammar.{WordForm, WordText, AddressText, SomeBlanks, PhraseText, AngledText, AlternativeText, IsPart, EachIsPart, joinedParts}
 
@@ -157,8 +161,8 @@ angled-told p =
     let from : 1 + length (p .gap) ≡ suc (length (p .gap)) = omega arith in
     rw (p .made, p .size-is, p .start-is, from, drop-append-seam (p .gap) (p .address ++ (62 ∷ [])), take-append-seam (p .address) (62 ∷ []))
 
-pub alternative-told : {start size : ℕ} {t : List ℕ} (p : AlternativeText start size t) → take size (drop start t) ≡ p .alternative
-alternative-told {start} {size} {t} p =
+pub alternative-told : {rules : Rules} {start size : ℕ} {t : List ℕ} (p : AlternativeText rules start size t) → take size (drop start t) ≡ p .alternative
+alternative-told {rules} {start} {size} {t} p =
     let gap = p .gap in
     let first = p .first in
     let between = p .between in
@@ -174,48 +178,53 @@ alternative-told {start} {size} {t} p =
 -- ---- the part at the front
 
 -- it has a byte, and it is what its kind says
-record Made (s : List ℕ) (f : Front) : Type 0 where
+record Made (rules : Rules) (s : List ℕ) (f : Front) : Type 0 where
   some : 0 < f .size
-  is : IsPart (f .kind) (take (f .size) s)
+  is : IsPart rules (f .kind) (take (f .size) s)
 
 first-byte : (s : List ℕ) → 0 < length s → take 1 s ≡ getD s 0 0 ∷ []
 first-byte [] h = absurd (not-suc-le-zero h)
 first-byte (b ∷ s) h = refl
 
-stray-made : (s : List ℕ) → 0 < length s → Made s stray
-stray-made s h = record { some = omega arith; is = record { byte = getD s 0 0; made = first-byte s h; is = tt } }
+-- `<`, blanks up to a, and an address up to a + n
+module _ (rules : Rules) (s : List ℕ) (a n : ℕ) (o : Opened s a n) where
+  address-there : AddressText (take n (drop a s))
+  address-there = rw (o .size-is) (address-made (drop a s) (rw (o .size-is) at (o .some)))
 
--- `<`, blanks up to a, and an address up to b
-module _ (s : List ℕ) (r n a b : ℕ) (qa : a ≡ 1 + r) (qb : b ≡ a + n) (opens : getD s 0 0 ≡ 60)
-    (blanks : T (all blank (take r (drop 1 s)))) (address : AddressText (take n (drop a s))) where
-  angled-there : getD s b 0 ≡ 62 → Made s (front (Angled a n) (b + 1))
-  angled-there close =
-      let total : b + 1 ≡ suc (r + (n + 1)) = omega arith in
-      let long : b < length s = byte-within s b 61 close in
+  angled-made : getD s (a + n) 0 ≡ 62 → Made rules s (front (Angled a n) (a + n + 1))
+  angled-made close =
+      let r : ℕ = run blank (drop 1 s) in
+      let total : a + n + 1 ≡ suc (r + (n + 1)) = omega (arith, o .start-is) in
+      let long : a + n < length s = byte-within s (a + n) 61 close in
       record {
         some = omega arith;
         is = record {
           gap = take r (drop 1 s);
           address = take n (drop a s);
-          made = rw (total, byte-chunk s 0 59 (r + (n + 1)) opens, chunk s 1 r (n + 1), ← qa, chunk s a n 1, ← qb, byte-chunk s b 61 0 close);
-          blanks = blanks;
-          is = address;
-          start-is = omega (arith, chunk-length s 1 r (omega arith));
+          made = rw (total, byte-chunk s 0 59 (r + (n + 1)) (o .opens), chunk s 1 r (n + 1), ← o .start-is, chunk s a n 1, byte-chunk s (a + n) 61 0 close);
+          blanks = run-all blank (drop 1 s);
+          is = address-there;
+          start-is = omega (arith, o .start-is, chunk-length s 1 r (omega (arith, o .start-is)));
           size-is = sym (chunk-length s a n (omega arith));
         };
       }
 
-  -- blanks, `<`, blanks up to start, an address up to end, and `>>`
-  module _ (k inner m start size end : ℕ) (qi : inner ≡ b + k) (qs : start ≡ inner + 1 + m) (qe : end ≡ start + size) where
-    alternative-there : T (not (all isAscii (take n (drop a s)))) → SomeBlanks (take k (drop b s)) → getD s inner 0 ≡ 60
-        → T (all blank (take m (drop (inner + 1) s))) → AddressText (take size (drop start s)) → T (all isAscii (take size (drop start s)))
-        → getD s end 0 ≡ 62 → getD s (end + 1) 0 ≡ 62 → Made s (front (Alternative start size) (end + 2))
-    alternative-there high apart opens₂ blanks₂ other ascii close close₂ =
-        let total : end + 2 ≡ suc (r + (n + (k + suc (m + (size + 2))))) = omega arith in
-        let long : end < length s = byte-within s end 61 close in
+  -- blanks up to inner, `<`, blanks up to start, an address and `>>`
+  module _ (inner start size : ℕ) (e : Replaced s a (a + n) inner start size) where
+    alternative-made : T (allowsAlternative rules) → Made rules s (front (Alternative start size) (start + size + 2))
+    alternative-made allowed =
+        let r : ℕ = run blank (drop 1 s) in
+        let b : ℕ = a + n in
+        let k : ℕ = run blank (drop b s) in
+        let m : ℕ = run blank (drop (inner + 1) s) in
+        let end : ℕ = start + size in
+        let total : end + 2 ≡ suc (r + (n + (k + suc (m + (size + 2))))) = omega (arith, o .start-is, e .inner-is, e .start-is) in
+        let long : end < length s = byte-within s end 61 (e .close) in
+        let width : b - a ≡ n = omega arith in
         record {
           some = omega arith;
           is = record {
+            allowed = allowed;
             gap = take r (drop 1 s);
             first = take n (drop a s);
             between = take k (drop b s);
@@ -224,148 +233,84 @@ module _ (s : List ℕ) (r n a b : ℕ) (qa : a ≡ 1 + r) (qb : b ≡ a + n) (o
             made =
                 rw (
                   total,
-                  byte-chunk s 0 59 (r + (n + (k + suc (m + (size + 2))))) opens,
+                  byte-chunk s 0 59 (r + (n + (k + suc (m + (size + 2))))) (o .opens),
                   chunk s 1 r (n + (k + suc (m + (size + 2)))),
-                  ← qa,
+                  ← o .start-is,
                   chunk s a n (k + suc (m + (size + 2))),
-                  ← qb,
                   chunk s b k (suc (m + (size + 2))),
-                  ← qi,
-                  byte-chunk s inner 59 (m + (size + 2)) opens₂,
+                  ← e .inner-is,
+                  byte-chunk s inner 59 (m + (size + 2)) (e .opens),
                   chunk s (inner + 1) m (size + 2),
-                  ← qs,
+                  ← e .start-is,
                   chunk s start size 2,
-                  ← qe,
-                  byte-chunk s end 61 1 close,
-                  byte-chunk s (end + 1) 61 0 close₂,
+                  byte-chunk s end 61 1 (e .close),
+                  byte-chunk s (end + 1) 61 0 (e .close₂),
                 );
-            blanks = blanks;
-            first-is = address;
-            first-high = high;
-            apart = apart;
-            blanks₂ = blanks₂;
-            alternative-is = other;
-            alternative-ascii = ascii;
+            blanks = run-all blank (drop 1 s);
+            first-is = address-there;
+            first-high = rw width at (e .high);
+            apart = record { some = run-some blank (drop b s) (omega (arith, e .apart, e .inner-is)); blanks = run-all blank (drop b s) };
+            blanks₂ = run-all blank (drop (inner + 1) s);
+            alternative-is = rw (e .size-is) (address-made (drop start s) (rw (e .size-is) at (e .some)));
+            alternative-ascii = e .ascii;
             start-is =
-                omega (arith, chunk-length s 1 r (omega arith), chunk-length s a n (omega arith), chunk-length s b k (omega arith), chunk-length s (inner + 1) m (omega arith));
+                omega (
+                  arith,
+                  o .start-is,
+                  e .inner-is,
+                  e .start-is,
+                  chunk-length s 1 r (omega (arith, o .start-is, e .inner-is, e .start-is)),
+                  chunk-length s a n (omega (arith, e .inner-is, e .start-is)),
+                  chunk-length s b k (omega (arith, e .inner-is, e .start-is)),
+                  chunk-length s (inner + 1) m (omega (arith, e .start-is)),
+                );
             size-is = sym (chunk-length s start size (omega arith));
           };
         }
 
--- the tests of an alternative
-record Tests (a b c d e f g : Bool) : Type 0 where
-  gap : T a
-  high : T b
-  opens : T c
-  some : T d
-  close : T e
-  close₂ : T f
-  ascii : T g
-
-seven : (a b c d e f g : Bool) → T (a && b && c && d && e && f && g) → Tests a b c d e f g
-seven a b c d e f g t =
-    let t₆ = and-yes (a && b && c && d && e && f) g t in
-    let t₅ = and-yes (a && b && c && d && e) f (t₆ .0) in
-    let t₄ = and-yes (a && b && c && d) e (t₅ .0) in
-    let t₃ = and-yes (a && b && c) d (t₄ .0) in
-    let t₂ = and-yes (a && b) c (t₃ .0) in
-    let t₁ = and-yes a b (t₂ .0) in
-    record { gap = t₁ .0; high = t₁ .1; opens = t₂ .1; some = t₃ .1; close = t₄ .1; close₂ = t₅ .1; ascii = t₆ .1 }
-
-alternative-made : (s : List ℕ) (r n a : ℕ) → a ≡ 1 + r → getD s 0 0 ≡ 60 → T (all blank (take r (drop 1 s))) → AddressText (take n (drop a s)) → Made s (alternativeAt s a (a + n))
-unfolding alternativeAt
-alternative-made s r n a qa opens blanks address =
-    let b = a + n in
-    let k = run blank (drop b s) in
-    let inner = b + k in
-    let m = run blank (drop (inner + 1) s) in
-    let start = inner + 1 + m in
-    let size = addressLen (drop start s) in
-    let end = start + size in
-    let high = not (all isAscii (take (b - a) (drop a s))) in
-    let ascii = all isAscii (take size (drop start s)) in
-    let some : 0 < length s = byte-within s 0 59 opens in
-    let width : b - a ≡ n = omega arith in
-    cond-has (Made s) (ltb b inner && high && eqb (getD s inner 0) 60 && ltb 0 size && eqb (getD s end 0) 62 && eqb (getD s (end + 1) 0) 62 && ascii) _ stray
-    (λ t.
-    let y = seven (ltb b inner) high (eqb (getD s inner 0) 60) (ltb 0 size) (eqb (getD s end 0) 62) (eqb (getD s (end + 1) 0) 62) ascii t in
-    let gap : b < inner = ltb-yes (y .gap) in
-    alternative-there s r n a b qa refl opens blanks address k inner m start size end refl refl refl
-    (rw width at (y .high))
-    (record { some = run-some blank (drop b s) (omega (arith, gap)); blanks = run-all blank (drop b s) })
-    (eqb→eq _ 60 (y .opens)) (run-all blank (drop (inner + 1) s)) (address-made (drop start s) (ltb-yes (y .some)))
-    (y .ascii) (eqb→eq _ 62 (y .close)) (eqb→eq _ 62 (y .close₂)))
-    (λ t. stray-made s some)
-
-angled-made : (s : List ℕ) → getD s 0 0 ≡ 60 → Made s (angledAt s)
-unfolding angledAt
-angled-made s opens =
-    let r = run blank (drop 1 s) in
-    let a = 1 + r in
-    let n = addressLen (drop a s) in
-    cond-has (Made s) (eqb n 0) stray _
-    (λ t. stray-made s (byte-within s 0 59 opens))
-    (λ t.
-    let some : 0 < n = (let z : n ≡ 0 → ⊥ = eqb-no {a = n} {b = 0} t in omega (arith, z)) in
-    let address = address-made (drop a s) some in
-    cond-has (Made s) (eqb (getD s (a + n) 0) 62) (front (Angled a n) (a + n + 1)) (alternativeAt s a (a + n))
-    (λ u. angled-there s r n a (a + n) refl refl opens (run-all blank (drop 1 s)) address (eqb→eq _ 62 u))
-    (λ u. alternative-made s r n a refl opens (run-all blank (drop 1 s)) address))
-
-named-made : (s : List ℕ) → 0 < length s → Made s (namedAt s)
-unfolding namedAt
-named-made s h =
-    cond-has (Made s) (ltb 0 (addressLen s)) (front Address (addressLen s)) _
-    (λ t. record { some = ltb-yes t; is = address-made s (ltb-yes t) })
-    (λ t.
-    cond-has (Made s) (ltb 0 (phraseLen s)) (front Phrase (phraseLen s)) stray
-    (λ u. record { some = ltb-yes u; is = phrase-made s (ltb-yes u) })
-    (λ u. stray-made s h))
-
-mark-made : (s : List ℕ) (b : ℕ) → 0 < length s → T (eqb (getD s 0 0) b) → take 1 s ≡ b ∷ []
-mark-made s b h t = first-byte s h ∙ rw (eqb→eq (getD s 0 0) b t)
-
-part-made : (s : List ℕ) → 0 < length s → Made s (partAt s)
-unfolding partAt
-part-made s h =
-    let first = getD s 0 0 in
-    cond-has (Made s) (blank first) (front Blank 1) _
-    (λ t. record { some = omega arith; is = record { byte = first; made = first-byte s h; is = t } })
-    (λ _. cond-has (Made s) (eqb first 44) (front Comma 1) _
-    (λ t. record { some = omega arith; is = mark-made s 44 h t })
-    (λ _. cond-has (Made s) (eqb first 58) (front Colon 1) _
-    (λ t. record { some = omega arith; is = mark-made s 58 h t })
-    (λ _. cond-has (Made s) (eqb first 59) (front Semicolon 1) _
-    (λ t. record { some = omega arith; is = mark-made s 59 h t })
-    (λ _. cond-has (Made s) (eqb first 60) (angledAt s) (namedAt s)
-    (λ t. angled-made s (eqb→eq first 60 t))
-    (λ _. named-made s h)))))
+part-made : (rules : Rules) (s : List ℕ) → 0 < length s → Made rules s (partAt rules s)
+part-made rules s h = part-has (Made rules s) rules s (record {
+  none = record { some = omega arith; is = record { byte = getD s 0 0; made = first-byte s h; is = tt } };
+  is-blank = λ t. record { some = omega arith; is = record { byte = getD s 0 0; made = first-byte s h; is = t } };
+  comma = λ e. record { some = omega arith; is = mark 44 e };
+  colon = λ e. record { some = omega arith; is = mark 58 e };
+  semicolon = λ e. record { some = omega arith; is = mark 59 e };
+  angled = λ start size o close. angled-made rules s start size o close;
+  alternative = λ a n inner start size allowed o e. alternative-made rules s a n o inner start size e allowed;
+  address = λ some. record { some = some; is = address-made s some };
+  phrase = λ some. record { some = some; is = phrase-made s some };
+})
+  where
+    mark : (b : ℕ) → getD s 0 0 ≡ b → take 1 s ≡ b ∷ []
+    mark b e = first-byte s h ∙ rw e
 
 -- ---- the parts of a text
 
-from-made : (k : ℕ) (s : List ℕ) → EachIsPart (partsFrom k s)
+from-made : (rules : Rules) (k : ℕ) (s : List ℕ) → EachIsPart rules (partsFrom rules k s)
 unfolding partsFrom
-from-made k [] = tt
-from-made (suc k) (b ∷ s) = from-made k s
-from-made zero (b ∷ s) = (part-made (b ∷ s) (omega arith) .is, from-made (pred (partAt (b ∷ s) .size)) s)
+from-made rules k [] = tt
+from-made rules (suc k) (b ∷ s) = from-made rules k s
+from-made rules zero (b ∷ s) = (part-made rules (b ∷ s) (omega arith) .is, from-made rules (pred (partAt rules (b ∷ s) .size)) s)
 
 -- each part of a text is what its kind says
-pub parts-made : (text : List ℕ) → EachIsPart (partsOf text)
+pub parts-made : (rules : Rules) (text : List ℕ) → EachIsPart rules (partsOf rules text)
 unfolding partsOf
-parts-made text = from-made 0 text
+parts-made rules text = from-made rules 0 text
 
-from-joined : (k : ℕ) (s : List ℕ) → joinedParts (partsFrom k s) ≡ drop k s
+from-joined : (rules : Rules) (k : ℕ) (s : List ℕ) → joinedParts (partsFrom rules k s) ≡ drop k s
 unfolding partsFrom
-from-joined zero [] = refl
-from-joined (suc k) [] = refl
-from-joined (suc k) (b ∷ s) = from-joined k s
-from-joined zero (b ∷ s) = go (partAt (b ∷ s) .size) (part-made (b ∷ s) (omega arith) .some) (from-joined (pred (partAt (b ∷ s) .size)) s)
+from-joined rules zero [] = refl
+from-joined rules (suc k) [] = refl
+from-joined rules (suc k) (b ∷ s) = from-joined rules k s
+from-joined rules zero (b ∷ s) =
+    let n = partAt rules (b ∷ s) .size in
+    go n (part-made rules (b ∷ s) (omega arith) .some) (from-joined rules (pred n) s)
   where
-    go : (n : ℕ) → 0 < n → joinedParts (partsFrom (pred n) s) ≡ drop (pred n) s → take n (b ∷ s) ++ joinedParts (partsFrom (pred n) s) ≡ b ∷ s
+    go : (n : ℕ) → 0 < n → joinedParts (partsFrom rules (pred n) s) ≡ drop (pred n) s → take n (b ∷ s) ++ joinedParts (partsFrom rules (pred n) s) ≡ b ∷ s
     go zero p e = absurd (not-suc-le-zero p)
     go (suc n) p e = rw e (take-append-drop (suc n) (b ∷ s))
 
 -- joined, the parts are the text
-pub parts-joined : (text : List ℕ) → joinedParts (partsOf text) ≡ text
+pub parts-joined : (rules : Rules) (text : List ℕ) → joinedParts (partsOf rules text) ≡ text
 unfolding partsOf
-parts-joined text = from-joined 0 text
+parts-joined rules text = from-joined rules 0 text

@@ -1,7 +1,6 @@
-pub mod Words
-pub mod WordsLaws
 pub mod Parts
 pub mod PartsLaws
+pub mod PartCasesLaws
 pub mod Grammar
 pub mod Table
 pub mod TableLaws

@@ -1,20 +1,23 @@
 -- The parts of an address field's text. Every byte of the text is in one part. Assumes nothing.
+use mathlib.Core.Path.{_≡_}
 use mathlib.Core.Bool.{Bool, true, false, cond, not, _&&_, _||_}
 use mathlib.Core.List.{List, [], _∷_}
-use Prim.Native.Nat.{ℕ, zero, suc, pred, _+_, _-_}
+use Prim.Native.Nat.{ℕ, zero, suc, pred, _+_, _-_, _≤_, _<_}
 use lib.Dec.{ltb, eqb}
-use lib.ListN.{take, drop, getD}
-use Rattle.utf8.specs.Byte.{isAscii}
-use Rattle.utf8.specs.Lists.{all}
-use Rattle.utf8.specs.Run.{run}
-use Rattle.header.specs.Lines.{blank}
-use Rattle.address_list.specs.Words.{addressLen, phraseLen}
-use Rattle.address_list.specs.declared.Kind.{Kind}
-use Rattle.address_list.specs.declared.Kind.the-variants.{Blank, Comma, Colon, Semicolon, Phrase, Address, Angled, Alternative, Stray}
+use lib.ListN.{length, take, drop, getD}
+use Rattle.lists.specs.Byte.{isAscii}
+use Rattle.lists.specs.Lists.{all}
+use Rattle.lists.specs.Run.{run}
+use Rattle.line.specs.Line.{blank}
+use Rattle.rules.specs.Rules.{allowsAlternative}
+use Rattle.rules.specs.declared.Rules.{Rules}
+use Rattle.phrase.specs.Words.{addressLen, phraseLen}
+use Rattle.address_list.specs.declared.PartKind.{PartKind}
+use Rattle.address_list.specs.declared.PartKind.the-variants.{Blank, Comma, Colon, Semicolon, Phrase, Address, Angled, Alternative, Stray}
 use Rattle.address_list.specs.declared.Front.{Front}
 
 -- the part at the front, with its length
-abbrev pub front : Kind → ℕ → Front
+abbrev pub front : PartKind → ℕ → Front
 front kind size = record { kind = kind; size = size }
 
 -- a byte that no part begins with
@@ -34,13 +37,13 @@ alternativeAt s a b =
     (front (Alternative start size) (end + 2))
     stray
 
--- "`<address>`, or with an alternative". "runs of spaces and TABs allowed around .. `<`", and none before `>`
-unfoldable pub angledAt : List ℕ → Front
-angledAt s =
+-- "`<address>`, or with an alternative", where the rules allow it. "runs of spaces and TABs allowed around .. `<`", and none before `>`
+unfoldable pub angledAt : Rules → List ℕ → Front
+angledAt rules s =
     let start = 1 + run blank (drop 1 s) in
     let size = addressLen (drop start s) in
     let end = start + size in
-    cond (eqb size 0) stray (cond (eqb (getD s end 0) 62) (front (Angled start size) (end + 1)) (alternativeAt s start end))
+    cond (eqb size 0) stray (cond (eqb (getD s end 0) 62) (front (Angled start size) (end + 1)) (cond (allowsAlternative rules) (alternativeAt s start end) stray))
 
 -- a bare address, or else a phrase
 unfoldable pub namedAt : List ℕ → Front
@@ -50,43 +53,62 @@ namedAt s =
     cond (ltb 0 address) (front Address address) (cond (ltb 0 phrase) (front Phrase phrase) stray)
 
 -- the part at the front: `,` is 44, `:` is 58, `;` is 59
-unfoldable pub partAt : List ℕ → Front
-partAt s =
+unfoldable pub partAt : Rules → List ℕ → Front
+partAt rules s =
     let first = getD s 0 0 in
     cond (blank first) (front Blank 1)
     (cond (eqb first 44) (front Comma 1)
     (cond (eqb first 58) (front Colon 1)
     (cond (eqb first 59) (front Semicolon 1)
-    (cond (eqb first 60) (angledAt s) (namedAt s)))))
+    (cond (eqb first 60) (angledAt rules s) (namedAt s)))))
+
+-- ---- what is told of a part that is found
+
+-- where the address that a part names ends in it
+abbrev pub innerEnd : PartKind → ℕ
+innerEnd Blank = 0
+innerEnd Comma = 0
+innerEnd Colon = 0
+innerEnd Semicolon = 0
+innerEnd Phrase = 0
+innerEnd Address = 0
+innerEnd (Angled start size) = start + size
+innerEnd (Alternative start size) = start + size
+innerEnd Stray = 0
+
+-- The answer r is the part d at the front of t: at least one byte, within t, and the address in it within the part.
+pub record Took (d : Front) (t : List ℕ) (r : Front) : Type 0 where
+  pub is : r ≡ d
+  pub some : 0 < r .size
+  pub within : r .size ≤ length t
+  pub inner : innerEnd (r .kind) ≤ r .size
+
+-- The answer r is the part at a place of a text: at least one byte, within the text where the place is, and the address in it within
+-- the part. Past the end of the text there is a stray byte.
+pub record TookFrom (rules : Rules) (s : List ℕ) (at : ℕ) (r : Front) : Type 0 where
+  pub is : r ≡ partAt rules (drop at s)
+  pub some : 0 < r .size
+  pub within : at < length s → at + r .size ≤ length s
+  pub inner : innerEnd (r .kind) ≤ r .size
+
+-- ---- the parts of a text
 
 -- a part with its bytes
 pub record Part : Type 0 where
-  pub kind : Kind
+  pub kind : PartKind
   pub text : List ℕ
 
 -- the parts of what is left of a text, after k bytes of the part before
-unfoldable pub partsFrom : ℕ → List ℕ → List Part
-partsFrom k [] = []
-partsFrom (suc k) (b ∷ s) = partsFrom k s
-partsFrom zero (b ∷ s) = let f = partAt (b ∷ s) in record { kind = f .kind; text = take (f .size) (b ∷ s) } ∷ partsFrom (pred (f .size)) s
+unfoldable pub partsFrom : Rules → ℕ → List ℕ → List Part
+partsFrom rules k [] = []
+partsFrom rules (suc k) (b ∷ s) = partsFrom rules k s
+partsFrom rules zero (b ∷ s) = let f = partAt rules (b ∷ s) in record { kind = f .kind; text = take (f .size) (b ∷ s) } ∷ partsFrom rules (pred (f .size)) s
 
-unfoldable pub partsOf : List ℕ → List Part
-partsOf text = partsFrom 0 text
-
--- the address that is named in a part's bytes: a bare one, the one in `< >`, or the alternative
-unfoldable pub addressIn : Kind → List ℕ → List ℕ
-addressIn Blank t = []
-addressIn Comma t = []
-addressIn Colon t = []
-addressIn Semicolon t = []
-addressIn Phrase t = []
-addressIn Address t = t
-addressIn (Angled start size) t = take size (drop start t)
-addressIn (Alternative start size) t = take size (drop start t)
-addressIn Stray t = []
+unfoldable pub partsOf : Rules → List ℕ → List Part
+partsOf rules text = partsFrom rules 0 text
 
 -- "If any address was replaced or removed": an alternative replaces an address, and one that is not ASCII without it is removed
-unfoldable pub changes : Kind → List ℕ → Bool
+unfoldable pub changes : PartKind → List ℕ → Bool
 changes Blank t = false
 changes Comma t = false
 changes Colon t = false

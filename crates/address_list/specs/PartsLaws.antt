@@ -1,7 +1,7 @@
 -- Laws of the parts of a text, as code finds them by position. Assumes nothing.
 use Rattle.line.specs.LineLaws.{part-rest}
-use mathlib.Core.Path.{_≡_, refl, ap, sym, _∙_}
-use mathlib.Core.Bool.{Bool, true, false, cond, _&&_, not, and-false}
+use mathlib.Core.Path.{_≡_, refl, ap, _∙_}
+use mathlib.Core.Bool.{true, false, cond, _&&_, not, and-false}
 use mathlib.Core.List.{List, [], _∷_}
 use Prim.Native.Nat.{ℕ, zero, suc, pred, _+_, _-_, _≤_, _<_, zero-le}
 use native.Mathlib.Nat.{not-suc-le-zero}
@@ -10,58 +10,34 @@ use lib.Dec.{ltb, eqb}
 use borrow.Author.Tests.{lt-ltb, le-ltb, eq-eqb, ne-eqb}
 use lib.ListN.{length, take, drop, getD, drop-of-length-le, length-drop}
 use lib.Seq.{drop-drop}
-use Rattle.utf8.specs.Byte.{isAscii}
-use Rattle.utf8.specs.Lists.{all}
-use Rattle.utf8.specs.Run.{run}
-use Rattle.header.specs.Lines.{blank}
+use Rattle.lists.specs.Byte.{isAscii}
+use Rattle.lists.specs.Lists.{all}
+use Rattle.lists.specs.Run.{run}
+use Rattle.line.specs.Line.{blank}
 use Rattle.address.specs.Address.{addressScan, scanThen, localScan, dotAtomScan, dotAtomFrom}
-use Rattle.address_list.specs.Words.{capped, addressLen, wordLen, phraseLen}
-use Rattle.address_list.specs.Parts.{front, stray, alternativeAt, angledAt, namedAt, partAt, Part, partsFrom, changes}
-use Rattle.address_list.specs.declared.Kind.{Kind}
-use Rattle.address_list.specs.declared.Kind.the-variants.{Blank, Comma, Colon, Semicolon, Phrase, Address, Angled, Alternative, Stray}
+use Rattle.phrase.specs.Words.{capped, addressLen, wordLen, phraseLen}
+use Rattle.rules.specs.Rules.{allowsAlternative}
+use Rattle.rules.specs.declared.Rules.{Rules}
+use Rattle.address_list.specs.Parts.{front, stray, alternativeAt, angledAt, namedAt, partAt, innerEnd, Took, TookFrom, Part, partsFrom, changes}
+use Rattle.address_list.specs.declared.PartKind.{PartKind}
+use Rattle.address_list.specs.declared.PartKind.the-variants.{Blank, Comma, Colon, Semicolon, Phrase, Address, Angled, Alternative}
 use Rattle.address_list.specs.declared.Front.{Front}
 
--- where the address that a part names ends in it
-abbrev pub innerEnd : Kind → ℕ
-innerEnd Blank = 0
-innerEnd Comma = 0
-innerEnd Colon = 0
-innerEnd Semicolon = 0
-innerEnd Phrase = 0
-innerEnd Address = 0
-innerEnd (Angled start size) = start + size
-innerEnd (Alternative start size) = start + size
-innerEnd Stray = 0
-
--- The answer r is the part d at the front of t: at least one byte, within t, and so is the address in it.
-pub record Took (d : Front) (t : List ℕ) (r : Front) : Type 0 where
-  pub is : r ≡ d
-  pub some : 0 < r .size
-  pub within : r .size ≤ length t
-  pub inner : innerEnd (r .kind) ≤ r .size
-
--- The same at a place of a text; past its end there is a stray byte.
-pub record TookFrom (s : List ℕ) (at : ℕ) (r : Front) : Type 0 where
-  pub is : r ≡ partAt (drop at s)
-  pub some : 0 < r .size
-  pub within : at < length s → at + r .size ≤ length s
-  pub inner : innerEnd (r .kind) ≤ r .size
-
-pub took-from : {s : List ℕ} {at : ℕ} {r : Front} → at < length s → Took (partAt (take (length s - at) (drop at s))) (take (length s - at) (drop at s)) r → TookFrom s at r
-took-from {s} {at} {r} h w =
-    let t : Took (partAt (drop at s)) (drop at s) r = rw (part-rest s at) at w in
+pub took-from : {rules : Rules} {s : List ℕ} {at : ℕ} {r : Front} → at < length s → Took (partAt rules (take (length s - at) (drop at s))) (take (length s - at) (drop at s)) r → TookFrom rules s at r
+took-from {rules} {s} {at} {r} h w =
+    let t : Took (partAt rules (drop at s)) (drop at s) r = rw (part-rest s at) at w in
     record { is = t .is; some = t .some; within = λ k. omega (arith, t .within, length-drop at s); inner = t .inner }
 
-pub took-past : {s : List ℕ} {at : ℕ} {r : Front} → length s ≤ at → r ≡ stray → TookFrom s at r
+pub took-past : {rules : Rules} {s : List ℕ} {at : ℕ} {r : Front} → length s ≤ at → r ≡ stray → TookFrom rules s at r
 unfolding partAt namedAt blank addressLen capped addressScan scanThen localScan dotAtomScan dotAtomFrom phraseLen wordLen run
-took-past {s} {at} {r} h q = record {
+took-past {rules} {s} {at} {r} h q = record {
   is = q ∙ rw (drop-of-length-le s {i = at} h) past-end;
   some = rw q (omega arith);
   within = λ k. absurd (not-suc-le-zero {n = 0} (omega arith));
   inner = rw q zero-le;
 }
   where
-    past-end : stray ≡ partAt []
+    past-end : stray ≡ partAt rules []
     past-end = refl
 
 -- ---- an alternative, by the tests of code
@@ -106,18 +82,23 @@ module _ (s : List ℕ) (a b inner : ℕ) (qi : inner ≡ b + run blank (drop b 
 
 -- ---- `<address>`
 
-module _ (s : List ℕ) (start size : ℕ) (qs : start ≡ 1 + run blank (drop 1 s)) (qz : size ≡ addressLen (drop start s)) where
-  pub angled-none : size ≡ 0 → stray ≡ angledAt s
+module _ (rules : Rules) (s : List ℕ) (start size : ℕ) (qs : start ≡ 1 + run blank (drop 1 s)) (qz : size ≡ addressLen (drop start s)) where
+  pub angled-none : size ≡ 0 → stray ≡ angledAt rules s
   unfolding angledAt
   angled-none z = rw (← qs, ← qz, z)
 
-  pub angled-there : (size ≡ 0 → ⊥) → getD s (start + size) 0 ≡ 62 → front (Angled start size) (start + size + 1) ≡ angledAt s
+  pub angled-there : (size ≡ 0 → ⊥) → getD s (start + size) 0 ≡ 62 → front (Angled start size) (start + size + 1) ≡ angledAt rules s
   unfolding angledAt
   angled-there p h = rw (← qs, ← qz, ne-eqb _ _ p, eq-eqb _ _ h)
 
-  pub angled-more : (size ≡ 0 → ⊥) → (getD s (start + size) 0 ≡ 62 → ⊥) → alternativeAt s start (start + size) ≡ angledAt s
-  unfolding angledAt
-  angled-more p h = rw (← qs, ← qz, ne-eqb _ _ p, ne-eqb _ _ h)
+  module _ (p : size ≡ 0 → ⊥) (h : getD s (start + size) 0 ≡ 62 → ⊥) where
+    pub angled-more : allowsAlternative rules ≡ true → alternativeAt s start (start + size) ≡ angledAt rules s
+    unfolding angledAt
+    angled-more a = rw (← qs, ← qz, ne-eqb _ _ p, ne-eqb _ _ h, a)
+
+    pub angled-refused : allowsAlternative rules ≡ false → stray ≡ angledAt rules s
+    unfolding angledAt
+    angled-refused a = rw (← qs, ← qz, ne-eqb _ _ p, ne-eqb _ _ h, a)
 
 -- ---- a bare address, or a phrase
 
@@ -143,35 +124,35 @@ took-stray q e h = record { is = q ∙ e; some = rw q (omega arith); within = rw
 pub took-as : {d e : Front} {t : List ℕ} {r : Front} → Took d t r → d ≡ e → Took e t r
 took-as w q = record { is = w .is ∙ q; some = w .some; within = w .within; inner = w .inner }
 
-pub took-mark : {d : Front} {t : List ℕ} {r : Front} (k : Kind) → innerEnd k ≡ 0 → r ≡ front k 1 → front k 1 ≡ d → 0 < length t → Took d t r
+pub took-mark : {d : Front} {t : List ℕ} {r : Front} (k : PartKind) → innerEnd k ≡ 0 → r ≡ front k 1 → front k 1 ≡ d → 0 < length t → Took d t r
 took-mark k z q e h = record { is = q ∙ e; some = rw q (omega arith); within = rw q h; inner = rw (q, z) zero-le }
 
-module _ (t : List ℕ) where
-  pub part-blank : blank (getD t 0 0) ≡ true → front Blank 1 ≡ partAt t
+module _ (rules : Rules) (t : List ℕ) where
+  pub part-blank : blank (getD t 0 0) ≡ true → front Blank 1 ≡ partAt rules t
   unfolding partAt
   part-blank h = rw h
 
   module _ (n0 : blank (getD t 0 0) ≡ false) where
-    pub part-comma : getD t 0 0 ≡ 44 → front Comma 1 ≡ partAt t
+    pub part-comma : getD t 0 0 ≡ 44 → front Comma 1 ≡ partAt rules t
     unfolding partAt
     part-comma h = rw (n0, eq-eqb _ _ h)
 
     module _ (n1 : getD t 0 0 ≡ 44 → ⊥) where
-      pub part-colon : getD t 0 0 ≡ 58 → front Colon 1 ≡ partAt t
+      pub part-colon : getD t 0 0 ≡ 58 → front Colon 1 ≡ partAt rules t
       unfolding partAt
       part-colon h = rw (n0, ne-eqb _ _ n1, eq-eqb _ _ h)
 
       module _ (n2 : getD t 0 0 ≡ 58 → ⊥) where
-        pub part-semicolon : getD t 0 0 ≡ 59 → front Semicolon 1 ≡ partAt t
+        pub part-semicolon : getD t 0 0 ≡ 59 → front Semicolon 1 ≡ partAt rules t
         unfolding partAt
         part-semicolon h = rw (n0, ne-eqb _ _ n1, ne-eqb _ _ n2, eq-eqb _ _ h)
 
         module _ (n3 : getD t 0 0 ≡ 59 → ⊥) where
-          pub part-angled : getD t 0 0 ≡ 60 → angledAt t ≡ partAt t
+          pub part-angled : getD t 0 0 ≡ 60 → angledAt rules t ≡ partAt rules t
           unfolding partAt
           part-angled h = rw (n0, ne-eqb _ _ n1, ne-eqb _ _ n2, ne-eqb _ _ n3, eq-eqb _ _ h)
 
-          pub part-named : (getD t 0 0 ≡ 60 → ⊥) → namedAt t ≡ partAt t
+          pub part-named : (getD t 0 0 ≡ 60 → ⊥) → namedAt t ≡ partAt rules t
           unfolding partAt
           part-named h = rw (n0, ne-eqb _ _ n1, ne-eqb _ _ n2, ne-eqb _ _ n3, ne-eqb _ _ h)
 
@@ -181,26 +162,26 @@ module _ (t : List ℕ) where
 abbrev pub partIn : Front → List ℕ → Part
 partIn f s = record { kind = f .kind; text = take (f .size) s }
 
-pub parts-skip : (k : ℕ) (s : List ℕ) → partsFrom k s ≡ partsFrom 0 (drop k s)
+pub parts-skip : (rules : Rules) (k : ℕ) (s : List ℕ) → partsFrom rules k s ≡ partsFrom rules 0 (drop k s)
 unfolding partsFrom
-parts-skip zero s = refl
-parts-skip (suc k) [] = refl
-parts-skip (suc k) (b ∷ s) = parts-skip k s
+parts-skip rules zero s = refl
+parts-skip rules (suc k) [] = refl
+parts-skip rules (suc k) (b ∷ s) = parts-skip rules k s
 
-pub parts-front : (f : Front) (s : List ℕ) → f ≡ partAt s → 0 < f .size → 0 < length s → partsFrom 0 s ≡ partIn f s ∷ partsFrom 0 (drop (f .size) s)
+pub parts-front : (rules : Rules) (f : Front) (s : List ℕ) → f ≡ partAt rules s → 0 < f .size → 0 < length s → partsFrom rules 0 s ≡ partIn f s ∷ partsFrom rules 0 (drop (f .size) s)
 unfolding partsFrom
-parts-front f [] e p h = absurd (not-suc-le-zero {n = 0} (omega arith))
-parts-front f (b ∷ s) e p h =
+parts-front rules f [] e p h = absurd (not-suc-le-zero {n = 0} (omega arith))
+parts-front rules f (b ∷ s) e p h =
     let k : suc (pred (f .size)) ≡ f .size = omega arith in
-    rw (← e, parts-skip (pred (f .size)) s) (ap (λ (n : ℕ). partIn f (b ∷ s) ∷ partsFrom 0 (drop n (b ∷ s))) k)
+    rw (← e, parts-skip rules (pred (f .size)) s) (ap (λ (n : ℕ). partIn f (b ∷ s) ∷ partsFrom rules 0 (drop n (b ∷ s))) k)
 
 -- a turn of a walk over the parts
-pub parts-step : (s : List ℕ) (i : ℕ) (f : Front) → i < length s → TookFrom s i f → partsFrom 0 (drop i s) ≡ partIn f (drop i s) ∷ partsFrom 0 (drop (i + f .size) s)
-parts-step s i f h w = parts-front f (drop i s) (w .is) (w .some) (rw length-drop (omega arith)) ∙ rw drop-drop
+pub parts-step : (rules : Rules) (s : List ℕ) (i : ℕ) (f : Front) → i < length s → TookFrom rules s i f → partsFrom rules 0 (drop i s) ≡ partIn f (drop i s) ∷ partsFrom rules 0 (drop (i + f .size) s)
+parts-step rules s i f h w = parts-front rules f (drop i s) (w .is) (w .some) (rw length-drop (omega arith)) ∙ rw drop-drop
 
-pub parts-end : (s : List ℕ) (i : ℕ) → length s ≤ i → partsFrom 0 (drop i s) ≡ []
+pub parts-end : (rules : Rules) (s : List ℕ) (i : ℕ) → length s ≤ i → partsFrom rules 0 (drop i s) ≡ []
 unfolding partsFrom
-parts-end s i h = rw (drop-of-length-le s {i = i} h)
+parts-end rules s i h = rw (drop-of-length-le s {i = i} h)
 
 -- ---- the address in a part
 

@@ -3,16 +3,17 @@
 use mathlib.Core.Bool.{Bool, true, false, cond, _||_}
 use mathlib.Core.List.{List, [], _∷_}
 use Prim.Native.Nat.{ℕ}
+use Rattle.rules.specs.declared.Rules.{Rules}
 use Rattle.address_list.specs.Parts.{Part, partsOf, anyChanges}
-use Rattle.address_list.specs.declared.Kind.{Kind}
-use Rattle.address_list.specs.declared.Kind.the-variants.{Blank, Comma, Colon, Semicolon, Phrase, Address, Angled, Alternative, Stray}
-use Rattle.address_list.specs.declared.Place.{Place}
-use Rattle.address_list.specs.declared.Place.the-variants.{ItemDue, ItemNamed, ItemDone, GroupOpen, MemberDue, MemberNamed, MemberDone, Unfit}
+use Rattle.address_list.specs.declared.PartKind.{PartKind}
+use Rattle.address_list.specs.declared.PartKind.the-variants.{Blank, Comma, Colon, Semicolon, Phrase, Address, Angled, Alternative, Stray}
+use Rattle.address_list.specs.declared.State.{State}
+use Rattle.address_list.specs.declared.State.the-variants.{ItemDue, ItemNamed, ItemDone, GroupOpen, MemberDue, MemberNamed, MemberDone, Unfit}
 use Rattle.address_list.specs.declared.Examined.{Examined}
 use Rattle.address_list.specs.declared.Examined.the-variants.{DoesNotFit, Kept, Changed}
 
 -- a row of the table: where a phrase, a bare address, `< >`, a comma, a colon and a semicolon lead from `here`; a blank stays
-abbrev pub lead : Kind → Place → Place → Place → Place → Place → Place → Place → Place
+abbrev pub lead : PartKind → State → State → State → State → State → State → State → State
 lead Blank here phrase address angled comma colon semicolon = here
 lead Phrase here phrase address angled comma colon semicolon = phrase
 lead Address here phrase address angled comma colon semicolon = address
@@ -24,7 +25,7 @@ lead Semicolon here phrase address angled comma colon semicolon = semicolon
 lead Stray here phrase address angled comma colon semicolon = Unfit
 
 -- here                phrase       address     < >         ,          :          ;
-unfoldable pub after : Place → Kind → Place
+unfoldable pub after : State → PartKind → State
 after ItemDue k = lead k ItemDue ItemNamed ItemDone ItemDone Unfit Unfit Unfit
 after ItemNamed k = lead k ItemNamed Unfit Unfit ItemDone Unfit GroupOpen Unfit
 after ItemDone k = lead k ItemDone Unfit Unfit Unfit ItemDue Unfit Unfit
@@ -35,7 +36,7 @@ after MemberDone k = lead k MemberDone Unfit Unfit Unfit MemberDue Unfit ItemDon
 after Unfit k = Unfit
 
 -- a text may end here
-abbrev pub isDone : Place → Bool
+abbrev pub isDone : State → Bool
 isDone ItemDue = false
 isDone ItemNamed = false
 isDone ItemDone = true
@@ -46,7 +47,7 @@ isDone MemberDone = false
 isDone Unfit = false
 
 -- nothing leads from here to where a text may end
-abbrev pub isUnfit : Place → Bool
+abbrev pub isUnfit : State → Bool
 isUnfit ItemDue = false
 isUnfit ItemNamed = false
 isUnfit ItemDone = false
@@ -56,19 +57,19 @@ isUnfit MemberNamed = false
 isUnfit MemberDone = false
 isUnfit Unfit = true
 
--- from a place on, the parts lead to where a text may end
-unfoldable pub complete : Place → List Part → Bool
-complete place [] = isDone place
-complete place (p ∷ ps) = complete (after place (p .kind)) ps
+-- from a state on, the parts lead to where a text may end
+unfoldable pub complete : State → List Part → Bool
+complete state [] = isDone state
+complete state (p ∷ ps) = complete (after state (p .kind)) ps
 
 -- the text of an address field fits
-unfoldable pub fits : List ℕ → Bool
-fits text = complete ItemDue (partsOf text)
+unfoldable pub fits : Rules → List ℕ → Bool
+fits rules text = complete ItemDue (partsOf rules text)
 
--- what is told of a text from a place on: whether it fits, and then whether any address is replaced or removed
-unfoldable pub examinedFrom : Place → Bool → List Part → Examined
-examinedFrom place changed ps =
-    cond (complete place ps) (cond (changed || anyChanges ps) Changed Kept) DoesNotFit
+-- what is told of a text from a state on: whether it fits, and then whether any address is replaced or removed
+unfoldable pub examinedFrom : State → Bool → List Part → Examined
+examinedFrom state changed ps =
+    cond (complete state ps) (cond (changed || anyChanges ps) Changed Kept) DoesNotFit
 
-unfoldable pub examined : List ℕ → Examined
-examined text = examinedFrom ItemDue false (partsOf text)
+unfoldable pub examined : Rules → List ℕ → Examined
+examined rules text = examinedFrom ItemDue false (partsOf rules text)

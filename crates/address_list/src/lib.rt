@@ -1,15 +1,12 @@
 // Address fields: the parts of a text, and whether it is a comma list of mailboxes or groups.
 mod list;
 mod part;
-mod word;
 
 pub use list::examine;
 pub use part::part_from;
-pub use word::blanks_end;
-pub use word::word_len;
 
 // A part of an address field's text.
-pub enum Kind {
+pub enum PartKind {
     Blank,
     Comma,
     Colon,
@@ -26,12 +23,12 @@ pub enum Kind {
 
 // The part at the front of a text, with its length.
 pub struct Front {
-    pub kind: Kind,
+    pub kind: PartKind,
     pub size: usize,
 }
 
-// Where a walk over the parts stands.
-pub enum Place {
+// The state of a walk over the parts: what is due, or what stands before.
+pub enum State {
     ItemDue,
     ItemNamed,
     ItemDone,

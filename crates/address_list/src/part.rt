@@ -1,21 +1,21 @@
 // The parts of an address field's text.
 ghost use mathlib.Core.Path.{_≡_};
 ghost use Prim.Native.Nat.{_+_, _≤_, _<_};
-ghost use lib.ListN.{length, drop};
-ghost use Rattle.address_list.specs.Parts.{alternativeAt, angledAt, namedAt, partAt, stray};
-ghost use Rattle.address_list.specs.PartsLaws.{Took, TookFrom};
+ghost use lib.ListN.{length};
+ghost use Rattle.address_list.specs.Parts.{alternativeAt, angledAt, namedAt, partAt, stray, Took, TookFrom};
 use crate::Front;
-use crate::Kind;
-use crate::word::address_len;
-use crate::word::blanks_end;
-use crate::word::phrase_len;
+use crate::PartKind;
+use line::blanks_end;
 use line::byte_at;
+use phrase::address_len;
+use phrase::phrase_len;
+use rules::Rules;
 
 fn stray() -> Front
     ensures { λ r. ⌜ r ≡ stray ⌝ }
 {
     Front {
-        kind: Kind::Stray,
+        kind: PartKind::Stray,
         size: 1,
     }
 }
@@ -29,7 +29,7 @@ fn alternative(t: &[u8], a: usize, b: usize) -> Front
     if inner == b {
         return stray();
     }
-    if address::is_ascii(&t[a..b]) {
+    if utf8::is_ascii(&t[a..b]) {
         return stray();
     }
     if byte_at(t, inner) != b'<' {
@@ -47,19 +47,19 @@ fn alternative(t: &[u8], a: usize, b: usize) -> Front
     if byte_at(t, end + 1) != b'>' {
         return stray();
     }
-    if address::is_ascii(&t[start..end]) {
+    if utf8::is_ascii(&t[start..end]) {
         return Front {
-            kind: Kind::Alternative(start, size),
+            kind: PartKind::Alternative(start, size),
             size: end + 2,
         };
     }
     stray()
 }
 
-// `<address>` at the front, or with an alternative.
-fn angled(t: &[u8]) -> Front
+// `<address>` at the front, or with an alternative where the rules allow it.
+fn angled(t: &[u8], rules: Rules) -> Front
     requires { ⌜ 0 < length (now t) ⌝ }
-    ensures { λ r. ⌜ Took (angledAt (now (t .entry))) (now (t .entry)) r ⌝ }
+    ensures { λ r. ⌜ Took (angledAt rules (now (t .entry))) (now (t .entry)) r ⌝ }
 {
     let start = blanks_end(t, 1);
     let size = address_len(t, start);
@@ -69,9 +69,12 @@ fn angled(t: &[u8]) -> Front
     let end = start + size;
     if byte_at(t, end) == b'>' {
         return Front {
-            kind: Kind::Angled(start, size),
+            kind: PartKind::Angled(start, size),
             size: end + 1,
         };
+    }
+    if !rules::allows_alternative(rules) {
+        return stray();
     }
     alternative(t, start, end)
 }
@@ -84,21 +87,21 @@ fn named(t: &[u8]) -> Front
     let address = address_len(t, 0);
     if address != 0 {
         return Front {
-            kind: Kind::Address,
+            kind: PartKind::Address,
             size: address,
         };
     }
     let phrase = phrase_len(t);
     if phrase != 0 {
         return Front {
-            kind: Kind::Phrase,
+            kind: PartKind::Phrase,
             size: phrase,
         };
     }
     stray()
 }
 
-fn mark(kind: Kind) -> Front
+fn mark(kind: PartKind) -> Front
     ensures { λ r. ⌜ r ≡ record { kind = kind; size = 1 } ⌝ }
 {
     Front {
@@ -108,35 +111,35 @@ fn mark(kind: Kind) -> Front
 }
 
 // The part at the front.
-fn part_at(t: &[u8]) -> Front
+fn part_at(t: &[u8], rules: Rules) -> Front
     requires { ⌜ 0 < length (now t) ⌝ }
-    ensures { λ r. ⌜ Took (partAt (now (t .entry))) (now (t .entry)) r ⌝ }
+    ensures { λ r. ⌜ Took (partAt rules (now (t .entry))) (now (t .entry)) r ⌝ }
 {
     let first = t[0];
-    if header::checking::is_blank(first) {
-        return mark(Kind::Blank);
+    if line::is_blank(first) {
+        return mark(PartKind::Blank);
     }
     if first == b',' {
-        return mark(Kind::Comma);
+        return mark(PartKind::Comma);
     }
     if first == b':' {
-        return mark(Kind::Colon);
+        return mark(PartKind::Colon);
     }
     if first == b';' {
-        return mark(Kind::Semicolon);
+        return mark(PartKind::Semicolon);
     }
     if first == b'<' {
-        return angled(t);
+        return angled(t, rules);
     }
     named(t)
 }
 
 // The part at a place of a text; past its end a stray byte.
-pub fn part_from(s: &[u8], at: usize) -> Front
-    ensures { λ r. ⌜ TookFrom (now (s .entry)) at r ⌝ }
+pub fn part_from(s: &[u8], at: usize, rules: Rules) -> Front
+    ensures { λ r. ⌜ TookFrom rules (now (s .entry)) at r ⌝ }
 {
     if s.len() <= at {
         return stray();
     }
-    part_at(&s[at..])
+    part_at(&s[at..], rules)
 }

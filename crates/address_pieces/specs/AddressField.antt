@@ -1,10 +1,12 @@
 -- What an address field becomes. Assumes nothing.
-use mathlib.Core.Bool.{Bool, true}
+use mathlib.Core.Bool.{true, cond, _&&_}
 use mathlib.Core.List.{List, [], _∷_, _++_}
-use Prim.Native.Nat.{ℕ}
+use Prim.Native.Nat.{ℕ, _*_}
+use lib.Dec.{leb}
+use lib.ListN.{length}
+use Rattle.rules.specs.declared.Rules.{Rules}
 use Rattle.encoded_word.specs.Segments.{Segment}
 use Rattle.encoded_word.specs.Segments.Segment.{raw}
-use Rattle.header.specs.Fields.{nameOf, textOf}
 use Rattle.field.specs.Field.{encodedField}
 use Rattle.address_list.specs.Parts.{partsOf}
 use Rattle.address_list.specs.Table.{examined}
@@ -13,16 +15,20 @@ use Rattle.address_list.specs.declared.Examined.the-variants.{DoesNotFit, Kept,
 use Rattle.address_pieces.specs.Pieces.{piecesOf}
 
 -- the name as it came, colon (58), the rewritten value, CRLF
-unfoldable pub rewrittenField : List ℕ → List Segment
-rewrittenField field = raw (nameOf field ++ (58 ∷ [])) ∷ (piecesOf (partsOf (textOf field)) ++ (raw (13 ∷ 10 ∷ []) ∷ []))
+unfoldable pub rewrittenField : Rules → List ℕ → List ℕ → List Segment
+rewrittenField rules name text = raw (name ++ (58 ∷ [])) ∷ (piecesOf rules (partsOf rules text) ++ (raw (13 ∷ 10 ∷ []) ∷ []))
 
 -- "Text that does not fit is encapsulated." "If any address was replaced or removed, a `Downgraded-` field with encoded words of the
 -- original text follows the rewritten field."
-unfoldable pub fieldBy : Examined → List ℕ → List Segment
-fieldBy DoesNotFit field = encodedField true field
-fieldBy Kept field = rewrittenField field
-fieldBy Changed field = rewrittenField field ++ encodedField true field
+unfoldable pub fieldBy : Examined → Rules → List ℕ → List ℕ → List Segment
+fieldBy DoesNotFit rules name text = encodedField true name text
+fieldBy Kept rules name text = rewrittenField rules name text
+fieldBy Changed rules name text = rewrittenField rules name text ++ encodedField true name text
 
--- the segments of an address field whose value is not ASCII
-unfoldable pub addressField : List ℕ → List Segment
-addressField field = fieldBy (examined (textOf field)) field
+-- the segments of an address field whose value is not ASCII, by its name and text
+unfoldable pub addressField : Rules → List ℕ → List ℕ → List Segment
+addressField rules name text = fieldBy (examined rules text) rules name text
+
+-- a text that a scratch with so much room cannot serve counts as empty: one of more than 32,768 bytes, or of more than half the room
+unfoldable pub fitting : ℕ → List ℕ → List ℕ
+fitting room text = cond (leb (length text) 32768 && leb (2 * length text) room) text []

@@ -1,41 +1,44 @@
 -- How long a rewritten address field can be. Assumes nothing.
-use Rattle.address.specs.AddressLaws.{byte-within}
-use mathlib.Core.Path.{_≡_, refl, ap, sym, _∙_}
-use mathlib.Core.Bool.{Bool, true, false, cond, not, _&&_}
-use mathlib.Core.List.{List, [], _∷_, _++_, map}
+use mathlib.Core.Path.{ap}
+use mathlib.Core.Bool.{Bool, true, false, cond}
+use mathlib.Core.List.{List, [], _∷_, map}
 use Prim.Native.Nat.{ℕ, zero, suc, pred, _+_, _-_, _*_, _≤_, _<_, zero-le}
 use native.Mathlib.Omega.{arith}
 use native.Mathlib.Nat.{not-suc-le-zero}
-use lib.Dec.{leb, ltb, eqb, eqb→eq}
-use mir.Facts.{ltb-yes, eqb-no}
-use lib.ListN.{length, take, drop, getD, length-drop, length-take, length-append}
-use Rattle.utf8.specs.Byte.{isAscii}
-use Rattle.utf8.specs.Lists.{all, cond-has}
-use Rattle.utf8.specs.Run.{run}
-use Rattle.header.specs.Lines.{blank}
-use Rattle.header.specs.Fields.{nameOf, textOf}
+use lib.Dec.{leb}
+use lib.ListN.{length, take, drop, length-drop, length-take, length-append}
+use Rattle.lists.specs.Byte.{isAscii}
+use Rattle.lists.specs.Lists.{all}
+use Rattle.lists.specs.ListsLaws.{cond-has}
+use Rattle.lists.specs.Run.{run}
+use Rattle.line.specs.Line.{blank}
 use Rattle.letter_case.specs.LetterCase.{bytes}
-use Rattle.encoded_word.specs.StreamLaws.{length-row-le}
+use Rattle.rules.specs.Rules.{removalStart, removalEnd}
+use Rattle.rules.specs.declared.Rules.{Rules}
+use Rattle.rules.specs.declared.Rules.the-variants.{Spool, Current, Mailbox}
+use Rattle.row.specs.RowLaws.{length-row-le}
 use Rattle.encoded_word.specs.SegmentsLaws.{rendered-append}
 use Rattle.encoded_word.specs.Segments.{Segment, bytesOf, rendered}
 use Rattle.encoded_word.specs.Segments.Segment.{raw, words}
-use Rattle.header.specs.FieldShape.{Shaped}
-use Rattle.field.specs.FieldLaws.{length-name, length-encoded, length-shaped}
-use Rattle.field.specs.TextLaws.{length-text}
+use Rattle.field.specs.FieldLaws.{length-encoded}
+use Rattle.address.specs.AddressLaws.{byte-within}
 use Rattle.address.specs.declared.Scan.{Scan}
 use Rattle.address.specs.declared.Scan.the-variants.{To, Stop}
 use Rattle.address.specs.Address.{addressScan}
-use Rattle.address.specs.TakenLaws.{Taken, AtLeast, taken-address}
-use Rattle.address_list.specs.Words.{found, capped, addressLen, phraseLen}
-use Rattle.address_list.specs.Parts.{front, stray, alternativeAt, angledAt, namedAt, Part, partAt, partsFrom, partsOf}
+use Rattle.address.specs.TakenLaws.{Taken, taken-address}
+use Rattle.phrase.specs.Words.{found, capped, addressLen, phraseLen}
+use Rattle.phrase.specs.Phrase.{wordSize, wordsFrom, phraseWords, phraseText}
+use Rattle.phrase.specs.PhraseLaws.{word-size-some, length-phrase-text}
+use Rattle.address_list.specs.Parts.{partAt, partsFrom, partsOf}
+use Rattle.address_list.specs.PartCasesLaws.{part-has}
 use Rattle.address_list.specs.declared.Front.{Front}
 use Rattle.address_list.specs.Table.{examined}
 use Rattle.address_list.specs.declared.Examined.{Examined}
 use Rattle.address_list.specs.declared.Examined.the-variants.{DoesNotFit, Kept, Changed}
-use Rattle.address_list.specs.declared.Kind.{Kind}
-use Rattle.address_list.specs.declared.Kind.the-variants.{Blank, Comma, Colon, Semicolon, Phrase, Address, Angled, Alternative, Stray}
-use Rattle.address_pieces.specs.Pieces.{piece, wordSize, wordsFrom, wordsOf, phraseText, phrasePieces, removed, inAngles, addressPieces, pieces, piecesOf}
-use Rattle.address_pieces.specs.PiecesLaws.{rendered-one, word-size-some, length-phrase-text}
+use Rattle.address_list.specs.declared.PartKind.{PartKind}
+use Rattle.address_list.specs.declared.PartKind.the-variants.{Blank, Comma, Colon, Semicolon, Phrase, Address, Angled, Alternative, Stray}
+use Rattle.address_pieces.specs.Pieces.{piece, phrasePieces, removed, inAngles, addressPieces, pieces, piecesOf}
+use Rattle.address_pieces.specs.PiecesLaws.{rendered-one}
 use Rattle.address_pieces.specs.AddressField.{rewrittenField, fieldBy, addressField}
 
 either-le : (b : Bool) (x y : List Segment) (n : ℕ) → length (rendered x) ≤ n → length (rendered y) ≤ n → length (rendered (cond b x y)) ≤ n
@@ -55,31 +58,39 @@ word-pieces-le zero (b ∷ t) =
     rw length-append (omega (arith, word-pieces-le m t, length-drop m t, length-take n (b ∷ t), word-size-some b t))
 
 phrase-le : (t : List ℕ) → length (rendered (phrasePieces t)) ≤ 15 + 10 * length t
-unfolding phrasePieces wordsOf
+unfolding phrasePieces phraseWords
 phrase-le t =
     either-le (all isAscii t) (map piece (wordsFrom 0 t)) (words (phraseText t) ∷ []) (15 + 10 * length t)
     (omega (arith, word-pieces-le 0 t))
     (rw (rendered-one (words (phraseText t))) (omega (arith, length-row-le (phraseText t), length-phrase-text t)))
 
-removed-le : (address : List ℕ) → length (rendered (removed address)) ≤ 55 + 5 * length address
-unfolding rendered removed bytes
-removed-le address = rw (length-append, length-append) (omega (arith, length-row-le address))
+-- the words of a phrase, a piece each
+pub phrase-words-le : (t : List ℕ) → length (rendered (map piece (phraseWords t))) ≤ 4 * length t
+unfolding phraseWords
+phrase-words-le t = word-pieces-le 0 t
+
+pub removed-le : (rules : Rules) (address : List ℕ) → length (rendered (removed rules address)) ≤ 55 + 5 * length address
+unfolding rendered removed removalStart removalEnd bytes
+removed-le Spool address = rw (length-append, length-append) (omega (arith, length-row-le address))
+removed-le Current address = rw (length-append, length-append) (omega (arith, length-row-le address))
+removed-le Mailbox address = rw (length-append, length-append) (omega (arith, length-row-le address))
 
 angles-le : (address : List ℕ) → length (bytesOf (inAngles address)) ≤ 5 + length address
 angles-le address = omega (arith, length-append address (62 ∷ []))
 
-address-le : (asPiece : List ℕ → Segment) (t : List ℕ) → length (bytesOf (asPiece t)) ≤ 5 + length t → length (rendered (addressPieces asPiece t)) ≤ 55 + 5 * length t
+address-le : (rules : Rules) (asPiece : List ℕ → Segment) (t : List ℕ) → length (bytesOf (asPiece t)) ≤ 5 + length t → length (rendered (addressPieces rules asPiece t)) ≤ 55 + 5 * length t
 unfolding addressPieces
-address-le asPiece t h =
-    either-le (all isAscii t) (asPiece t ∷ []) (removed t) (55 + 5 * length t)
+address-le rules asPiece t h =
+    either-le (all isAscii t) (asPiece t ∷ []) (removed rules t) (55 + 5 * length t)
     (rw (rendered-one (asPiece t)) (omega arith))
-    (removed-le t)
+    (removed-le rules t)
 
-part-le : (start size : ℕ) (t : List ℕ) → length (take size (drop start t)) ≤ length t
+-- a part of a text is no longer
+pub part-le : (start size : ℕ) (t : List ℕ) → length (take size (drop start t)) ≤ length t
 part-le start size t = omega (arith, length-take size (drop start t), length-drop start t)
 
 -- how many bytes a part has at least: a bare address 3, one in `< >` 5, any other part 1
-abbrev least : Kind → ℕ
+abbrev least : PartKind → ℕ
 least Blank = 1
 least Comma = 1
 least Colon = 1
@@ -91,21 +102,21 @@ least (Alternative start size) = 1
 least Stray = 1
 
 -- at most 25 bytes are written for each byte of a part
-pieces-le : (kind : Kind) (t : List ℕ) → least kind ≤ length t → length (rendered (pieces kind t)) ≤ 25 * length t
+pieces-le : (rules : Rules) (kind : PartKind) (t : List ℕ) → least kind ≤ length t → length (rendered (pieces rules kind t)) ≤ 25 * length t
 unfolding pieces rendered
-pieces-le Blank t h = zero-le
-pieces-le Comma t h = omega arith
-pieces-le Colon t h = omega arith
-pieces-le Semicolon t h = omega arith
-pieces-le Phrase t h = omega (arith, phrase-le t)
-pieces-le Address t h = omega (arith, address-le piece t (omega arith))
-pieces-le (Angled start size) t h =
+pieces-le rules Blank t h = zero-le
+pieces-le rules Comma t h = omega arith
+pieces-le rules Colon t h = omega arith
+pieces-le rules Semicolon t h = omega arith
+pieces-le rules Phrase t h = omega (arith, phrase-le t)
+pieces-le rules Address t h = omega (arith, address-le rules piece t (omega arith))
+pieces-le rules (Angled start size) t h =
     let a = take size (drop start t) in
-    omega (arith, address-le inAngles a (angles-le a), part-le start size t)
-pieces-le (Alternative start size) t h =
+    omega (arith, address-le rules inAngles a (angles-le a), part-le start size t)
+pieces-le rules (Alternative start size) t h =
     let a = take size (drop start t) in
     one-le (inAngles a) (25 * length t) (omega (arith, angles-le a, part-le start size t))
-pieces-le Stray t h = zero-le
+pieces-le rules Stray t h = zero-le
 
 -- ---- the least lengths
 
@@ -115,9 +126,6 @@ record Enough (s : List ℕ) (f : Front) : Type 0 where
 
 front-length : (n m : ℕ) (s : List ℕ) → m ≤ n → m ≤ length s → m ≤ length (take n s)
 front-length n m s h k = omega (arith, length-take n s)
-
-stray-enough : (s : List ℕ) → 0 < length s → Enough s stray
-stray-enough s h = record { some = omega arith; bytes = front-length 1 1 s (omega arith) h }
 
 -- an address has at least 3 bytes, all of them in the text
 found-least : {s : List ℕ} (r : Scan) → Taken 3 s r → 0 < found r → (3 ≤ found r) × (found r ≤ length s)
@@ -131,92 +139,63 @@ address-least s =
     (λ t h. found-least (addressScan s) (taken-address s) h)
     (λ t h. absurd (not-suc-le-zero h))
 
-named-enough : (s : List ℕ) → 0 < length s → Enough s (namedAt s)
-unfolding namedAt
-named-enough s h =
-    let address : ℕ = addressLen s in
-    let phrase : ℕ = phraseLen s in
-    cond-has (Enough s) (ltb 0 address) (front Address address) (cond (ltb 0 phrase) (front Phrase phrase) stray)
-    (λ t. let a = address-least s (ltb-yes t) in record { some = ltb-yes t; bytes = front-length address 3 s (a .0) (omega (arith, a .0, a .1)) })
-    (λ t.
-    cond-has (Enough s) (ltb 0 phrase) (front Phrase phrase) stray
-    (λ u. record { some = ltb-yes u; bytes = front-length phrase 1 s (ltb-yes u) h })
-    (λ u. stray-enough s h))
-
-alternative-enough : (s : List ℕ) (a b : ℕ) → 0 < length s → Enough s (alternativeAt s a b)
-unfolding alternativeAt
-alternative-enough s a b h =
-    let inner : ℕ = b + run blank (drop b s) in
-    let start : ℕ = inner + 1 + run blank (drop (inner + 1) s) in
-    let size : ℕ = addressLen (drop start s) in
-    let end : ℕ = start + size in
-    cond-has (Enough s)
-    (ltb b inner && not (all isAscii (take (b - a) (drop a s))) && eqb (getD s inner 0) 60 && ltb 0 size && eqb (getD s end 0) 62 && eqb (getD s (end + 1) 0) 62 && all isAscii (take size (drop start s)))
-    (front (Alternative start size) (end + 2)) stray
-    (λ t. record { some = omega arith; bytes = front-length (end + 2) 1 s (omega arith) h })
-    (λ t. stray-enough s h)
-
-angled-enough : (s : List ℕ) → 0 < length s → Enough s (angledAt s)
-unfolding angledAt
-angled-enough s h =
-    let start : ℕ = 1 + run blank (drop 1 s) in
-    let size : ℕ = addressLen (drop start s) in
-    let end : ℕ = start + size in
-    cond-has (Enough s) (eqb size 0) stray (cond (eqb (getD s end 0) 62) (front (Angled start size) (end + 1)) (alternativeAt s start end))
-    (λ t. stray-enough s h)
-    (λ t.
-    cond-has (Enough s) (eqb (getD s end 0) 62) (front (Angled start size) (end + 1)) (alternativeAt s start end)
-    (λ u.
-    let three = address-least (drop start s) (omega (arith, eqb-no {a = size} {b = 0} t)) in
-    let inside : end < length s = byte-within s end 61 (eqb→eq (getD s end 0) 62 u) in
-    record { some = omega arith; bytes = front-length (end + 1) 5 s (omega (arith, three .0)) (omega (arith, three .0)) })
-    (λ u. alternative-enough s start end h))
-
-part-enough : (s : List ℕ) → 0 < length s → Enough s (partAt s)
-unfolding partAt
-part-enough s h =
-    let first : ℕ = getD s 0 0 in
-    let one : 1 ≤ length (take 1 s) = front-length 1 1 s (omega arith) h in
-    cond-has (Enough s) (blank first) (front Blank 1) _ (λ t. record { some = omega arith; bytes = one })
-    (λ n0. cond-has (Enough s) (eqb first 44) (front Comma 1) _ (λ t. record { some = omega arith; bytes = one })
-    (λ n1. cond-has (Enough s) (eqb first 58) (front Colon 1) _ (λ t. record { some = omega arith; bytes = one })
-    (λ n2. cond-has (Enough s) (eqb first 59) (front Semicolon 1) _ (λ t. record { some = omega arith; bytes = one })
-    (λ n3. cond-has (Enough s) (eqb first 60) (angledAt s) (namedAt s) (λ t. angled-enough s h) (λ t. named-enough s h)))))
+part-enough : (rules : Rules) (s : List ℕ) → 0 < length s → Enough s (partAt rules s)
+part-enough rules s h = part-has (Enough s) rules s (record {
+  none = record { some = omega arith; bytes = one };
+  is-blank = λ t. record { some = omega arith; bytes = one };
+  comma = λ e. record { some = omega arith; bytes = one };
+  colon = λ e. record { some = omega arith; bytes = one };
+  semicolon = λ e. record { some = omega arith; bytes = one };
+  angled =
+      λ start size o close.
+      let three : 3 ≤ size = rw (o .size-is) (address-least (drop start s) (rw (o .size-is) at (o .some)) .0) in
+      let inside : start + size < length s = byte-within s (start + size) 61 close in
+      record { some = omega arith; bytes = front-length (start + size + 1) 5 s (omega (arith, o .start-is)) (omega (arith, o .start-is)) };
+  alternative = λ a n inner start size allowed o r. record { some = omega arith; bytes = front-length (start + size + 2) 1 s (omega arith) h };
+  address = λ some. let a = address-least s some in record { some = some; bytes = front-length (addressLen s) 3 s (a .0) (omega (arith, a .0, a .1)) };
+  phrase = λ some. record { some = some; bytes = front-length (phraseLen s) 1 s some h };
+})
+  where
+    one : 1 ≤ length (take 1 s)
+    one = front-length 1 1 s (omega arith) h
 
 -- ---- the value
 
-parts-le : (k : ℕ) (s : List ℕ) → length (rendered (piecesOf (partsFrom k s))) ≤ 25 * length (drop k s)
+parts-le : (rules : Rules) (k : ℕ) (s : List ℕ) → length (rendered (piecesOf rules (partsFrom rules k s))) ≤ 25 * length (drop k s)
 unfolding partsFrom piecesOf rendered
-parts-le k [] = zero-le
-parts-le (suc k) (b ∷ s) = parts-le k s
-parts-le zero (b ∷ s) =
-    let f = partAt (b ∷ s) in
+parts-le rules k [] = zero-le
+parts-le rules (suc k) (b ∷ s) = parts-le rules k s
+parts-le rules zero (b ∷ s) =
+    let f = partAt rules (b ∷ s) in
     let t = take (f .size) (b ∷ s) in
-    let e = part-enough (b ∷ s) (omega arith) in
+    let e = part-enough rules (b ∷ s) (omega arith) in
     rw (rendered-append, length-append)
-    (omega (arith, e .some, pieces-le (f .kind) t (e .bytes), parts-le (pred (f .size)) s, length-drop (pred (f .size)) s, length-take (f .size) (b ∷ s)))
+    (omega (arith, e .some, pieces-le rules (f .kind) t (e .bytes), parts-le rules (pred (f .size)) s, length-drop (pred (f .size)) s, length-take (f .size) (b ∷ s)))
 
-pub value-le : (s : List ℕ) → length (rendered (piecesOf (partsOf s))) ≤ 25 * length s
+value-le : (rules : Rules) (text : List ℕ) → length (rendered (piecesOf rules (partsOf rules text))) ≤ 25 * length text
 unfolding partsOf
-value-le s = parts-le 0 s
+value-le rules text = parts-le rules 0 text
 
-pub rewritten-le : (field : List ℕ) → length (rendered (rewrittenField field)) ≤ 3 + length (nameOf field) + 25 * length (textOf field)
-unfolding rewrittenField rendered
-rewritten-le field =
-    rw (length-append, rendered-append, length-append, length-append)
-    (omega (arith, value-le (textOf field), ap length (rendered-one (raw (13 ∷ 10 ∷ [])))))
+-- ---- the field
 
-by-le : (e : Examined) (field : List ℕ) → length (rendered (fieldBy e field)) ≤ 32 + 2 * length (nameOf field) + 30 * length (textOf field)
-unfolding fieldBy
-by-le DoesNotFit field = omega (arith, length-encoded true field)
-by-le Kept field = omega (arith, rewritten-le field)
-by-le Changed field = rw (rendered-append, length-append) (omega (arith, rewritten-le field, length-encoded true field))
+module _ (rules : Rules) (name text : List ℕ) where
+  rewritten-le : length (rendered (rewrittenField rules name text)) ≤ 3 + length name + 25 * length text
+  unfolding rewrittenField rendered
+  rewritten-le =
+      rw (length-append, rendered-append, length-append, length-append)
+      (omega (arith, value-le rules text, ap length (rendered-one (raw (13 ∷ 10 ∷ [])))))
 
-pub length-address-field : (field : List ℕ) → length (rendered (addressField field)) ≤ 128 * length field + 128
-unfolding addressField
-length-address-field field = omega (arith, by-le (examined (textOf field)) field, length-name field, length-text field)
+  by-le : (e : Examined) → length (rendered (fieldBy e rules name text)) ≤ 32 + 2 * length name + 30 * length text
+  unfolding fieldBy
+  by-le DoesNotFit = omega (arith, length-encoded true name text)
+  by-le Kept = omega (arith, rewritten-le)
+  by-le Changed = rw (rendered-append, length-append) (omega (arith, rewritten-le, length-encoded true name text))
 
--- of a field of a well-formed header
-pub shaped-address-field : {field : List ℕ} → Shaped field → length (rendered (addressField field)) ≤ 30 * length field
-unfolding addressField
-shaped-address-field {field} s = omega (arith, by-le (examined (textOf field)) field, length-shaped s)
+  -- of every name and text
+  pub length-address-field : length (rendered (addressField rules name text)) ≤ 32 + 2 * length name + 30 * length text
+  unfolding addressField
+  length-address-field = by-le (examined rules text)
+
+  -- of a field of n bytes that has the name, a colon, the text and CRLF
+  pub address-field-within : (n : ℕ) → length name + length text + 3 ≤ n → length (rendered (addressField rules name text)) ≤ 30 * n
+  address-field-within n h = omega (arith, length-address-field)

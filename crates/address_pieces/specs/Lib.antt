@@ -4,4 +4,3 @@ pub mod AddressField
 pub mod LengthLaws
 pub mod WritingLaws
 pub mod SoundLaws
-pub mod AddressFieldLaws

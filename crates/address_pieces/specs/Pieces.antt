@@ -1,21 +1,19 @@
 -- The rewritten value of an address field, as segments: "a row of pieces, each written straight after the piece before it as CRLF,
 -- space, piece". Assumes nothing.
-use mathlib.Core.Bool.{Bool, true, false, cond, _&&_, _||_, not}
+use mathlib.Core.Bool.{cond}
 use mathlib.Core.List.{List, [], _∷_, _++_, map}
-use Prim.Native.Nat.{ℕ, zero, suc, pred, _+_}
-use lib.Dec.{eqb}
-use lib.ListN.{length, take, drop}
-use Rattle.utf8.specs.Byte.{isAscii}
-use Rattle.utf8.specs.Lists.{all}
-use Rattle.utf8.specs.Run.{run}
-use Rattle.header.specs.Lines.{blank}
-use Rattle.letter_case.specs.LetterCase.{bytes}
+use Prim.Native.Nat.{ℕ}
+use lib.ListN.{take, drop}
+use Rattle.lists.specs.Byte.{isAscii}
+use Rattle.lists.specs.Lists.{all}
+use Rattle.rules.specs.Rules.{removalStart, removalEnd}
+use Rattle.rules.specs.declared.Rules.{Rules}
 use Rattle.encoded_word.specs.Segments.{Segment}
 use Rattle.encoded_word.specs.Segments.Segment.{raw, words}
-use Rattle.address_list.specs.Words.{wordLen}
+use Rattle.phrase.specs.Phrase.{phraseWords, phraseText}
 use Rattle.address_list.specs.Parts.{Part}
-use Rattle.address_list.specs.declared.Kind.{Kind}
-use Rattle.address_list.specs.declared.Kind.the-variants.{Blank, Comma, Colon, Semicolon, Phrase, Address, Angled, Alternative, Stray}
+use Rattle.address_list.specs.declared.PartKind.{PartKind}
+use Rattle.address_list.specs.declared.PartKind.the-variants.{Blank, Comma, Colon, Semicolon, Phrase, Address, Angled, Alternative, Stray}
 
 -- "CRLF, space, piece"
 abbrev pub piece : List ℕ → Segment
@@ -23,82 +21,40 @@ piece text = raw (13 ∷ 10 ∷ 32 ∷ text)
 
 -- ---- a phrase
 
--- the length of the word at the front; bytes with no word at their front count as one word to the end
-unfoldable pub wordSize : List ℕ → ℕ
-wordSize t = cond (eqb (wordLen t) 0) (length t) (wordLen t)
-
--- the words of what is left of a phrase, after k bytes: a word, the blanks after it, and so on
-unfoldable pub wordsFrom : ℕ → List ℕ → List (List ℕ)
-wordsFrom k [] = []
-wordsFrom (suc k) (b ∷ t) = wordsFrom k t
-wordsFrom zero (b ∷ t) =
-    let word = wordSize (b ∷ t) in
-    take word (b ∷ t) ∷ wordsFrom (pred (word + run blank (drop word (b ∷ t)))) t
-
-unfoldable pub wordsOf : List ℕ → List (List ℕ)
-wordsOf phrase = wordsFrom 0 phrase
-
--- what stays of a byte: a quote (34) or a backslash (92) goes, unless it is escaped
-unfoldable pub kept : Bool → ℕ → List ℕ
-kept escaped b = cond (not escaped && (eqb b 34 || eqb b 92)) [] (b ∷ [])
-
-unfoldable pub escapes : Bool → ℕ → Bool
-escapes escaped b = not escaped && eqb b 92
-
--- a word "without quoting and escapes"; neither quotes nor backslashes stand in a word that is no quoted string
-unfoldable pub unquotedFrom : Bool → List ℕ → List ℕ
-unquotedFrom escaped [] = []
-unquotedFrom escaped (b ∷ word) = kept escaped b ++ unquotedFrom (escapes escaped b) word
-
-unfoldable pub unquoted : List ℕ → List ℕ
-unquoted word = unquotedFrom false word
-
--- each text after a space (32)
-unfoldable pub afterSpaces : List (List ℕ) → List ℕ
-afterSpaces [] = []
-afterSpaces (text ∷ texts) = 32 ∷ (text ++ afterSpaces texts)
-
-unfoldable pub joinedBySpaces : List (List ℕ) → List ℕ
-joinedBySpaces [] = []
-joinedBySpaces (text ∷ texts) = text ++ afterSpaces texts
-
--- "its words without quoting and escapes, joined by single spaces"
-unfoldable pub phraseText : List ℕ → List ℕ
-phraseText phrase = joinedBySpaces (map unquoted (wordsOf phrase))
-
 -- "ASCII phrase: each word as it stands, a piece each. Other phrase: encoded words of its words .."
 unfoldable pub phrasePieces : List ℕ → List Segment
-phrasePieces phrase = cond (all isAscii phrase) (map piece (wordsOf phrase)) (words (phraseText phrase) ∷ [])
+phrasePieces phrase = cond (all isAscii phrase) (map piece (phraseWords phrase)) (words (phraseText phrase) ∷ [])
 
 -- ---- an address
 
 -- "Non-ASCII address with no alternative: `Internationalized Address`, its encoded words, `Removed:;`."
-unfoldable pub removed : List ℕ → List Segment
-removed address = piece (bytes "Internationalized Address") ∷ words address ∷ piece (bytes "Removed:;") ∷ []
+-- The fixed words are those of the rules.
+unfoldable pub removed : Rules → List ℕ → List Segment
+removed rules address = map piece (removalStart rules) ++ (words address ∷ piece (removalEnd rules) ∷ [])
 
 -- in `< >`: `<` is 60, `>` is 62
 abbrev pub inAngles : List ℕ → Segment
 inAngles address = piece (60 ∷ (address ++ (62 ∷ [])))
 
 -- "Address: bare or in `< >`"
-unfoldable pub addressPieces : (List ℕ → Segment) → List ℕ → List Segment
-addressPieces asPiece address = cond (all isAscii address) (asPiece address ∷ []) (removed address)
+unfoldable pub addressPieces : Rules → (List ℕ → Segment) → List ℕ → List Segment
+addressPieces rules asPiece address = cond (all isAscii address) (asPiece address ∷ []) (removed rules address)
 
 -- ---- the pieces of a part
 
 -- "an alternative replaces the first". "`:` (58) and `;` (59) of a group are pieces. A comma (44) joins the end of the piece before
 -- it." Blanks are not written; a text that fits has no stray byte.
-unfoldable pub pieces : Kind → List ℕ → List Segment
-pieces Blank t = []
-pieces Comma t = raw (44 ∷ []) ∷ []
-pieces Colon t = piece (58 ∷ []) ∷ []
-pieces Semicolon t = piece (59 ∷ []) ∷ []
-pieces Phrase t = phrasePieces t
-pieces Address t = addressPieces piece t
-pieces (Angled start size) t = addressPieces inAngles (take size (drop start t))
-pieces (Alternative start size) t = inAngles (take size (drop start t)) ∷ []
-pieces Stray t = []
+unfoldable pub pieces : Rules → PartKind → List ℕ → List Segment
+pieces rules Blank t = []
+pieces rules Comma t = raw (44 ∷ []) ∷ []
+pieces rules Colon t = piece (58 ∷ []) ∷ []
+pieces rules Semicolon t = piece (59 ∷ []) ∷ []
+pieces rules Phrase t = phrasePieces t
+pieces rules Address t = addressPieces rules piece t
+pieces rules (Angled start size) t = addressPieces rules inAngles (take size (drop start t))
+pieces rules (Alternative start size) t = inAngles (take size (drop start t)) ∷ []
+pieces rules Stray t = []
 
-unfoldable pub piecesOf : List Part → List Segment
-piecesOf [] = []
-piecesOf (p ∷ ps) = pieces (p .kind) (p .text) ++ piecesOf ps
+unfoldable pub piecesOf : Rules → List Part → List Segment
+piecesOf rules [] = []
+piecesOf rules (p ∷ ps) = pieces rules (p .kind) (p .text) ++ piecesOf rules ps

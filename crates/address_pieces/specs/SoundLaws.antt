@@ -1,248 +1,44 @@
--- What an address field becomes is sound: bytes that stand as they are are ASCII, texts that are encoded are UTF-8. Assumes nothing.
-use mathlib.Core.Path.{_≡_, refl, ap, sym, _∙_}
-use mathlib.Core.Bool.{Bool, true, false, cond, not, _&&_, _||_, and-false}
-use mathlib.Core.List.{List, [], _∷_, _++_, append-nil, map}
+-- What an address field becomes is sound: bytes that stand as they are are ASCII, and texts that are encoded are UTF-8. Assumes nothing.
+use mathlib.Core.Path.{_≡_, refl, ap}
+use mathlib.Core.Bool.{true, false, cond, _||_}
+use mathlib.Core.List.{List, [], _∷_, _++_, map}
 use Prim.Native.Nat.{ℕ, zero, suc, pred, _+_, _-_, _≤_, _<_}
 use native.Mathlib.Nat.{not-suc-le-zero}
 use native.Mathlib.Omega.{arith}
-use lib.Dec.{T, leb, ltb, eqb, eqb→eq, lt→ltb}
-use lib.ListN.{length, take, drop, getD, take-append-drop, length-drop, drop-of-length-le}
-use lib.Seq.{drop-drop, take-all, take-add}
-use mir.Facts.{and-yes, yes-and, ltb-yes, ltb-no, leb-yes, leb-no}
-use borrow.Author.Tests.{ne-eqb}
-use Rattle.utf8.specs.Byte.{isAscii}
-use Rattle.utf8.specs.Lists.{by-test, yes-true, true-yes, no-false, cond-has, all, all-append, all-left, all-right, all-weaken, joined}
-use Rattle.utf8.specs.Run.{run, run-all, run-after, run-le}
-use Rattle.utf8.specs.Utf8.{utf8, chars, charsAfter, isChar}
-use Rattle.utf8.specs.Utf8Laws.{chars-joined, char-some, char-high, utf8-of, utf8-right, utf8-append, utf8-char, utf8-ascii, utf8-cut}
-use Rattle.header.specs.Lines.{blank}
+use lib.Dec.{T}
+use lib.ListN.{take, drop, getD, take-append-drop}
+use mir.Facts.{and-yes, yes-and}
+use Rattle.lists.specs.Byte.{isAscii}
+use Rattle.lists.specs.ListsLaws.{cond-has, all-append, all-left}
+use Rattle.lists.specs.Lists.{all}
+use Rattle.lists.specs.Run.{run}
+use Rattle.utf8.specs.Utf8.{utf8}
+use Rattle.line.specs.Line.{blank}
 use Rattle.letter_case.specs.LetterCase.{bytes}
-use Rattle.address.specs.AddressLaws.{front-byte}
-use Rattle.address.specs.declared.Scan.{Scan}
-use Rattle.address.specs.declared.Scan.the-variants.{To, Stop}
-use Rattle.address.specs.Address.{isAtomByte, isAtext, isHigh, quotedScan, addressScan}
-use Rattle.address.specs.GrammarLaws.{Cut, utf8-taken, quoted-cut, address-cut}
-use Rattle.address_list.specs.Words.{found, capped, isWordByte, addressLen, wordLen, nextWordLen, nextWordsLen, phraseLen}
-use Rattle.address_list.specs.WordsLaws.{words-front as next-words-front, words-none, next-word-le}
+use Rattle.rules.specs.Rules.{removalStart, removalEnd}
+use Rattle.rules.specs.declared.Rules.{Rules}
+use Rattle.rules.specs.declared.Rules.the-variants.{Spool, Current, Mailbox}
 use Rattle.encoded_word.specs.Segments.{Segment, sound}
 use Rattle.encoded_word.specs.Segments.Segment.{raw, words}
-use Rattle.address_pieces.specs.Pieces.{piece, wordSize, wordsFrom, wordsOf, kept, escapes, unquotedFrom, unquoted, afterSpaces, joinedBySpaces, phraseText, phrasePieces, removed, inAngles, addressPieces, pieces, piecesOf}
-use Rattle.address_pieces.specs.PiecesLaws.{words-front, word-size-some}
-
--- ---- where UTF-8 may be cut
-
--- what stands before n and from n on is UTF-8
-pub record Boundary (s : List ℕ) (n : ℕ) : Type 0 where
-  pub before : T (utf8 (take n s))
-  pub after : T (utf8 (drop n s))
-
-boundary : (s : List ℕ) (n : ℕ) → T (utf8 s) → T (utf8 (take n s)) → Boundary s n
-boundary s n h b =
-    let whole : T (utf8 (take n s ++ drop n s)) = rw (take-append-drop n s) h in
-    record { before = b; after = rw (utf8-right (take n s) (drop n s) b) at whole }
-
-boundary-cut : (s : List ℕ) (n : ℕ) → T (utf8 s) → Cut s n → Boundary s n
-boundary-cut s n h c = boundary s n h (utf8-taken s n h c)
-
-boundary-none : (s : List ℕ) → T (utf8 s) → Boundary s 0
-unfolding utf8 chars charsAfter
-boundary-none s h = record { before = tt; after = h }
-
-pub boundary-then : (s : List ℕ) (k n : ℕ) → Boundary s k → Boundary (drop k s) n → Boundary s (k + n)
-boundary-then s k n a b = record {
-  before = rw (take-add k n s) (utf8-append (take k s) (take n (drop k s)) (a .before) (b .before));
-  after = rw (drop-drop n k s) at (b .after);
-}
-
-boundary-end : (s : List ℕ) → T (utf8 s) → Boundary s (length s)
-boundary-end s h = boundary s (length s) h (rw (take-all (length s) s (omega arith)) h)
-
--- after an ASCII byte
-pub boundary-first : (s : List ℕ) → T (utf8 s) → getD s 0 0 < 128 → Boundary s 1
-boundary-first [] h k = boundary [] 1 h h
-boundary-first (b ∷ s) h k = boundary (b ∷ s) 1 h (utf8-ascii (b ∷ []) (yes-and (isAscii b) true (lt→ltb b 128 k) tt))
-
--- the same from a boundary on
-pub boundary-byte : (s : List ℕ) (n b : ℕ) → Boundary s n → getD s n 0 ≡ b → b < 128 → Boundary s (n + 1)
-boundary-byte s n b a e k = boundary-then s n 1 a (boundary-first (drop n s) (a .after) (rw (front-byte s n, e) k))
-
--- ---- words, phrases and addresses
-
-capped-boundary : (s : List ℕ) (n : ℕ) → T (utf8 s) → Boundary s n → Boundary s (capped n)
-unfolding capped
-capped-boundary s n h a = cond-has (Boundary s) (leb n 900) n 0 (λ t. a) (λ t. boundary-none s h)
-
-found-boundary : (s : List ℕ) (r : Scan) → T (utf8 s) → ((n : ℕ) → r ≡ To n → Cut s n) → Boundary s (found r)
-found-boundary s (To n) h c = boundary-cut s n h (c n refl)
-found-boundary s (Stop n) h c = boundary-none s h
-
-pub address-boundary : (s : List ℕ) → T (utf8 s) → Boundary s (addressLen s)
-unfolding addressLen
-address-boundary s h = capped-boundary s (found (addressScan s)) h (found-boundary s (addressScan s) h (address-cut s))
-
-word-byte-high : (b : ℕ) → isWordByte b ≡ false → b < 128
-unfolding isWordByte isAtomByte
-word-byte-high b e =
-    by-test (leb 128 b)
-    (λ t. absurd (rw e at (yes-or (isAtext b || isHigh b) (eqb b 46) (yes-or-right (isAtext b) (isHigh b) t))))
-    (λ t. leb-no {a = 128} {b = b} t)
-  where
-    yes-or : (x y : Bool) → T x → T (x || y)
-    yes-or true y t = tt
-    yes-or false y t = absurd t
-
-    yes-or-right : (x y : Bool) → T y → T (x || y)
-    yes-or-right true y t = tt
-    yes-or-right false y t = t
-
-run-boundary : (s : List ℕ) → T (utf8 s) → Boundary s (run isWordByte s)
-run-boundary s h =
-    let n : ℕ = run isWordByte s in
-    by-test (ltb n (length s))
-    (λ t. boundary-cut s n h (Cut.before (word-byte-high (getD s n 0) (run-after isWordByte s (ltb-yes t)))))
-    (λ t. rw (whole n (run-le isWordByte s) (ltb-no t)) (boundary-end s h))
-  where
-    whole : (n : ℕ) → n ≤ length s → length s ≤ n → n ≡ length s
-    whole n a b = omega arith
-
-word-boundary : (s : List ℕ) → T (utf8 s) → Boundary s (wordLen s)
-unfolding wordLen
-word-boundary s h =
-    let quoted : Boundary s (found (quotedScan s)) = found-boundary s (quotedScan s) h (quoted-cut s) in
-    capped-boundary s (cond (eqb (getD s 0 0) 34) (found (quotedScan s)) (run isWordByte s)) h
-    (cond-has (Boundary s) (eqb (getD s 0 0) 34) (found (quotedScan s)) (run isWordByte s) (λ t. quoted) (λ t. run-boundary s h))
-
-blank-ascii : (b : ℕ) → T (blank b) → T (isAscii b)
-unfolding blank
-blank-ascii b t =
-    by-test (eqb b 32)
-    (λ e. rw (eqb→eq b 32 e) tt)
-    (λ e. rw (eqb→eq b 9 (rw (no-false (eqb b 32) e) at t)) tt)
-
-pub blank-low : (b : ℕ) → T (blank b) → b < 128
-blank-low b t = ltb-yes {a = b} {b = 128} (blank-ascii b t)
-
-pub blanks-boundary : (s : List ℕ) → T (utf8 s) → Boundary s (run blank s)
-blanks-boundary s h =
-    boundary s (run blank s) h (utf8-ascii (take (run blank s) s) (all-weaken blank isAscii blank-ascii (take (run blank s) s) (run-all blank s)))
-
-next-word-boundary : (s : List ℕ) → T (utf8 s) → Boundary s (nextWordLen s)
-unfolding nextWordLen
-next-word-boundary s h =
-    let gap : ℕ = run blank s in
-    let word : ℕ = wordLen (drop gap s) in
-    let blanks = blanks-boundary s h in
-    cond-has (Boundary s) (ltb 0 gap && ltb 0 word) (gap + word) 0
-    (λ t. boundary-then s gap word blanks (word-boundary (drop gap s) (blanks .after)))
-    (λ t. boundary-none s h)
-
-words-boundary : (m : ℕ) (s : List ℕ) → length s ≤ m → T (utf8 s) → Boundary s (nextWordsLen 0 s)
-words-boundary zero s k h = rw (words-none s (omega (arith, next-word-le s))) (boundary-none s h)
-words-boundary (suc m) s k h =
-    let n : ℕ = nextWordLen s in
-    let next = next-word-boundary s h in
-    by-test (ltb 0 n)
-    (λ t. let some : 0 < n = ltb-yes t in
-    rw (next-words-front n s refl some (next-word-le s))
-    (boundary-then s n (nextWordsLen 0 (drop n s)) next (words-boundary m (drop n s) (omega (arith, length-drop n s, next-word-le s)) (next .after))))
-    (λ t. rw (words-none s (ltb-no t)) (boundary-none s h))
-
-pub phrase-boundary : (s : List ℕ) → T (utf8 s) → Boundary s (phraseLen s)
-unfolding phraseLen
-phrase-boundary s h =
-    let word : ℕ = wordLen s in
-    let first = word-boundary s h in
-    let more = words-boundary (length (drop word s)) (drop word s) (omega arith) (first .after) in
-    cond-has (Boundary s) (ltb 0 word) (word + nextWordsLen 0 (drop word s)) 0
-    (λ t. boundary-then s word (nextWordsLen 0 (drop word s)) first more)
-    (λ t. boundary-none s h)
-
--- ---- the words of a phrase
-
-word-size-boundary : (t : List ℕ) → T (utf8 t) → Boundary t (wordSize t)
-unfolding wordSize
-word-size-boundary t h = cond-has (Boundary t) (eqb (wordLen t) 0) (length t) (wordLen t) (λ e. boundary-end t h) (λ e. word-boundary t h)
-
-words-nil : wordsFrom 0 [] ≡ []
-unfolding wordsFrom
-words-nil = refl
-
-words-turn : (m : ℕ) (t : List ℕ) → length t ≤ suc m → T (utf8 t) → ((s : List ℕ) → length s ≤ m → T (utf8 s) → T (all utf8 (wordsFrom 0 s)))
-    → T (all utf8 (wordsFrom 0 t))
-words-turn m [] k h more = rw words-nil tt
-words-turn m (b ∷ t) k h more =
-    let s : List ℕ = b ∷ t in
-    let word : ℕ = wordSize s in
-    let first = word-size-boundary s h in
-    let gap : ℕ = run blank (drop word s) in
-    let blanks = boundary-then s word gap first (blanks-boundary (drop word s) (first .after)) in
-    let less : length (drop (word + gap) s) ≤ m = omega (arith, length-drop (word + gap) s, word-size-some b t) in
-    rw (words-front s (omega arith))
-    (yes-and (utf8 (take word s)) (all utf8 (wordsFrom 0 (drop (word + gap) s))) (first .before) (more (drop (word + gap) s) less (blanks .after)))
-
-words-utf8 : (m : ℕ) (t : List ℕ) → length t ≤ m → T (utf8 t) → T (all utf8 (wordsFrom 0 t))
-words-utf8 zero [] k h = rw words-nil tt
-words-utf8 zero (b ∷ t) k h = absurd (not-suc-le-zero k)
-words-utf8 (suc m) t k h = words-turn m t k h (words-utf8 m)
-
--- every byte of a list is kept that is not ASCII, and none of them escapes the next
-high-kept : (escaped : Bool) (b : ℕ) (rest : List ℕ) → T (leb 128 b) → unquotedFrom escaped (b ∷ rest) ≡ b ∷ unquotedFrom false rest
-unfolding unquotedFrom kept escapes
-high-kept escaped b rest h =
-    let high : 128 ≤ b = leb-yes h in
-    rw (ne-eqb b 34 (λ e. not-suc-le-zero {n = 0} (omega arith)), ne-eqb b 92 (λ e. not-suc-le-zero {n = 0} (omega arith)), and-false (not escaped))
-
-unquoted-high : (c rest : List ℕ) → T (all (leb 128) c) → unquotedFrom false (c ++ rest) ≡ c ++ unquotedFrom false rest
-unquoted-high [] rest h = refl
-unquoted-high (b ∷ c) rest h =
-    let both = and-yes (leb 128 b) (all (leb 128) c) h in
-    high-kept false b (c ++ rest) (both .0) ∙ ap (λ (l : List ℕ). b ∷ l) (unquoted-high c rest (both .1))
-
-kept-utf8 : (escaped : Bool) (b : ℕ) → T (isChar (b ∷ [])) → T (utf8 (kept escaped b))
-unfolding kept
-kept-utf8 escaped b t =
-    cond-has (λ (l : List ℕ). T (utf8 l)) (not escaped && (eqb b 34 || eqb b 92)) [] (b ∷ []) (λ e. utf8-ascii [] tt) (λ e. utf8-char (b ∷ []) t)
-
--- a character, and what is left after it
-char-unquoted : (escaped : Bool) (c rest : List ℕ) → T (isChar c) → ((e : Bool) → T (utf8 (unquotedFrom e rest))) → T (utf8 (unquotedFrom escaped (c ++ rest)))
-unfolding unquotedFrom
-char-unquoted escaped [] rest t more = absurd (not-suc-le-zero (char-some [] t))
-char-unquoted escaped (b ∷ []) rest t more =
-    utf8-append (kept escaped b) (unquotedFrom (escapes escaped b) rest) (kept-utf8 escaped b t) (more (escapes escaped b))
-char-unquoted escaped (b ∷ d ∷ c) rest t more =
-    let char : List ℕ = b ∷ d ∷ c in
-    let both = and-yes (leb 128 b) (all (leb 128) (d ∷ c)) (char-high char t (omega arith)) in
-    rw (high-kept escaped b ((d ∷ c) ++ rest) (both .0), unquoted-high (d ∷ c) rest (both .1)) (utf8-append char (unquotedFrom false rest) (utf8-char char t) (more false))
-
-unquoted-chars : (cs : List (List ℕ)) → T (all isChar cs) → (escaped : Bool) → T (utf8 (unquotedFrom escaped (joined cs)))
-unfolding unquotedFrom
-unquoted-chars [] h escaped = utf8-ascii [] tt
-unquoted-chars (c ∷ cs) h escaped = let both = and-yes (isChar c) (all isChar cs) h in char-unquoted escaped c (joined cs) (both .0) (unquoted-chars cs (both .1))
-
-unquoted-utf8 : (w : List ℕ) → T (utf8 w) → T (utf8 (unquoted w))
-unfolding unquoted utf8
-unquoted-utf8 w h = rw (chars-joined w) at (unquoted-chars (chars w) h false)
+use Rattle.field.specs.Field.{encodedField}
+use Rattle.field.specs.FieldLaws.{encoded-sound}
+use Rattle.phrase.specs.Phrase.{wordSize, wordsFrom, phraseWords, phraseText}
+use Rattle.phrase.specs.BoundaryLaws.{Boundary, boundary-then, boundary-first, boundary-byte, address-boundary, blank-low, blanks-boundary, phrase-boundary, phrase-text-utf8}
+use Rattle.address_list.specs.Parts.{partAt, Part, partsFrom, partsOf, anyChanges}
+use Rattle.address_list.specs.PartCasesLaws.{Opened, part-has}
+use Rattle.address_list.specs.Table.{after, complete, examinedFrom, examined}
+use Rattle.address_list.specs.TableLaws.{after-stray, complete-unfit}
+use Rattle.address_list.specs.declared.Front.{Front}
+use Rattle.address_list.specs.declared.PartKind.{PartKind}
+use Rattle.address_list.specs.declared.PartKind.the-variants.{Blank, Comma, Colon, Semicolon, Phrase, Address, Angled, Alternative, Stray}
+use Rattle.address_list.specs.declared.State.{State}
+use Rattle.address_list.specs.declared.State.the-variants.{ItemDue}
+use Rattle.address_list.specs.declared.Examined.{Examined}
+use Rattle.address_list.specs.declared.Examined.the-variants.{DoesNotFit, Kept, Changed}
+use Rattle.address_pieces.specs.Pieces.{piece, phrasePieces, removed, inAngles, addressPieces, pieces, piecesOf}
+use Rattle.address_pieces.specs.AddressField.{rewrittenField, fieldBy, addressField}
 
 -- ---- a phrase
-
-after-spaces-utf8 : (ws : List (List ℕ)) → T (all utf8 ws) → T (utf8 (afterSpaces (map unquoted ws)))
-unfolding afterSpaces
-after-spaces-utf8 [] h = utf8-ascii [] tt
-after-spaces-utf8 (w ∷ ws) h =
-    let both = and-yes (utf8 w) (all utf8 ws) h in
-    utf8-append (32 ∷ []) (unquoted w ++ afterSpaces (map unquoted ws)) (utf8-ascii (32 ∷ []) tt)
-    (utf8-append (unquoted w) (afterSpaces (map unquoted ws)) (unquoted-utf8 w (both .0)) (after-spaces-utf8 ws (both .1)))
-
-joined-utf8 : (ws : List (List ℕ)) → T (all utf8 ws) → T (utf8 (joinedBySpaces (map unquoted ws)))
-unfolding joinedBySpaces
-joined-utf8 [] h = utf8-ascii [] tt
-joined-utf8 (w ∷ ws) h =
-    let both = and-yes (utf8 w) (all utf8 ws) h in
-    utf8-append (unquoted w) (afterSpaces (map unquoted ws)) (unquoted-utf8 w (both .0)) (after-spaces-utf8 ws (both .1))
-
-phrase-text-utf8 : (t : List ℕ) → T (utf8 t) → T (utf8 (phraseText t))
-unfolding phraseText wordsOf
-phrase-text-utf8 t h = joined-utf8 (wordsFrom 0 t) (words-utf8 (length t) t (omega arith) h)
 
 front-ascii : (n : ℕ) (t : List ℕ) → T (all isAscii t) → T (all isAscii (take n t))
 front-ascii n t h = all-left isAscii (take n t) (drop n t) (rw (take-append-drop n t) h)
@@ -256,8 +52,8 @@ word-pieces-sound zero (b ∷ t) h =
     let k : ℕ = pred (word + run blank (drop word (b ∷ t))) in
     yes-and (all isAscii (take word (b ∷ t))) (all sound (map piece (wordsFrom k t))) (front-ascii word (b ∷ t) h) (word-pieces-sound k t (and-yes (isAscii b) (all isAscii t) h .1))
 
-pub phrase-sound : (t : List ℕ) → T (utf8 t) → T (all sound (phrasePieces t))
-unfolding phrasePieces wordsOf
+phrase-sound : (t : List ℕ) → T (utf8 t) → T (all sound (phrasePieces t))
+unfolding phrasePieces phraseWords
 phrase-sound t h =
     cond-has (λ (ss : List Segment). T (all sound ss)) (all isAscii t) (map piece (wordsFrom 0 t)) (words (phraseText t) ∷ [])
     (λ a. word-pieces-sound 0 t a)
@@ -265,23 +61,163 @@ phrase-sound t h =
 
 -- ---- an address
 
-removed-sound : (t : List ℕ) → T (utf8 t) → T (all sound (removed t))
-unfolding removed bytes
-removed-sound t h = yes-and (utf8 t) true h tt
+removed-sound : (rules : Rules) (t : List ℕ) → T (utf8 t) → T (all sound (removed rules t))
+unfolding removed removalStart removalEnd bytes
+removed-sound Spool t h = yes-and (utf8 t) true h tt
+removed-sound Current t h = yes-and (utf8 t) true h tt
+removed-sound Mailbox t h = yes-and (utf8 t) true h tt
 
-pub bare-sound : (t : List ℕ) → T (utf8 t) → T (all sound (addressPieces piece t))
+bare-sound : (rules : Rules) (t : List ℕ) → T (utf8 t) → T (all sound (addressPieces rules piece t))
 unfolding addressPieces
-bare-sound t h =
-    cond-has (λ (ss : List Segment). T (all sound ss)) (all isAscii t) (piece t ∷ []) (removed t)
+bare-sound rules t h =
+    cond-has (λ (ss : List Segment). T (all sound ss)) (all isAscii t) (piece t ∷ []) (removed rules t)
     (λ a. yes-and (all isAscii t) true a tt)
-    (λ a. removed-sound t h)
+    (λ a. removed-sound rules t h)
 
-pub in-angles-sound : (t : List ℕ) → T (all isAscii t) → T (all sound (inAngles t ∷ []))
+in-angles-sound : (t : List ℕ) → T (all isAscii t) → T (all sound (inAngles t ∷ []))
 in-angles-sound t a = yes-and (all isAscii (t ++ (62 ∷ []))) true (all-append isAscii t (62 ∷ []) a tt) tt
 
-pub angled-sound : (t : List ℕ) → T (utf8 t) → T (all sound (addressPieces inAngles t))
+angled-sound : (rules : Rules) (t : List ℕ) → T (utf8 t) → T (all sound (addressPieces rules inAngles t))
 unfolding addressPieces
-angled-sound t h =
-    cond-has (λ (ss : List Segment). T (all sound ss)) (all isAscii t) (inAngles t ∷ []) (removed t)
+angled-sound rules t h =
+    cond-has (λ (ss : List Segment). T (all sound ss)) (all isAscii t) (inAngles t ∷ []) (removed rules t)
     (λ a. in-angles-sound t a)
-    (λ a. removed-sound t h)
+    (λ a. removed-sound rules t h)
+
+-- ---- the part at the front of a text that is UTF-8
+
+-- what is known of the address in a part
+abbrev addressKnown : PartKind → List ℕ → Type 0
+addressKnown Blank t = Unit
+addressKnown Comma t = Unit
+addressKnown Colon t = Unit
+addressKnown Semicolon t = Unit
+addressKnown Phrase t = Unit
+addressKnown Address t = Unit
+addressKnown (Angled start size) t = T (utf8 (take size (drop start t)))
+addressKnown (Alternative start size) t = T (all isAscii (take size (drop start t)))
+addressKnown Stray t = Unit
+
+-- a part other than a stray byte ends at a boundary
+abbrev endKnown : PartKind → List ℕ → ℕ → Type 0
+endKnown Blank s n = Boundary s n
+endKnown Comma s n = Boundary s n
+endKnown Colon s n = Boundary s n
+endKnown Semicolon s n = Boundary s n
+endKnown Phrase s n = Boundary s n
+endKnown Address s n = Boundary s n
+endKnown (Angled start size) s n = Boundary s n
+endKnown (Alternative start size) s n = Boundary s n
+endKnown Stray s n = Unit
+
+record Known (s : List ℕ) (f : Front) : Type 0 where
+  some : 0 < f .size
+  end : endKnown (f .kind) s (f .size)
+  address : addressKnown (f .kind) (take (f .size) s)
+
+-- a part of the front is a part of the whole
+part-front : (b n m : ℕ) (s : List ℕ) → b + n ≤ m → take n (drop b (take m s)) ≡ take n (drop b s)
+part-front zero zero m s h = refl
+part-front zero (suc n) zero s h = absurd (not-suc-le-zero {n = n} (omega arith))
+part-front zero (suc n) (suc m) [] h = refl
+part-front zero (suc n) (suc m) (x ∷ s) h = ap (λ (l : List ℕ). x ∷ l) (part-front zero n m s (omega arith))
+part-front (suc b) n zero s h = absurd (not-suc-le-zero {n = b + n} (omega arith))
+part-front (suc b) n (suc m) [] h = refl
+part-front (suc b) n (suc m) (x ∷ s) h = part-front b n m s (omega arith)
+
+-- `<` and blanks after it
+opened-boundary : (s : List ℕ) (start size : ℕ) → T (utf8 s) → Opened s start size → Boundary s start
+opened-boundary s start size h o =
+    let first = boundary-first s h (rw (o .opens) (omega arith)) in
+    rw (o .start-is) (boundary-then s 1 (run blank (drop 1 s)) first (blanks-boundary (drop 1 s) (first .after)))
+
+part-known : (rules : Rules) (s : List ℕ) → T (utf8 s) → Known s (partAt rules s)
+part-known rules s h = part-has (Known s) rules s (record {
+  none = record { some = omega arith; end = tt; address = tt };
+  is-blank = λ t. record { some = omega arith; end = boundary-first s h (blank-low (getD s 0 0) t); address = tt };
+  comma = λ e. record { some = omega arith; end = mark 44 (omega arith) e; address = tt };
+  colon = λ e. record { some = omega arith; end = mark 58 (omega arith) e; address = tt };
+  semicolon = λ e. record { some = omega arith; end = mark 59 (omega arith) e; address = tt };
+  angled =
+      λ start size o close.
+      let begun = opened-boundary s start size h o in
+      let address = rw (← o .size-is) at (address-boundary (drop start s) (begun .after)) in
+      record {
+        some = omega arith;
+        end = boundary-byte s (start + size) 62 (boundary-then s start size begun address) close (omega arith);
+        address = rw (part-front start size (start + size + 1) s (omega arith)) (address .before);
+      };
+  alternative =
+      λ a n inner start size allowed o r.
+      let first = boundary-then s a n (opened-boundary s a n h o) (rw (← o .size-is) at (address-boundary (drop a s) (opened-boundary s a n h o .after))) in
+      let at-inner = rw (← r .inner-is) at (boundary-then s (a + n) (run blank (drop (a + n) s)) first (blanks-boundary (drop (a + n) s) (first .after))) in
+      let opens = boundary-byte s inner 60 at-inner (r .opens) (omega arith) in
+      let at-start = rw (← r .start-is) at (boundary-then s (inner + 1) (run blank (drop (inner + 1) s)) opens (blanks-boundary (drop (inner + 1) s) (opens .after))) in
+      let at-end = boundary-then s start size at-start (rw (← r .size-is) at (address-boundary (drop start s) (at-start .after))) in
+      let closed = boundary-byte s (start + size) 62 at-end (r .close) (omega arith) in
+      let twice = boundary-byte s (start + size + 1) 62 closed (r .close₂) (omega arith) in
+      let two : start + size + 1 + 1 ≡ start + size + 2 = omega arith in
+      record { some = omega arith; end = rw two at twice; address = rw (part-front start size (start + size + 2) s (omega arith)) (r .ascii) };
+  address = λ some. record { some = some; end = address-boundary s h; address = tt };
+  phrase = λ some. record { some = some; end = phrase-boundary s h; address = tt };
+})
+  where
+    mark : (b : ℕ) → b < 128 → getD s 0 0 ≡ b → Boundary s 1
+    mark b k e = boundary-first s h (rw e k)
+
+-- ---- the pieces of a text that fits
+
+pieces-sound : (rules : Rules) (kind : PartKind) (s : List ℕ) (n : ℕ) → (kind ≡ Stray → ⊥) → endKnown kind s n → addressKnown kind (take n s) → T (all sound (pieces rules kind (take n s))) × T (utf8 (drop n s))
+unfolding pieces
+pieces-sound rules Blank s n p e a = (tt, e .after)
+pieces-sound rules Comma s n p e a = (tt, e .after)
+pieces-sound rules Colon s n p e a = (tt, e .after)
+pieces-sound rules Semicolon s n p e a = (tt, e .after)
+pieces-sound rules Phrase s n p e a = (phrase-sound (take n s) (e .before), e .after)
+pieces-sound rules Address s n p e a = (bare-sound rules (take n s) (e .before), e .after)
+pieces-sound rules (Angled start size) s n p e a = (angled-sound rules (take size (drop start (take n s))) a, e .after)
+pieces-sound rules (Alternative start size) s n p e a = (in-angles-sound (take size (drop start (take n s))) a, e .after)
+pieces-sound rules Stray s n p e a = absurd (p refl)
+
+not-stray : (state : State) (kind : PartKind) (ps : List Part) → T (complete (after state kind) ps) → kind ≡ Stray → ⊥
+not-stray state kind ps t e = rw (e, after-stray state, complete-unfit ps) at t
+
+parts-sound : (rules : Rules) (k : ℕ) (s : List ℕ) (state : State) → T (utf8 (drop k s)) → T (complete state (partsFrom rules k s)) → T (all sound (piecesOf rules (partsFrom rules k s)))
+unfolding partsFrom piecesOf complete
+parts-sound rules k [] state h t = tt
+parts-sound rules (suc k) (b ∷ s) state h t = parts-sound rules k s state h t
+parts-sound rules zero (b ∷ s) state h t =
+    let f = partAt rules (b ∷ s) in
+    let k = part-known rules (b ∷ s) h in
+    let part = pieces-sound rules (f .kind) (b ∷ s) (f .size) (not-stray state (f .kind) (partsFrom rules (pred (f .size)) s) t) (k .end) (k .address) in
+    all-append sound (pieces rules (f .kind) (take (f .size) (b ∷ s))) (piecesOf rules (partsFrom rules (pred (f .size)) s)) (part .0)
+    (parts-sound rules (pred (f .size)) s (after state (f .kind)) (rest (f .size) (k .some) (part .1)) t)
+  where
+    rest : (n : ℕ) → 0 < n → T (utf8 (drop n (b ∷ s))) → T (utf8 (drop (pred n) s))
+    rest zero p u = absurd (not-suc-le-zero p)
+    rest (suc n) p u = u
+
+-- ---- the field
+
+module _ (rules : Rules) (name text : List ℕ) (a : T (all isAscii name)) (u : T (utf8 text)) where
+  rewritten-sound : T (complete ItemDue (partsOf rules text)) → T (all sound (rewrittenField rules name text))
+  unfolding rewrittenField partsOf
+  rewritten-sound t =
+      let value = piecesOf rules (partsFrom rules 0 text) in
+      yes-and (all isAscii (name ++ (58 ∷ []))) (all sound (value ++ (raw (13 ∷ 10 ∷ []) ∷ [])))
+      (all-append isAscii name (58 ∷ []) a tt)
+      (all-append sound value (raw (13 ∷ 10 ∷ []) ∷ []) (parts-sound rules 0 text ItemDue u t) tt)
+
+  -- Every segment of an address field is sound.
+  pub address-field-sound : T (all sound (addressField rules name text))
+  unfolding addressField examined examinedFrom fieldBy
+  address-field-sound =
+      let ps = partsOf rules text in
+      let by : Examined → Type 0 = (λ e. T (all sound (fieldBy e rules name text))) in
+      let copy = encoded-sound true name text a u in
+      cond-has by (complete ItemDue ps) (cond (false || anyChanges ps) Changed Kept) DoesNotFit
+      (λ t.
+      cond-has by (false || anyChanges ps) Changed Kept
+      (λ v. all-append sound (rewrittenField rules name text) (encodedField true name text) (rewritten-sound t) copy)
+      (λ v. rewritten-sound t))
+      (λ t. copy)

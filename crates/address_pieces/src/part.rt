@@ -1,76 +1,86 @@
 // The pieces of a part, and of a text part by part.
-ghost use Prim.Native.Nat.{_+_, _≤_};
+ghost use Prim.Native.Nat.{_*_, _≤_};
 ghost use lib.ListN.{length};
-ghost use Rattle.buffer.specs.Buffer.{AppendedCapped};
+ghost use Rattle.buffer.specs.Buffer.{Wrote, AppendedCapped};
 ghost use Rattle.encoded_word.specs.Segments.{rendered};
-ghost use Rattle.address_list.specs.Parts.{partsOf};
-ghost use Rattle.address_list.specs.PartsLaws.{innerEnd};
+ghost use Rattle.address_list.specs.Parts.{innerEnd, partsOf};
 ghost use Rattle.address_pieces.specs.Pieces.{piece, inAngles, addressPieces, pieces, piecesOf};
-use crate::phrase::add_phrase;
-use crate::piece::add_in_angles;
-use crate::piece::add_piece;
-use crate::piece::add_removed;
-use address_list::Kind;
+use crate::phrase_pieces::put_phrase;
+use crate::piece::put_in_angles;
+use crate::piece::put_piece;
+use crate::piece::put_removed;
+use address_list::PartKind;
 use address_list::part_from;
+use rules::Rules;
 
 // A bare address.
-fn add_bare(out: &mut [u8], at: usize, address: &[u8]) -> usize
+fn put_bare(out: &mut [u8], rules: Rules, address: &[u8]) -> usize
     requires { ⌜ length (now address) ≤ 32768 ⌝ }
-    ensures { λ r. ⌜ AppendedCapped (rendered (addressPieces piece (now (address .entry)))) at (now (out .entry)) (now (out .exit)) r ⌝ }
+    ensures { λ r. ⌜ Wrote (rendered (addressPieces rules piece (now (address .entry)))) (now (out .entry)) (now (out .exit)) r ⌝ }
 {
-    if address::is_ascii(address) {
-        return add_piece(out, at, address);
+    if utf8::is_ascii(address) {
+        return put_piece(out, address);
     }
-    add_removed(out, at, address)
+    put_removed(out, rules, address)
 }
 
 // An address that stands in `< >`.
-fn add_angled(out: &mut [u8], at: usize, address: &[u8]) -> usize
+fn put_angled(out: &mut [u8], rules: Rules, address: &[u8]) -> usize
     requires { ⌜ length (now address) ≤ 32768 ⌝ }
-    ensures { λ r. ⌜ AppendedCapped (rendered (addressPieces inAngles (now (address .entry)))) at (now (out .entry)) (now (out .exit)) r ⌝ }
+    ensures { λ r. ⌜ Wrote (rendered (addressPieces rules inAngles (now (address .entry)))) (now (out .entry)) (now (out .exit)) r ⌝ }
 {
-    if address::is_ascii(address) {
-        return add_in_angles(out, at, address);
+    if utf8::is_ascii(address) {
+        return put_in_angles(out, address);
     }
-    add_removed(out, at, address)
+    put_removed(out, rules, address)
 }
 
 // The pieces of a part.
-fn add_part(out: &mut [u8], at: usize, t: &[u8], kind: Kind) -> usize
-    requires { ⌜ (length (now t) ≤ 32768) × (innerEnd kind ≤ length (now t)) ⌝ }
-    ensures { λ r. ⌜ AppendedCapped (rendered (pieces kind (now (t .entry)))) at (now (out .entry)) (now (out .exit)) r ⌝ }
+fn put_part(out: &mut [u8], rules: Rules, t: &[u8], kind: PartKind, scratch: &mut [u8]) -> usize
+    requires { ⌜ (length (now t) ≤ 32768) × ((2 * length (now t) ≤ length (now scratch)) × (innerEnd kind ≤ length (now t))) ⌝ }
+    ensures { λ r. ⌜ Wrote (rendered (pieces rules kind (now (t .entry)))) (now (out .entry)) (now (out .exit)) r ⌝ }
 {
     match kind {
-        Kind::Blank => at,
-        Kind::Comma => buffer::add_byte(out, at, b','),
-        Kind::Colon => add_piece(out, at, b":"),
-        Kind::Semicolon => add_piece(out, at, b";"),
-        Kind::Phrase => add_phrase(out, at, t),
-        Kind::Address => add_bare(out, at, t),
-        Kind::Angled(start, size) => {
+        PartKind::Blank => 0,
+        PartKind::Comma => buffer::put_byte(out, b','),
+        PartKind::Colon => put_piece(out, b":"),
+        PartKind::Semicolon => put_piece(out, b";"),
+        PartKind::Phrase => put_phrase(out, t, scratch),
+        PartKind::Address => put_bare(out, rules, t),
+        PartKind::Angled(start, size) => {
             let end = start + size;
-            add_angled(out, at, &t[start..end])
+            put_angled(out, rules, &t[start..end])
         }
-        Kind::Alternative(start, size) => {
+        PartKind::Alternative(start, size) => {
             let end = start + size;
-            add_in_angles(out, at, &t[start..end])
+            put_in_angles(out, &t[start..end])
         }
-        Kind::Stray => at,
+        PartKind::Stray => 0,
     }
 }
 
-// The pieces of a text, part by part.
-pub(crate) fn add_parts(out: &mut [u8], at: usize, text: &[u8]) -> usize
-    requires { ⌜ length (now text) ≤ 32768 ⌝ }
-    ensures { λ r. ⌜ AppendedCapped (rendered (piecesOf (partsOf (now (text .entry))))) at (now (out .entry)) (now (out .exit)) r ⌝ }
+// The pieces of a text, part by part: the rest of the output is lent on from the place reached.
+pub(crate) fn add_parts(
+    out: &mut [u8],
+    at: usize,
+    rules: Rules,
+    text: &[u8],
+    scratch: &mut [u8],
+) -> usize
+    requires { ⌜ (length (now text) ≤ 32768) × (2 * length (now text) ≤ length (now scratch)) ⌝ }
+    ensures { λ r. ⌜ AppendedCapped (rendered (piecesOf rules (partsOf rules (now (text .entry))))) at (now (out .entry)) (now (out .exit)) r ⌝ }
 {
     let mut next = at;
     let mut i = 0;
     while i < text.len() {
-        let f = part_from(text, i);
+        let f = part_from(text, i, rules);
         let kind = f.kind;
         let e = i + f.size;
-        next = add_part(out, next, &text[i..e], kind);
+        let a = buffer::clip(next, out.len());
+        next = buffer::place_after(
+            next,
+            put_part(&mut out[a..], rules, &text[i..e], kind, scratch),
+        );
         i = e;
     }
     next

@@ -1,43 +1,62 @@
-// Pieces: CRLF, space, piece.
+// Pieces: CRLF, space, piece. Each is written to the front of the rest of the output that is lent to it.
+ghost use mathlib.Core.List.{map};
 ghost use Prim.Native.Nat.{_≤_};
 ghost use lib.ListN.{length};
-ghost use Rattle.buffer.specs.Buffer.{AppendedCapped};
-ghost use Rattle.encoded_word.specs.Row.{row};
+ghost use Rattle.buffer.specs.Buffer.{Wrote};
+ghost use Rattle.rules.specs.Rules.{removalStart, removalEnd};
 ghost use Rattle.encoded_word.specs.Segments.{bytesOf, rendered};
 ghost use Rattle.address_pieces.specs.Pieces.{piece, inAngles, removed};
+use rules::Rules;
 
 // A piece that is some bytes as they stand.
-pub(crate) fn add_piece(out: &mut [u8], at: usize, text: &[u8]) -> usize
-    ensures { λ r. ⌜ AppendedCapped (bytesOf (piece (now (text .entry)))) at (now (out .entry)) (now (out .exit)) r ⌝ }
+pub(crate) fn put_piece(out: &mut [u8], text: &[u8]) -> usize
+    requires { ⌜ length (now text) ≤ 32768 ⌝ }
+    ensures { λ r. ⌜ Wrote (bytesOf (piece (now (text .entry)))) (now (out .entry)) (now (out .exit)) r ⌝ }
 {
-    let next = buffer::add_slice(out, at, b"\r\n ");
+    let next = buffer::put_slice(out, b"\r\n ");
     buffer::add_slice(out, next, text)
 }
 
 // A piece that is an address in `< >`.
-pub(crate) fn add_in_angles(out: &mut [u8], at: usize, address: &[u8]) -> usize
-    ensures { λ r. ⌜ AppendedCapped (bytesOf (inAngles (now (address .entry)))) at (now (out .entry)) (now (out .exit)) r ⌝ }
+pub(crate) fn put_in_angles(out: &mut [u8], address: &[u8]) -> usize
+    requires { ⌜ length (now address) ≤ 32768 ⌝ }
+    ensures { λ r. ⌜ Wrote (bytesOf (inAngles (now (address .entry)))) (now (out .entry)) (now (out .exit)) r ⌝ }
 {
-    let open = buffer::add_slice(out, at, b"\r\n <");
+    let open = buffer::put_slice(out, b"\r\n <");
     let close = buffer::add_slice(out, open, address);
     buffer::add_byte(out, close, b'>')
 }
 
-// The encoded words of a text.
-pub(crate) fn add_words(out: &mut [u8], at: usize, text: &[u8]) -> usize
-    requires { ⌜ length (now text) ≤ 65536 ⌝ }
-    ensures { λ r. ⌜ AppendedCapped (row (now (text .entry))) at (now (out .entry)) (now (out .exit)) r ⌝ }
+// The pieces before the encoded words of an address that is removed.
+fn put_removal_start(out: &mut [u8], rules: Rules) -> usize
+    ensures { λ r. ⌜ Wrote (rendered (map piece (removalStart rules))) (now (out .entry)) (now (out .exit)) r ⌝ }
 {
-    let start = buffer::clip(at, out.len());
-    buffer::place_after(at, encoded_word::write(&mut out[start..], text))
+    match rules {
+        Rules::Spool => put_piece(out, b"Internationalized Address"),
+        Rules::Current => put_piece(out, b"Internationalized Address"),
+        Rules::Mailbox => 0,
+    }
+}
+
+// The piece after them.
+fn put_removal_end(out: &mut [u8], rules: Rules) -> usize
+    ensures { λ r. ⌜ Wrote (bytesOf (piece (removalEnd rules))) (now (out .entry)) (now (out .exit)) r ⌝ }
+{
+    match rules {
+        Rules::Spool => put_piece(out, b"Removed:;"),
+        Rules::Current => put_piece(out, b"Removed:;"),
+        Rules::Mailbox => put_piece(out, b":;"),
+    }
 }
 
 // The pieces in place of an address that is removed.
-pub(crate) fn add_removed(out: &mut [u8], at: usize, address: &[u8]) -> usize
+pub(crate) fn put_removed(out: &mut [u8], rules: Rules, address: &[u8]) -> usize
     requires { ⌜ length (now address) ≤ 32768 ⌝ }
-    ensures { λ r. ⌜ AppendedCapped (rendered (removed (now (address .entry)))) at (now (out .entry)) (now (out .exit)) r ⌝ }
+    ensures { λ r. ⌜ Wrote (rendered (removed rules (now (address .entry)))) (now (out .entry)) (now (out .exit)) r ⌝ }
 {
-    let words = buffer::add_slice(out, at, b"\r\n Internationalized Address");
-    let next = add_words(out, words, address);
-    buffer::add_slice(out, next, b"\r\n Removed:;")
+    let words = put_removal_start(out, rules);
+    let a = buffer::clip(words, out.len());
+    let end = buffer::place_after(words, encoded_word::write(&mut out[a..], address));
+    let b = buffer::clip(end, out.len());
+    buffer::place_after(end, put_removal_end(&mut out[b..], rules))
 }

@@ -2,27 +2,27 @@
 -- DemandsLaws.antt says that they hold of `outcome e h b c`, which the exported call's contract equates with what the call answers
 -- and leaves. Assumes nothing.
 use mathlib.Core.Path.{_≡_}
-use mathlib.Core.List.{List, _∷_, _++_, map}
+use mathlib.Core.List.{List, [], _∷_, _++_, map}
 use Prim.Native.Nat.{ℕ, _≤_, _<_}
 use lib.Dec.{T}
 use lib.ListN.{length, take, drop}
-use Rattle.utf8.specs.Byte.{isAscii}
-use Rattle.utf8.specs.Lists.{all, joined}
+use Rattle.lists.specs.Byte.{isAscii}
+use Rattle.lists.specs.Lists.{all, joined}
 use Rattle.encoded_word.specs.Demand3.{Demand3}
 use Rattle.encoded_word.specs.Segments.{Segment, rendered}
-use Rattle.encoded_word.specs.Segments.Segment.{words}
+use Rattle.encoded_word.specs.Segments.Segment.{words, labelled}
 use Rattle.envelope_line.specs.declared.Fault.the-variants.{Malformed, NoAlternative, BadAlternative}
 use Rattle.envelope.specs.declared.Checked.the-variants.{Passed, Refused}
 use Rattle.envelope.specs.declared.Orcpt.the-variants.{Clean, At}
 use Rattle.envelope.specs.Envelope.{checked, orcptLine, written}
-use Rattle.header.specs.declared.Lines.the-variants.{WellFormed, Malformed as MalformedLine}
-use Rattle.header.specs.declared.HeldField.the-variants.{Absent, At as HeldAt}
-use Rattle.header.specs.Lines.{linesOf}
-use Rattle.header.specs.Fields.{fieldsOf, valueOf, heldOf}
-use Rattle.field.specs.Field.{fieldSegments}
-use Rattle.address_pieces.specs.AddressField.{addressField}
-use Rattle.hennelaku.specs.OutgoingHeader.{newFields, outgoingSegments, outgoingHeader}
-use Rattle.hennelaku.specs.Outcome.{Outcome}
+use Rattle.header_line.specs.declared.LineCheck.the-variants.{WellFormed, Malformed as MalformedLine}
+use Rattle.outgoing_field.specs.declared.HeldField.the-variants.{Absent, At as HeldAt}
+use Rattle.header_line.specs.Lines.{checkedLines}
+use Rattle.header.specs.Fields.{fieldsOf, valueOf}
+use Rattle.rules.specs.declared.Rules.the-variants.{Spool}
+use Rattle.outgoing_field.specs.Fate.{fieldSegments, heldOf}
+use Rattle.call.specs.OutgoingHeader.{newFields, outgoingSegments, outgoingHeader}
+use Rattle.call.specs.Outcome.{Outcome}
 
 -- ---- demand 1: "Every input of bytes is taken: downgraded, or refused by one of the numbers 1 to 8 under the exact condition of
 -- that number. A refusal writes to neither buffer. A success gives both lengths and touches nothing past them."
@@ -41,7 +41,7 @@ pub record EnvelopePasses (e h : List ℕ) : Type 0 where
 -- and no header line is malformed,
 pub record HeaderPasses (e h : List ℕ) : Type 0 where
   pub envelope : EnvelopePasses e h
-  pub lines : linesOf h ≡ WellFormed
+  pub lines : checkedLines h ≡ WellFormed
 
 -- and no ORCPT carries non-ASCII,
 pub record OrcptPasses (e h : List ℕ) : Type 0 where
@@ -51,7 +51,7 @@ pub record OrcptPasses (e h : List ℕ) : Type 0 where
 -- and no held field does.
 pub record Passes (e h : List ℕ) : Type 0 where
   pub orcpt : OrcptPasses e h
-  pub held : heldOf h ≡ Absent
+  pub held : heldOf Spool h ≡ Absent
 
 -- The table "Answers by number": a number and a place, and when they are given, by the order of the refusals.
 pub data Given (e h b c : List ℕ) : ℕ → ℕ → Type 0 where
@@ -60,9 +60,9 @@ pub data Given (e h b c : List ℕ) : ℕ → ℕ → Type 0 where
   envelope-malformed : {line : ℕ} → InLimits e h → checked e ≡ Refused Malformed line → Given e h b c 2 line
   no-alternative : {line : ℕ} → InLimits e h → checked e ≡ Refused NoAlternative line → Given e h b c 3 line
   bad-alternative : {line : ℕ} → InLimits e h → checked e ≡ Refused BadAlternative line → Given e h b c 4 line
-  header-malformed : {line at : ℕ} → EnvelopePasses e h → linesOf h ≡ MalformedLine line at → Given e h b c 5 line
+  header-malformed : {line at : ℕ} → EnvelopePasses e h → checkedLines h ≡ MalformedLine line at → Given e h b c 5 line
   orcpt-non-ascii : {line : ℕ} → HeaderPasses e h → orcptLine e ≡ At line → Given e h b c 6 line
-  held-non-ascii : {line at : ℕ} → OrcptPasses e h → heldOf h ≡ HeldAt line at → Given e h b c 6 line
+  held-non-ascii : {line at : ℕ} → OrcptPasses e h → heldOf Spool h ≡ HeldAt line at → Given e h b c 6 line
   envelope-longer : Passes e h → length b < length (written e) → Given e h b c 7 (length (written e))
   header-longer : Passes e h → length (written e) ≤ length b → length c < length (outgoingHeader e h) → Given e h b c 8 (length (outgoingHeader e h))
   none-holds : Passes e h → length (written e) ≤ length b → length (outgoingHeader e h) ≤ length c → Given e h b c 0 0
@@ -93,7 +93,7 @@ pub record Demand1 (e h b c : List ℕ) (o : Outcome) : Type 0 where
 
 -- what becomes of a field of the header
 abbrev pub became : List ℕ → List ℕ
-became field = rendered (fieldSegments addressField field)
+became field = rendered (fieldSegments Spool field)
 
 pub record Demand2 (e h : List ℕ) (o : Outcome) : Type 0 where
   -- what stands in the buffers
@@ -114,15 +114,21 @@ pub record Demand2 (e h : List ℕ) (o : Outcome) : Type 0 where
 -- encoded words of something, that something .. is a text, and the bytes written there for it are its row. Each such occurrence
 -- counts by itself."
 
--- where a rule asks for encoded words of a text, between these segments, the header in the buffer has bytes that are a row as
--- demand 3 wants it
-pub record RowThere (o : Outcome) (before : List Segment) (text : List ℕ) (after : List Segment) : Type 0 where
+-- what a segment asks for: the encoded words of a text, by themselves or after a label
+pub data Asks : Segment → List ℕ → List ℕ → Type 0 where
+  unlabelled : (text : List ℕ) → Asks (words text) [] text
+  afterLabel : (label text : List ℕ) → Asks (labelled label text) label text
+
+-- where a rule asks for encoded words of a text, between these segments and after a label, the header in the buffer has bytes that are
+-- a row as demand 3 wants it
+pub record RowThere (o : Outcome) (before : List Segment) (label text : List ℕ) (after : List Segment) : Type 0 where
   pub row : List ℕ
-  pub there : take (o .headerLen) (o .headerBuffer) ≡ rendered before ++ (row ++ rendered after)
+  pub there : take (o .headerLen) (o .headerBuffer) ≡ rendered before ++ (label ++ (row ++ rendered after))
   pub demand : Demand3 text row
 
 abbrev pub DemandThree : List ℕ → List ℕ → Outcome → Type 0
-DemandThree e h o = (before : List Segment) (text : List ℕ) (after : List Segment) → outgoingSegments e h ≡ before ++ (words text ∷ after) → RowThere o before text after
+DemandThree e h o = (before : List Segment) (s : Segment) (after : List Segment) → outgoingSegments e h ≡ before ++ (s ∷ after)
+    → (label text : List ℕ) → Asks s label text → RowThere o before label text after
 
 -- ---- all three
 

@@ -1,21 +1,22 @@
 -- The three demands hold of the outcome. Assumes nothing.
 use mathlib.Core.Path.{_≡_, refl, ap, _∙_}
 use mathlib.Core.Bool.{true}
-use mathlib.Core.List.{List, [], _∷_, _++_, map, List·Memᴰ, List·Memᴰ·head, List·Memᴰ·tail}
+use mathlib.Core.List.{List, [], _∷_, _++_, append-assoc, map, List·Memᴰ, List·Memᴰ·head, List·Memᴰ·tail}
 use Prim.Native.Nat.{ℕ, zero, suc, _+_, _≤_}
 use native.Mathlib.Omega.{arith}
 use lib.Dec.{T, ltb}
 use lib.ListN.{length, drop}
 use mir.Facts.{ltb-yes, ltb-no, yes-and}
-use Rattle.utf8.specs.Byte.{isAscii}
+use Rattle.lists.specs.Byte.{isAscii}
 use Rattle.utf8.specs.Utf8.{utf8}
-use Rattle.utf8.specs.Lists.{by-test, all, all-append, joined}
+use Rattle.lists.specs.Lists.{all, joined}
+use Rattle.lists.specs.ListsLaws.{by-test, all-append}
 use Rattle.buffer.specs.Buffer.{overlay}
 use Rattle.buffer.specs.BufferLaws.{length-overlay, overlay-front, overlay-past}
-use Rattle.encoded_word.specs.Row.{row}
+use Rattle.row.specs.Row.{row}
 use Rattle.encoded_word.specs.Segments.{Segment, rendered, sound}
-use Rattle.encoded_word.specs.Segments.Segment.{raw, words}
-use Rattle.encoded_word.specs.SegmentsLaws.{rendered-append, rendered-ascii, words-demand-3}
+use Rattle.encoded_word.specs.SegmentsLaws.{rendered-append, rendered-ascii, words-demand-3, labelled-demand-3}
+use Rattle.encoded_word.specs.Demand3.{Demand3}
 use Rattle.letter_case.specs.LetterCase.{bytes}
 use Rattle.envelope_line.specs.declared.Fault.{Fault}
 use Rattle.envelope_line.specs.declared.Fault.the-variants.{Fine, Malformed, NoAlternative, BadAlternative}
@@ -23,54 +24,31 @@ use Rattle.envelope.specs.declared.Checked.{Checked}
 use Rattle.envelope.specs.declared.Checked.the-variants.{Passed, Refused}
 use Rattle.envelope.specs.declared.Orcpt.{Orcpt}
 use Rattle.envelope.specs.declared.Orcpt.the-variants.{Clean, At}
-use Rattle.envelope.specs.Envelope.{frontFault, thenNext, rcptFault, rcptsFrom, checked, numberOf as checkedNumber, faultNumber, orcptLine, written, mailReplacement, rcptReplacement}
+use Rattle.envelope.specs.Envelope.{checked, faultNumber, orcptLine, written, mailReplacement, rcptReplacement}
+use Rattle.envelope.specs.PassedLaws.{checked-not-fine}
 use Rattle.envelope.specs.AsciiLaws.{written-ascii}
 use Rattle.envelope.specs.ReplacementLaws.{mail-replacement-utf8, rcpt-replacement-utf8}
-use Rattle.line.specs.Line.{lineLen}
-use Rattle.header.specs.declared.Lines.{Lines}
-use Rattle.header.specs.declared.Lines.the-variants.{WellFormed, Malformed as MalformedLine}
-use Rattle.header.specs.declared.HeldField.{HeldField}
-use Rattle.header.specs.declared.HeldField.the-variants.{Absent, At as HeldAt}
-use Rattle.header.specs.Lines.{linesOf}
-use Rattle.header.specs.Fields.{fieldsOf, heldOf}
+use Rattle.header_line.specs.declared.LineCheck.{LineCheck}
+use Rattle.header_line.specs.declared.LineCheck.the-variants.{WellFormed, Malformed as MalformedLine}
+use Rattle.outgoing_field.specs.declared.HeldField.{HeldField}
+use Rattle.outgoing_field.specs.declared.HeldField.the-variants.{Absent, At as HeldAt}
+use Rattle.header_line.specs.Lines.{checkedLines}
+use Rattle.header.specs.Fields.{fieldsOf}
+use Rattle.rules.specs.declared.Rules.the-variants.{Spool}
 use Rattle.header.specs.FieldLaws.{fields-joined}
-use Rattle.field.specs.Field.{fieldSegments, headerSegments}
-use Rattle.field.specs.FieldSound.{field-copied, header-sound}
-use Rattle.address_pieces.specs.AddressField.{addressField}
-use Rattle.address_pieces.specs.AddressFieldLaws.{address-field-sound}
-use Rattle.hennelaku.specs.declared.Refusal.the-variants.{EnvelopeOver, HeaderOver, EnvelopeNeeds, HeaderNeeds}
-use Rattle.hennelaku.specs.declared.Verdict.{Verdict}
-use Rattle.hennelaku.specs.declared.Verdict.the-variants.{Accept, Refuse}
-use Rattle.hennelaku.specs.OutgoingHeader.{newField, newFields, outgoingSegments, outgoingHeader}
-use Rattle.hennelaku.specs.Outcome.{numberOf, placeOf, ofEnvelope, ofLines, ofOrcpt, ofHeld, firstOf, verdict, Outcome, outcomeOf, outcome}
-use Rattle.hennelaku.specs.OutputLaws.{over-yes, over-no}
-use Rattle.demands.specs.Demands.{InLimits, EnvelopePasses, HeaderPasses, OrcptPasses, Passes, Given, Untouched, KeptPast, Demand1, became, Demand2, RowThere, DemandThree, Demands}
+use Rattle.field.specs.FieldLaws.{labelled-sound}
+use Rattle.outgoing_field.specs.Fate.{segmentsOf, fieldSegments, headerSegments, heldOf}
+use Rattle.outgoing_field.specs.FateLaws.{field-copied}
+use Rattle.outgoing_field.specs.OwedLaws.{owed-header}
+use Rattle.call.specs.declared.Refusal.the-variants.{EnvelopeOver, HeaderOver, EnvelopeNeeds, HeaderNeeds}
+use Rattle.call.specs.declared.Verdict.{Verdict}
+use Rattle.call.specs.declared.Verdict.the-variants.{Accept, Refuse}
+use Rattle.call.specs.OutgoingHeader.{newField, newFields, outgoingSegments, outgoingHeader}
+use Rattle.call.specs.Outcome.{numberOf, placeOf, ofEnvelope, ofLines, ofOrcpt, ofHeld, firstOf, verdict, Outcome, outcomeOf, outcome}
+use Rattle.call.specs.OutputLaws.{over-yes, over-no}
+use Rattle.demands.specs.Demands.{InLimits, EnvelopePasses, HeaderPasses, OrcptPasses, Passes, Given, Untouched, KeptPast, Demand1, became, Demand2, Asks, RowThere, DemandThree, Demands}
+use Rattle.demands.specs.Demands.Asks.{unlabelled, afterLabel}
 use Rattle.demands.specs.Demands.Given.{envelope-over, header-over, envelope-malformed, no-alternative, bad-alternative, header-malformed, orcpt-non-ascii, held-non-ascii, envelope-longer, header-longer, none-holds}
-
--- ---- a refused envelope has a line at fault
-
-fine-never : {fault : Fault} {n line : ℕ} → Refused fault n ≡ Refused Fine line → (faultNumber fault ≡ 0 → ⊥) → ⊥
-unfolding checkedNumber faultNumber
-fine-never {fault} e k = k (ap checkedNumber e)
-
-next-not-fine : (fault : Fault) (n line : ℕ) (next : Checked) → (next ≡ Refused Fine line → ⊥) → thenNext fault n next ≡ Refused Fine line → ⊥
-unfolding thenNext faultNumber
-next-not-fine Fine n line next k e = k e
-next-not-fine Malformed n line next k e = fine-never e (λ z. omega arith)
-next-not-fine NoAlternative n line next k e = fine-never e (λ z. omega arith)
-next-not-fine BadAlternative n line next k e = fine-never e (λ z. omega arith)
-
-rcpts-not-fine : (k n line : ℕ) (e : List ℕ) → rcptsFrom k n e ≡ Refused Fine line → ⊥
-unfolding rcptsFrom faultNumber
-rcpts-not-fine k zero line [] q = fine-never q (λ z. omega arith)
-rcpts-not-fine k (suc n) line [] q = let z : _≡_ {A = ℕ} 0 1 = cc in omega arith
-rcpts-not-fine (suc k) n line (b ∷ e) q = rcpts-not-fine k n line e q
-rcpts-not-fine zero n line (b ∷ e) q =
-    next-not-fine (rcptFault n (b ∷ e)) (suc n) line (rcptsFrom (suc (lineLen (b ∷ e))) (suc n) e) (rcpts-not-fine (suc (lineLen (b ∷ e))) (suc n) line e) q
-
-checked-not-fine : (e : List ℕ) (line : ℕ) → checked e ≡ Refused Fine line → ⊥
-unfolding checked
-checked-not-fine e line q = next-not-fine (frontFault true e) 0 line (rcptsFrom 0 0 (drop (lineLen e + 2) e)) (rcpts-not-fine 0 0 line (drop (lineLen e + 2) e)) q
 
 -- ---- demand 1
 
@@ -129,15 +107,15 @@ module _ (e h b c : List ℕ) where
       (λ u. found (header-longer p k (ltb-yes {a = length c} {b = length (outgoingHeader e h)} u)))
       (λ u. found (none-holds p k (ltb-no {a = length c} {b = length (outgoingHeader e h)} u))))
 
-  some-held : OrcptPasses e h → (found : HeldField) → heldOf h ≡ found → Some
+  some-held : OrcptPasses e h → (found : HeldField) → heldOf Spool h ≡ found → Some
   some-held p Absent k = some-room (record { orcpt = p; held = k })
   some-held p (HeldAt line at) k = found (held-non-ascii p k)
 
   some-orcpt : HeaderPasses e h → (found : Orcpt) → orcptLine e ≡ found → Some
-  some-orcpt p Clean k = some-held (record { header = p; orcpt = k }) (heldOf h) refl
+  some-orcpt p Clean k = some-held (record { header = p; orcpt = k }) (heldOf Spool h) refl
   some-orcpt p (At line) k = found (orcpt-non-ascii p k)
 
-  some-header : EnvelopePasses e h → (found : Lines) → linesOf h ≡ found → Some
+  some-header : EnvelopePasses e h → (found : LineCheck) → checkedLines h ≡ found → Some
   some-header p WellFormed k = some-orcpt (record { envelope = p; lines = k }) (orcptLine e) refl
   some-header p (MalformedLine line at) k = found (header-malformed p k)
 
@@ -148,7 +126,7 @@ module _ (e h b c : List ℕ) where
   some-fault s BadAlternative line k = found (bad-alternative s k)
 
   some-envelope : InLimits e h → (found : Checked) → checked e ≡ found → Some
-  some-envelope s (Passed count) k = some-header (record { limits = s; recipients = count; lines = k }) (linesOf h) refl
+  some-envelope s (Passed count) k = some-header (record { limits = s; recipients = count; lines = k }) (checkedLines h) refl
   some-envelope s (Refused fault line) k = some-fault s fault line k
 
   some : Some
@@ -222,47 +200,52 @@ module _ (e h b c : List ℕ) where
 
 -- ---- demands 2 and 3
 
-new-field-sound : (name text : List ℕ) → T (all isAscii name) → T (utf8 text) → T (all sound (newField name text))
+new-field-sound : (label text : List ℕ) → T (all isAscii label) → T (utf8 text) → T (all sound (newField label text))
 unfolding newField
-new-field-sound name [] a u = tt
-new-field-sound name (x ∷ text) a u = yes-and (all isAscii name) (all sound (words (x ∷ text) ∷ raw (13 ∷ 10 ∷ []) ∷ [])) a (yes-and (utf8 (x ∷ text)) true u tt)
+new-field-sound label [] a u = tt
+new-field-sound label (x ∷ text) a u = labelled-sound label (x ∷ text) a u
 
-became-all : (fields : List (List ℕ)) → rendered (joined (map (fieldSegments addressField) fields)) ≡ joined (map became fields)
+became-all : (fields : List (List ℕ)) → rendered (joined (map (fieldSegments Spool) fields)) ≡ joined (map became fields)
 unfolding rendered
 became-all [] = refl
 became-all (field ∷ fields) =
-    rendered-append (fieldSegments addressField field) (joined (map (fieldSegments addressField) fields)) ∙ ap (λ (l : List ℕ). became field ++ l) (became-all fields)
+    rendered-append (fieldSegments Spool field) (joined (map (fieldSegments Spool) fields)) ∙ ap (λ (l : List ℕ). became field ++ l) (became-all fields)
 
 mem-at : (before : List Segment) (s : Segment) (after : List Segment) → List·Memᴰ s (before ++ (s ∷ after))
 mem-at [] s after = List·Memᴰ·head refl
 mem-at (x ∷ before) s after = List·Memᴰ·tail (mem-at before s after)
 
-rendered-words : (text : List ℕ) (after : List Segment) → rendered (words text ∷ after) ≡ row text ++ rendered after
+rendered-asked : {s : Segment} {label text : List ℕ} → Asks s label text → (after : List Segment) → rendered (s ∷ after) ≡ label ++ (row text ++ rendered after)
 unfolding rendered
-rendered-words text after = refl
+rendered-asked (unlabelled text) after = refl
+rendered-asked (afterLabel label text) after = append-assoc label (row text) (rendered after)
+
+asked-demand-3 : (ss : List Segment) {s : Segment} {label text : List ℕ} → Asks s label text → T (all sound ss) → List·Memᴰ s ss → Demand3 text (row text)
+asked-demand-3 ss (unlabelled text) h m = words-demand-3 ss text h m
+asked-demand-3 ss (afterLabel label text) h m = labelled-demand-3 ss label text h m
 
 module _ (e h : List ℕ) (p : Passes e h) where
-  rendered-at : (before : List Segment) (text : List ℕ) (after : List Segment) → outgoingSegments e h ≡ before ++ (words text ∷ after)
-      → outgoingHeader e h ≡ rendered before ++ (row text ++ rendered after)
+  rendered-at : (before : List Segment) (s : Segment) (after : List Segment) → outgoingSegments e h ≡ before ++ (s ∷ after) → {label text : List ℕ} → Asks s label text
+      → outgoingHeader e h ≡ rendered before ++ (label ++ (row text ++ rendered after))
   unfolding outgoingHeader
-  rendered-at before text after q =
-      ap rendered q ∙ rendered-append before (words text ∷ after) ∙ ap (λ (l : List ℕ). rendered before ++ l) (rendered-words text after)
+  rendered-at before s after q a =
+      ap rendered q ∙ rendered-append before (s ∷ after) ∙ ap (λ (l : List ℕ). rendered before ++ l) (rendered-asked a after)
 
   segments-sound : T (all sound (outgoingSegments e h))
-  unfolding outgoingSegments newFields bytes
+  unfolding outgoingSegments newFields bytes segmentsOf
   segments-sound =
       let q = p .orcpt .header in
       let mail = mail-replacement-utf8 e (q .envelope .recipients) (q .envelope .lines) in
-      all-append sound (newFields e) (headerSegments addressField h)
+      all-append sound (newFields e) (headerSegments Spool h)
       (all-append sound (newField (bytes "Downgraded-Mail-From:") (mailReplacement e)) (newField (bytes "Downgraded-Rcpt-To:") (rcptReplacement e))
       (new-field-sound (bytes "Downgraded-Mail-From:") (mailReplacement e) tt mail)
-      (new-field-sound (bytes "Downgraded-Rcpt-To:") (rcptReplacement e) tt (rcpt-replacement-utf8 e)))
-      (header-sound address-field-sound h (q .lines))
+      (new-field-sound (bytes "Downgraded-Rcpt-To:") (rcptReplacement e) tt (rcpt-replacement-utf8 e (q .envelope .recipients) (q .envelope .lines))))
+      (owed-header Spool h (q .lines) .sound-all)
 
   field-after-field : outgoingHeader e h ≡ rendered (newFields e) ++ joined (map became (fieldsOf h))
   unfolding outgoingHeader outgoingSegments headerSegments
   field-after-field =
-      rendered-append (newFields e) (headerSegments addressField h) ∙ ap (λ (l : List ℕ). rendered (newFields e) ++ l) (became-all (fieldsOf h))
+      rendered-append (newFields e) (headerSegments Spool h) ∙ ap (λ (l : List ℕ). rendered (newFields e) ++ l) (became-all (fieldsOf h))
 
   written-out-ascii : T (all isAscii (outgoingHeader e h))
   unfolding outgoingHeader
@@ -282,14 +265,14 @@ module _ (e h : List ℕ) (p : Passes e h) where
           header-ascii = written-out-ascii;
           fields = field-after-field;
           whole = fields-joined h;
-          copied = field-copied addressField;
+          copied = field-copied Spool;
         })
 
     outcome-demand-3 : DemandThree e h (outcome e h b c)
-    outcome-demand-3 before text after q = record {
+    outcome-demand-3 before s after q label text a = record {
       row = row text;
-      there = outcome-demand-2 .header ∙ rendered-at before text after q;
-      demand = words-demand-3 (outgoingSegments e h) text segments-sound (rw q (mem-at before (words text) after));
+      there = outcome-demand-2 .header ∙ rendered-at before s after q a;
+      demand = asked-demand-3 (outgoingSegments e h) a segments-sound (rw q (mem-at before s after));
     }
 
 -- All three, of every envelope, every header and every two buffers.

@@ -7,8 +7,8 @@ use Prim.Native.Nat.{ℕ}
 use lib.Dec.{eqb, eqb→eq}
 use mir.Facts.{eqb-no}
 use lib.ListN.{length, take, drop, take-append-drop}
-use Rattle.utf8.specs.Lists.{by-test}
-use Rattle.hennelaku.specs.Outcome.{Outcome, outcome}
+use Rattle.lists.specs.ListsLaws.{by-test}
+use Rattle.call.specs.Outcome.{Outcome, outcome}
 use Rattle.demands.specs.Demands.{Given, Untouched, KeptPast, Demand1, Demand2, Demands}
 use Rattle.demands.specs.DemandsLaws.{demands}
 

@@ -6,8 +6,8 @@ use Prim.Native.Nat.{ℕ, _≤_}
 use lib.Dec.{T}
 use lib.ListN.{length}
 use Rattle.utf8.specs.Utf8.{utf8}
-use Rattle.encoded_word.specs.Spelling.{spellByte}
-use Rattle.encoded_word.specs.Reading.{Word, wordsOf, readsAs, added, wordBytes}
+use Rattle.word_spelling.specs.Spelling.{spellByte}
+use Rattle.encoded_word.specs.Reading.{Word, wordsRead, readsAs, added, wordBytes}
 
 -- "A word is in our spelling when each byte it adds stands there as Encoded words writes that byte."
 abbrev pub InSpelling : Word → Type 0
@@ -31,11 +31,11 @@ AllProper limit (w ∷ ws) = Proper limit w × AllProper limit ws
 pub record Demand3In (limit : ℕ) (text row : List ℕ) : Type 0 where
   pub reads : readsAs row ≡ some text
   pub words : List Word
-  pub has : wordsOf row ≡ some words
+  pub has : wordsRead row ≡ some words
   pub proper : AllProper limit words
   -- "Demand 3 sets our row against all rows of such words, however made, and whatever CRLF and spaces part them": the other
   -- row's words too are in our spelling, have at most `limit` characters and hold whole characters. Else one long word would do.
-  pub fewest : (other : List ℕ) (ws : List Word) → readsAs other ≡ some text → wordsOf other ≡ some ws → AllProper limit ws
+  pub fewest : (other : List ℕ) (ws : List Word) → readsAs other ≡ some text → wordsRead other ≡ some ws → AllProper limit ws
       → length words ≤ length ws
 
 -- Demand 3: "each word is at most 75 characters"

@@ -1,6 +1,5 @@
 -- Demand 3 holds of every text of UTF-8 and its row. Proved once over the room of a word. Assumes nothing.
 use mathlib.Core.Path.{_≡_, refl, sym, ap, _∙_}
-use mathlib.Core.Bool.{Bool}
 use mathlib.Core.List.{List, [], _∷_, _++_, append-nil, map, nil≢cons, List·Memᴰ, List·Memᴰ·head, List·Memᴰ·tail}
 use mathlib.Core.Option.{some}
 use Prim.Native.Nat.{ℕ, suc, _+_, _≤_, _<_}
@@ -8,17 +7,18 @@ use native.Mathlib.Omega.{arith}
 use lib.ListN.{length, length-append, length-map}
 use lib.Dec.{T, leb→le, le→leb, lit≤}
 use mir.Facts.{and-yes}
-use Rattle.utf8.specs.Lists.{all, all-append, all-joined, all-mem, nonempty, joined, joined-append, joined-map}
-use Rattle.utf8.specs.Byte.{isByte}
+use Rattle.lists.specs.Lists.{all, nonempty, joined}
+use Rattle.lists.specs.ListsLaws.{all-append, all-joined, all-mem, joined-append, joined-map}
+use Rattle.lists.specs.Byte.{isByte}
 use Rattle.utf8.specs.Utf8.{isChar, chars, utf8}
 use Rattle.utf8.specs.Utf8Laws.{chars-joined, chars-of, utf8-of, utf8-bytes, char-length}
-use Rattle.encoded_word.specs.Cut.{AllFit}
-use Rattle.encoded_word.specs.CutLaws.{cut-joined, cut-fits, cut-some, fewest}
-use Rattle.encoded_word.specs.Spelling.{spellByte, spell}
-use Rattle.encoded_word.specs.SpellingLaws.{spell-byte-some, length-spell, length-spell-append, length-spell-joined}
-use Rattle.encoded_word.specs.Reading.{Word, added, standing, wordBytes, wordsOf, textOf, opening, closing}
+use Rattle.cut.specs.Cut.{AllFit}
+use Rattle.cut.specs.CutLaws.{cut-joined, cut-fits, cut-some, fewest}
+use Rattle.word_spelling.specs.Spelling.{spellByte, spell}
+use Rattle.word_spelling.specs.SpellingLaws.{spell-byte-some, length-spell, length-spell-append, length-spell-joined}
+use Rattle.encoded_word.specs.Reading.{Word, added, standing, wordBytes, wordsRead, textOf}
+use Rattle.row.specs.Row.{opening, closing, fitsRoom, runs, word, rowIn, row}
 use Rattle.encoded_word.specs.ReadingLaws.{ours, ours-standing, words-of-lines, reads-as, words-text}
-use Rattle.encoded_word.specs.Row.{fitsRoom, runs, word, rowIn, row}
 use Rattle.encoded_word.specs.Demand3.{InSpelling, AllProper, Demand3In, Demand3}
 
 -- a word is its opening and closing, 12 characters, and what stands between
@@ -131,7 +131,7 @@ ours-proper room k (r ∷ rs) f h =
 pub rowWords : ℕ → List ℕ → List Word
 rowWords room text = map ours (map joined (runs room (chars text)))
 
-pub row-reads : (room : ℕ) (text : List ℕ) → T (utf8 text) → wordsOf (rowIn room text) ≡ some (rowWords room text)
+pub row-reads : (room : ℕ) (text : List ℕ) → T (utf8 text) → wordsRead (rowIn room text) ≡ some (rowWords room text)
 unfolding rowIn rowWords
 row-reads room text h =
     words-of-lines (map joined (runs room (chars text)))

@@ -7,13 +7,13 @@ use mathlib.Core.Bool.{Bool, true, false}
 use mathlib.Core.List.{List, [], _∷_, _++_}
 use mathlib.Core.Option.{some}
 use Prim.Native.Nat.{ℕ, _+_, _*_, _≤_}
-use Rattle.encoded_word.specs.Reading.{Word, wordBytes, hexValue}
+use Rattle.encoded_word.specs.Reading.{Word, wordBytes, anyCaseValue}
 
 -- These bytes of a word add this byte: "`_` adds byte 32. `=` with two hex digits in any case adds that byte. [..] Any other
 -- byte 33 to 126 except `?` and `=` adds itself.", so not `_` either. 95 is `_`, 61 is `=`, 63 is `?`.
 pub data Adds : List ℕ → ℕ → Type 0 where
   underscore : Adds (95 ∷ []) 32
-  hex : {first second high low : ℕ} → hexValue first ≡ some high → hexValue second ≡ some low
+  hex : {first second high low : ℕ} → anyCaseValue first ≡ some high → anyCaseValue second ≡ some low
       → Adds (61 ∷ first ∷ second ∷ []) (high * 16 + low)
   itself : {b : ℕ} → 33 ≤ b → b ≤ 126 → b ≢ 63 → b ≢ 61 → b ≢ 95 → Adds (b ∷ []) b
 

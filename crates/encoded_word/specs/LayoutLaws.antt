@@ -8,9 +8,11 @@ use native.Mathlib.Omega.{arith}
 use lib.Dec.{T, eqb, eqb→eq}
 use lib.ListN.{drop}
 use mir.Facts.{and-yes, no-eqb, eqb-no}
-use Rattle.utf8.specs.Lists.{cond-yes, cond-no}
-use Rattle.utf8.specs.Byte.{within, within-low, within-high, to-within}
-use Rattle.encoded_word.specs.Reading.{Word, standing, wordBytes, opening, closing, State, role, hexValue, stepBetween, stepOpens, stepInWord, stepDigit, stepSecond, step, reading, finish, wordsOf}
+use Rattle.lists.specs.ListsLaws.{cond-yes, cond-no}
+use Rattle.lists.specs.Byte.{within}
+use Rattle.lists.specs.ByteLaws.{within-low, within-high, to-within}
+use Rattle.encoded_word.specs.Reading.{Word, standing, wordBytes, State, role, anyCaseValue, stepBetween, stepOpens, stepInWord, stepDigit, stepSecond, step, reading, finish, wordsRead}
+use Rattle.row.specs.Row.{opening, closing}
 use Rattle.encoded_word.specs.Reading.State.{fault, between, afterCr, opens, inWord, afterEquals, afterDigit, closes}
 use Rattle.encoded_word.specs.Reading.Role.{itself}
 use Rattle.encoded_word.specs.Layout.{Adds, AllAdd, LaidAfter, Laid}
@@ -64,8 +66,8 @@ laid-finish vs (word {row} {w} h l) =
     rw (read-word vs w row h, laid-finish (vs ++ (w ∷ [])) l, append-assoc) refl
 
 -- a row laid out so reads as its words
-pub laid-reads : {row : List ℕ} {ws : List Word} → Laid row ws → wordsOf row ≡ some ws
-unfolding wordsOf
+pub laid-reads : {row : List ℕ} {ws : List Word} → Laid row ws → wordsRead row ≡ some ws
+unfolding wordsRead
 laid-reads l = laid-finish [] l
 
 -- ---- from the reading to the layout
@@ -103,7 +105,7 @@ Rest (afterCr vs) row ws = (straight : Bool) → Left straight vs (13 ∷ row) w
 Rest (opens more vs) row ws = LeftOpening vs more row ws
 Rest (inWord vs w) row ws = LeftIn vs w row ws
 Rest (afterEquals vs w) row ws = LeftIn vs w (61 ∷ row) ws
-Rest (afterDigit vs w first high) row ws = hexValue first ≡ some high → LeftIn vs w (61 ∷ first ∷ row) ws
+Rest (afterDigit vs w first high) row ws = anyCaseValue first ≡ some high → LeftIn vs w (61 ∷ first ∷ row) ws
 Rest (closes vs w) row ws = LeftIn vs w (63 ∷ row) ws
 
 module _ (row : List ℕ) (ws : List Word) where
@@ -154,12 +156,12 @@ module _ (row : List ℕ) (ws : List Word) where
       (Adds.itself (within-low 33 126 b z) (within-high 33 126 b z) (eqb-no {a = b} {b = 63} v) (eqb-no {a = b} {b = 61} u) (eqb-no {a = b} {b = 95} t)) l)
       (λ z n. absurd n))))
 
-  back-first : (o : Option ℕ) (vs : List Word) (w : Word) (b : ℕ) → hexValue b ≡ o → Rest (stepDigit o vs w b) row ws
+  back-first : (o : Option ℕ) (vs : List Word) (w : Word) (b : ℕ) → anyCaseValue b ≡ o → Rest (stepDigit o vs w b) row ws
       → LeftIn vs w (61 ∷ b ∷ row) ws
   back-first none vs w b e r = absurd r
   back-first (some high) vs w b e r = r e
 
-  back-second : (o : Option ℕ) (vs : List Word) (w : Word) (first high b : ℕ) → hexValue b ≡ o → hexValue first ≡ some high
+  back-second : (o : Option ℕ) (vs : List Word) (w : Word) (first high b : ℕ) → anyCaseValue b ≡ o → anyCaseValue first ≡ some high
       → Rest (stepSecond o vs w first high b) row ws → LeftIn vs w (61 ∷ first ∷ b ∷ row) ws
   back-second none vs w first high b e f r = absurd r
   back-second (some low) vs w first high b e f r =
@@ -175,8 +177,8 @@ module _ (row : List ℕ) (ws : List Word) where
       (λ t l. rw (eqb→eq b 10 t) (record { more = l .more; laid = crlf (l .laid); are = l .are })) (λ t n. absurd n)
   back-step (opens more vs) b r = back-opens more vs b r
   back-step (inWord vs w) b r = back-in-word vs w b r
-  back-step (afterEquals vs w) b r = back-first (hexValue b) vs w b refl r
-  back-step (afterDigit vs w first high) b r = λ f. back-second (hexValue b) vs w first high b refl f r
+  back-step (afterEquals vs w) b r = back-first (anyCaseValue b) vs w b refl r
+  back-step (afterDigit vs w first high) b r = λ f. back-second (anyCaseValue b) vs w first high b refl f r
   back-step (closes vs w) b r =
       by-cond (λ s. Rest s row ws) (eqb b 61) _ _ r
       (λ t l. rw (eqb→eq b 61 t) (record { more = []; add = tt; rest = row; left = rw append-nil l; is = refl })) (λ t n. absurd n)
@@ -200,6 +202,6 @@ back s [] ws e = back-end s ws e
 back s (b ∷ row) ws e = back-step row ws s b (back (step s b) row ws e)
 
 -- a row that reads is laid out so
-pub laid-out : (row : List ℕ) (ws : List Word) → wordsOf row ≡ some ws → Laid row ws
-unfolding wordsOf
+pub laid-out : (row : List ℕ) (ws : List Word) → wordsRead row ≡ some ws → Laid row ws
+unfolding wordsRead
 laid-out row ws e = let l = back (between false []) row ws e in rw (l .are) (l .laid)

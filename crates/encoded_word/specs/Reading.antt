@@ -6,8 +6,9 @@ use mathlib.Core.Option.{Option, none, some, Option·map}
 use Prim.Native.Nat.{ℕ, _+_, _-_, _*_}
 use lib.Dec.{eqb}
 use lib.ListN.{drop}
-use Rattle.utf8.specs.Byte.{within}
-use Rattle.utf8.specs.Lists.{joined}
+use Rattle.lists.specs.Byte.{within}
+use Rattle.lists.specs.Lists.{joined}
+use Rattle.row.specs.Row.{opening, closing}
 
 -- the bytes that stand in a word for one byte that it adds, and that byte
 abbrev pub Addition : Type 0
@@ -16,14 +17,6 @@ Addition = List ℕ × ℕ
 -- what a word adds, in order
 abbrev pub Word : Type 0
 Word = List Addition
-
--- `=?UTF-8?Q?`
-abbrev pub opening : List ℕ
-opening = 61 ∷ 63 ∷ 85 ∷ 84 ∷ 70 ∷ 45 ∷ 56 ∷ 63 ∷ 81 ∷ 63 ∷ []
-
--- `?=`
-abbrev pub closing : List ℕ
-closing = 63 ∷ 61 ∷ []
 
 -- The state of the reading, with the words closed so far and, in a word, what it has added so far. A row without a fault
 -- closes every word that it opens, so the words closed at its end are those that it opens.
@@ -51,8 +44,8 @@ unfoldable pub role : ℕ → Role
 role b = cond (eqb b 95) underscore (cond (eqb b 61) equals (cond (eqb b 63) question (cond (within 33 126 b) itself other)))
 
 -- the value of a hex digit in any case: 0 to 9, A to F, a to f
-unfoldable pub hexValue : ℕ → Option ℕ
-hexValue b = cond (within 48 57 b) (some (b - 48)) (cond (within 65 70 b) (some (b - 55)) (cond (within 97 102 b) (some (b - 87)) none))
+unfoldable pub anyCaseValue : ℕ → Option ℕ
+anyCaseValue b = cond (within 48 57 b) (some (b - 48)) (cond (within 65 70 b) (some (b - 55)) (cond (within 97 102 b) (some (b - 87)) none))
 
 -- "Between words: CRLF and spaces add nothing. `=?UTF-8?Q?` opens a word; straight after the `?=` of another it is a fault."
 -- 32 is the space, 13 is CR, 61 is `=`.
@@ -95,8 +88,8 @@ step (between straight ws) b = stepBetween straight ws b
 step (afterCr ws) b = cond (eqb b 10) (between false ws) fault
 step (opens more ws) b = stepOpens more ws b
 step (inWord ws w) b = stepInWord (role b) ws w b
-step (afterEquals ws w) b = stepDigit (hexValue b) ws w b
-step (afterDigit ws w first high) b = stepSecond (hexValue b) ws w first high b
+step (afterEquals ws w) b = stepDigit (anyCaseValue b) ws w b
+step (afterDigit ws w first high) b = stepSecond (anyCaseValue b) ws w first high b
 step (closes ws w) b = cond (eqb b 61) (between true (ws ++ (w ∷ []))) fault
 
 -- the bytes of a row read one after another
@@ -116,8 +109,8 @@ finish (afterDigit ws w first high) = none
 finish (closes ws w) = none
 
 -- the words of a row of bytes, or none where it has a fault
-unfoldable pub wordsOf : List ℕ → Option (List Word)
-wordsOf row = finish (reading (between false []) row)
+unfoldable pub wordsRead : List ℕ → Option (List Word)
+wordsRead row = finish (reading (between false []) row)
 
 -- the bytes that a word adds
 abbrev pub added : Word → List ℕ
@@ -139,4 +132,4 @@ textOf ws = joined (map added ws)
 
 -- "A row with a fault reads back as no text; any other reads back as the bytes added, in order."
 unfoldable pub readsAs : List ℕ → Option (List ℕ)
-readsAs row = Option·map textOf (wordsOf row)
+readsAs row = Option·map textOf (wordsRead row)

@@ -5,12 +5,14 @@ use mathlib.Core.Option.{Option, none, some}
 use Prim.Native.Nat.{ℕ}
 use lib.Count.{leadingZeros}
 use lib.ListN.{take, replicate}
-use Rattle.utf8.specs.Lists.{joined}
-use Rattle.utf8.specs.Utf8.{leadingOnes, charLen, charsAfter, chars}
-use Rattle.encoded_word.specs.Cut.{cut}
-use Rattle.encoded_word.specs.Spelling.{bare, hexDigit, spellByte, spell}
-use Rattle.encoded_word.specs.Reading.{opening, closing, role, hexValue, step, reading, wordsOf, readsAs}
-use Rattle.encoded_word.specs.Row.{runs, word, lines, rowIn, row}
+use Rattle.lists.specs.Lists.{joined}
+use Rattle.utf8.specs.Utf8.{leadingOnes, charLen, chars}
+use Rattle.lists.specs.CutBy.{cutAfter, cutBy}
+use Rattle.cut.specs.Cut.{cut}
+use Rattle.hex.specs.Hex.{hexDigit}
+use Rattle.word_spelling.specs.Spelling.{bare, spellByte, spell}
+use Rattle.row.specs.Row.{opening, closing, runs, word, lines, rowIn, row}
+use Rattle.encoded_word.specs.Reading.{role, anyCaseValue, step, reading, wordsRead, readsAs}
 
 -- a row, and the text that it reads back as, or none
 pub record Case : Type 0 where
@@ -103,5 +105,5 @@ cases =
     ∷ []
 
 pub cases-right : map (λ (c : Case). readsAs (c .given)) cases ≡ map (λ (c : Case). c .answer) cases
-unfolding readsAs wordsOf reading step role hexValue rowIn runs cut lines word spell spellByte bare hexDigit chars charsAfter charLen leadingOnes leadingZeros
+unfolding readsAs wordsRead reading step role anyCaseValue rowIn runs cut lines word spell spellByte bare hexDigit chars cutBy cutAfter charLen leadingOnes leadingZeros
 cases-right = refl

@@ -8,15 +8,18 @@ use native.Mathlib.Nat.{div-add-mod'}
 use native.Mathlib.Omega.{arith}
 use lib.Dec.{T, eqb, eqb→eq, ltb→lt}
 use mir.Facts.{and-yes}
-use Rattle.utf8.specs.Lists.{by-test, all}
-use Rattle.utf8.specs.Byte.{below, implies, isByte, within, within-low, within-high}
-use Rattle.encoded_word.specs.Spelling.{bare, hexDigit, spellByte, spell}
-use Rattle.encoded_word.specs.SpellingLaws.{spell-bare, spell-space, spell-hex}
-use Rattle.encoded_word.specs.Reading.{Word, standing, hexValue, wordsOf, textOf, readsAs}
+use Rattle.lists.specs.Lists.{all}
+use Rattle.lists.specs.ListsLaws.{by-test}
+use Rattle.lists.specs.Byte.{isByte, within}
+use Rattle.lists.specs.ByteLaws.{below, implies, within-low, within-high}
+use Rattle.hex.specs.Hex.{hexDigit}
+use Rattle.word_spelling.specs.Spelling.{bare, spellByte, spell}
+use Rattle.word_spelling.specs.SpellingLaws.{spell-bare, spell-space, spell-hex}
+use Rattle.encoded_word.specs.Reading.{Word, standing, anyCaseValue, wordsRead, textOf, readsAs}
 use Rattle.encoded_word.specs.Layout.{Adds, AllAdd, LaidAfter}
 use Rattle.encoded_word.specs.Layout.LaidAfter.{empty, space, crlf}
 use Rattle.encoded_word.specs.LayoutLaws.{laid-reads}
-use Rattle.encoded_word.specs.Row.{word, lines}
+use Rattle.row.specs.Row.{word, lines}
 
 -- ---- a byte
 
@@ -36,9 +39,9 @@ is-value none n t = absurd t
 is-value (some m) n t = ap some (eqb→eq m n t)
 
 -- a hex digit that we write reads as its value
-pub hex-back : (d : ℕ) → d < 16 → hexValue (hexDigit d) ≡ some d
-unfolding isValue hexValue hexDigit
-hex-back d h = is-value _ d (below (λ k. isValue (hexValue (hexDigit k)) k) 16 tt d h)
+pub hex-back : (d : ℕ) → d < 16 → anyCaseValue (hexDigit d) ≡ some d
+unfolding isValue anyCaseValue hexDigit
+hex-back d h = is-value _ d (below (λ k. isValue (anyCaseValue (hexDigit k)) k) 16 tt d h)
 
 -- our spelling of a byte adds it
 spelling-adds : (b : ℕ) → b < 256 → Adds (spellByte b) b
@@ -76,13 +79,13 @@ lines-laid straight (l ∷ ls) h =
     crlf (space (rw (ours-standing l) at (LaidAfter.word {w = ours l} (ours-add l (both .0)) (lines-laid true ls (both .1)))))
 
 -- The words that we write are read back, each as it was.
-pub words-of-lines : (ls : List (List ℕ)) → T (all (all isByte) ls) → wordsOf (lines ls) ≡ some (map ours ls)
+pub words-of-lines : (ls : List (List ℕ)) → T (all (all isByte) ls) → wordsRead (lines ls) ≡ some (map ours ls)
 words-of-lines ls h = laid-reads (lines-laid false ls h)
 
 -- a row with these words reads back as what they add
-pub reads-as : (row : List ℕ) (ws : List Word) → wordsOf row ≡ some ws → readsAs row ≡ some (textOf ws)
+pub reads-as : (row : List ℕ) (ws : List Word) → wordsRead row ≡ some ws → readsAs row ≡ some (textOf ws)
 unfolding readsAs
 reads-as row ws e = rw e
 
-pub words-text : (row : List ℕ) (ws : List Word) (text : List ℕ) → wordsOf row ≡ some ws → readsAs row ≡ some text → textOf ws ≡ text
+pub words-text : (row : List ℕ) (ws : List Word) (text : List ℕ) → wordsRead row ≡ some ws → readsAs row ≡ some text → textOf ws ≡ text
 words-text row ws text e r = let s = reads-as row ws e in cc

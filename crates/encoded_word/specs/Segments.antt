@@ -1,21 +1,23 @@
--- The outgoing header as a list of segments: bytes as they stand, or the encoded words of a text. Wherever a rule asks for encoded
--- words of something there is one segment `words`. Assumes nothing.
-use mathlib.Core.Bool.{Bool}
+-- The outgoing header as a list of segments: bytes as they stand, the encoded words of a text, or a label with the encoded words of a
+-- text set after it. Wherever a rule asks for encoded words of something there is one segment `words` or `labelled`. Assumes nothing.
+use mathlib.Core.Bool.{Bool, _&&_}
 use mathlib.Core.List.{List, [], _∷_, _++_}
 use Prim.Native.Nat.{ℕ}
-use Rattle.utf8.specs.Byte.{isAscii}
-use Rattle.utf8.specs.Lists.{all}
+use Rattle.lists.specs.Byte.{isAscii}
+use Rattle.lists.specs.Lists.{all}
 use Rattle.utf8.specs.Utf8.{utf8}
-use Rattle.encoded_word.specs.Row.{row}
+use Rattle.row.specs.Row.{row}
 
 pub data Segment : Type 0 where
   raw : List ℕ → Segment
   words : List ℕ → Segment
+  labelled : List ℕ → List ℕ → Segment
 
 -- the bytes of a segment
 abbrev pub bytesOf : Segment → List ℕ
 bytesOf (raw bytes) = bytes
 bytesOf (words text) = row text
+bytesOf (labelled label text) = label ++ row text
 
 -- the bytes of segments one after another
 unfoldable pub rendered : List Segment → List ℕ
@@ -26,3 +28,4 @@ rendered (s ∷ ss) = bytesOf s ++ rendered ss
 abbrev pub sound : Segment → Bool
 sound (raw bytes) = all isAscii bytes
 sound (words text) = utf8 text
+sound (labelled label text) = all isAscii label && utf8 text

@@ -1,22 +1,22 @@
 -- Of segments that are sound: what is written is all ASCII, and demand 3 holds of each text that is encoded. Assumes nothing.
-use mathlib.Core.Path.{_≡_, refl, sym, ap, _∙_}
-use mathlib.Core.Bool.{Bool, true, false, not, cond, _&&_, _||_}
+use mathlib.Core.Path.{_≡_, refl, sym}
 use mathlib.Core.List.{List, [], _∷_, _++_, append-assoc, List·Memᴰ, map}
-use Prim.Native.Nat.{ℕ, _+_, _/_, _%_, _<_}
-use native.Mathlib.Omega.{arith}
+use Prim.Native.Nat.{ℕ, _+_, _<_}
 use lib.Dec.{T, ltb→lt}
-use mir.Facts.{and-yes, yes-and}
-use Rattle.utf8.specs.Byte.{isByte, isAscii, below}
-use Rattle.utf8.specs.Lists.{all, all-append, all-joined, all-mem, joined, joined-map}
-use Rattle.utf8.specs.Utf8.{chars}
+use mir.Facts.{and-yes}
+use Rattle.lists.specs.Byte.{isByte, isAscii}
+use Rattle.lists.specs.ByteLaws.{below}
+use Rattle.lists.specs.Lists.{all, joined}
+use Rattle.lists.specs.ListsLaws.{all-append, all-joined, all-mem, joined-map}
+use Rattle.utf8.specs.Utf8.{chars, utf8}
 use Rattle.utf8.specs.Utf8Laws.{chars-joined, utf8-bytes}
-use Rattle.encoded_word.specs.Spelling.{bare, hexDigit, spellByte, spell}
-use Rattle.encoded_word.specs.Reading.{closing}
-use Rattle.encoded_word.specs.Row.{runs, word, lines, rowIn, row}
+use Rattle.hex.specs.Hex.{hexDigit}
+use Rattle.word_spelling.specs.Spelling.{bare, spellByte, spell}
+use Rattle.row.specs.Row.{closing, runs, word, lines, rowIn, row}
 use Rattle.encoded_word.specs.Demand3.{Demand3}
 use Rattle.encoded_word.specs.Demand3Laws.{runs-joined, demand-3}
 use Rattle.encoded_word.specs.Segments.{Segment, bytesOf, rendered, sound}
-use Rattle.encoded_word.specs.Segments.Segment.{raw, words}
+use Rattle.encoded_word.specs.Segments.Segment.{raw, words, labelled}
 
 -- ---- a row is ASCII
 
@@ -57,6 +57,9 @@ rendered-append (s ∷ a) b = rw (rendered-append a b) (sym (append-assoc (bytes
 bytes-ascii : (s : Segment) → T (sound s) → T (all isAscii (bytesOf s))
 bytes-ascii (raw bytes) h = h
 bytes-ascii (words text) h = row-ascii 63 text (utf8-bytes text h)
+bytes-ascii (labelled label text) h =
+    let both = and-yes (all isAscii label) (utf8 text) h in
+    all-append isAscii label (row text) (both .0) (row-ascii 63 text (utf8-bytes text (both .1)))
 
 pub rendered-ascii : (ss : List Segment) → T (all sound ss) → T (all isAscii (rendered ss))
 unfolding rendered
@@ -68,3 +71,6 @@ rendered-ascii (s ∷ ss) h =
 -- Demand 3 for every text that a rule asked to encode.
 pub words-demand-3 : (ss : List Segment) (text : List ℕ) → T (all sound ss) → List·Memᴰ (words text) ss → Demand3 text (row text)
 words-demand-3 ss text h m = demand-3 text (all-mem sound h m)
+
+pub labelled-demand-3 : (ss : List Segment) (label text : List ℕ) → T (all sound ss) → List·Memᴰ (labelled label text) ss → Demand3 text (row text)
+labelled-demand-3 ss label text h m = demand-3 text (and-yes (all isAscii label) (utf8 text) (all-mem sound h m) .1)

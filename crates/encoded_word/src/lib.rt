@@ -1,27 +1,17 @@
 // Rows of encoded words (RFC 2047, charset UTF-8, encoding Q): the row of a text is written, and measured.
-mod measure;
-mod row;
+mod character;
 mod spelling;
 mod word;
 
 ghost use mathlib.Core.Path.{_≡_};
 ghost use lib.ListN.{length};
-ghost use Rattle.buffer.specs.Buffer.{Wrote};
-ghost use Rattle.encoded_word.specs.Row.{row, bounded};
+ghost use Rattle.buffer.specs.Buffer.{Wrote, AppendedCapped};
+ghost use Rattle.row.specs.Row.{row, bounded};
+use character::put_clipped;
+use character::put_while_roomy;
 
-// The longest text that is encoded, in bytes. A longer one has no row.
+// The longest text that has a row, in bytes.
 const LIMIT: usize = 4294967296;
-
-// The first character of each byte's spelling, 32 bytes to a line: its only one, or the `=` of an escape.
-const FIRST_CHARS: [u8; 256] = *b"\
-    ================================\
-    _!========*+=-=/0123456789======\
-    =ABCDEFGHIJKLMNOPQRSTUVWXYZ=====\
-    =abcdefghijklmnopqrstuvwxyz=====\
-    ================================\
-    ================================\
-    ================================\
-    ================================";
 
 // The hex digits.
 const HEX_DIGITS: [u8; 16] = *b"0123456789ABCDEF";
@@ -30,16 +20,36 @@ const HEX_DIGITS: [u8; 16] = *b"0123456789ABCDEF";
 pub fn write(out: &mut [u8], text: &[u8]) -> usize
     ensures { λ r. ⌜ Wrote (row (bounded (now (text .entry)))) (now (out .entry)) (now (out .exit)) r ⌝ }
 {
+    if out.len() == 0 {
+        return row::len(text);
+    }
+    if text.len() == 0 {
+        return 0;
+    }
     if LIMIT < text.len() {
         return 0;
     }
-    row::put_row(&FIRST_CHARS, &HEX_DIGITS, out, text)
+    let first = word_spelling::first_chars();
+    let hex = HEX_DIGITS;
+    let started = buffer::put_slice(out, b"\r\n =?UTF-8?Q?");
+    let r = put_while_roomy(&first, &hex, out, started, text);
+    let i = r.i;
+    let left = r.left;
+    let at = r.at;
+    put_clipped(&first, &hex, out, at, left, text, i)
 }
 
 // The length of a text's row.
 pub fn len(text: &[u8]) -> usize
     ensures { λ r. ⌜ r ≡ length (row (bounded (now (text .entry)))) ⌝ }
 {
-    let mut none = [0u8; 0];
-    write(&mut none, text)
+    row::len(text)
+}
+
+// Writes a text's row from a place on, as far as it fits; answers the place after it.
+pub fn add(out: &mut [u8], at: usize, text: &[u8]) -> usize
+    ensures { λ r. ⌜ AppendedCapped (row (bounded (now (text .entry)))) at (now (out .entry)) (now (out .exit)) r ⌝ }
+{
+    let start = buffer::clip(at, out.len());
+    buffer::place_after(at, write(&mut out[start..], text))
 }

@@ -3,8 +3,8 @@ ghost use mathlib.Core.Path.{_≡_};
 ghost use Prim.Native.Nat.{_+_, _≤_};
 ghost use lib.ListN.{length};
 ghost use Rattle.buffer.specs.Buffer.{Appended};
-ghost use Rattle.encoded_word.specs.Reading.{closing};
-ghost use Rattle.encoded_word.specs.Stream.{start, gap, leftAfter};
+ghost use Rattle.row.specs.Row.{closing};
+ghost use Rattle.row.specs.Stream.{start, gap, leftAfter};
 
 // A place in the output, and the room that is left in the open word.
 pub(crate) struct Open {
@@ -13,7 +13,7 @@ pub(crate) struct Open {
 }
 
 // Writes CRLF, space and `=?UTF-8?Q?`.
-pub(crate) fn put_start(out: &mut [u8], at: usize) -> usize
+fn put_start(out: &mut [u8], at: usize) -> usize
     requires { ⌜ at + 13 ≤ length (now out) ⌝ }
     ensures { λ r. ⌜ Appended start at (now (out .entry)) (now (out .exit)) r ⌝ }
 {
@@ -46,7 +46,7 @@ pub(crate) fn put_start(out: &mut [u8], at: usize) -> usize
 }
 
 // Writes `?=`.
-pub(crate) fn put_closing(out: &mut [u8], at: usize) -> usize
+fn put_closing(out: &mut [u8], at: usize) -> usize
     requires { ⌜ at + 2 ≤ length (now out) ⌝ }
     ensures { λ r. ⌜ Appended closing at (now (out .entry)) (now (out .exit)) r ⌝ }
 {

@@ -1,223 +1,196 @@
 -- Laws of the check: line by line, as code goes through an envelope. Assumes nothing.
-use mathlib.Core.Path.{_≡_, refl, sym, _∙_}
-use mathlib.Core.Bool.{Bool, true, false, cond, _&&_}
+use mathlib.Core.Path.{_≡_, refl, ap, sym, _∙_}
+use mathlib.Core.Bool.{Bool, true, false}
 use mathlib.Core.List.{List, [], _∷_, _++_}
-use Prim.Native.Nat.{ℕ, zero, suc, _+_, _-_, _≤_, _<_}
-use native.Mathlib.Nat.{add-zero}
+use Prim.Native.Nat.{ℕ, suc, _+_, _-_, _≤_, _<_}
 use native.Mathlib.Numerals.{add-one}
 use native.Mathlib.Omega.{arith}
-use lib.Dec.{eqb, ltb, eqb→eq}
-use lib.ListN.{length, take, drop, set, getD, drop-of-length-le}
-use lib.Seq.{drop-cons, drop-drop}
-use borrow.Author.Tests.{eq-eqb, ne-eqb, lt-ltb, le-ltb}
-use mir.Facts.{and-yes, ltb-yes}
-use Rattle.address.specs.AddressLaws.{byte-within}
-use Rattle.utf8.specs.Lists.{by-test, true-yes, no-false}
+use lib.Dec.{eqb, leb}
+use lib.ListN.{length, take, drop, set, getD, length-take, length-drop}
+use lib.Seq.{drop-drop}
+use borrow.Author.Tests.{eq-eqb, ne-eqb, le-ltb, le-leb, lt-leb}
+use mir.Facts.{leb-yes}
+use Rattle.lists.specs.ListsLaws.{by-test, yes-true, true-yes, no-false}
+use Rattle.lists.specs.CutBy.{cutBy, cutAfter}
 use Rattle.buffer.specs.Buffer.{overlay, Reached}
 use Rattle.buffer.specs.BufferLaws.{reached-start, reached-then, reached-end, appended-byte, wrote-from}
-use Rattle.line.specs.Line.{lineLen}
-use Rattle.line.specs.LineLaws.{crlf-at}
+use Rattle.line.specs.Line.{crlf, lineLen}
+use Rattle.line.specs.LineLaws.{crlf-at, crlf-inside}
 use Rattle.address.specs.AddressLaws.{byte-within}
 use Rattle.envelope_line.specs.declared.Fault.{Fault}
 use Rattle.envelope_line.specs.declared.Fault.the-variants.{Fine, Malformed, NoAlternative, BadAlternative}
 use Rattle.envelope_line.specs.EnvelopeLine.{lineFault}
 use Rattle.envelope.specs.declared.Checked.{Checked}
 use Rattle.envelope.specs.declared.Checked.the-variants.{Passed, Refused}
-use Rattle.envelope.specs.Envelope.{EnvelopeChecked, frontFault, thenNext, rcptFault, rcptsFrom, checked, isFine, startsFrom, rcptStarts}
+use Rattle.envelope.specs.Envelope.{lines, lineText, endedFault, faultOf, faultNumber, isFine, checkedFrom, checked}
+use Rattle.envelope.specs.LineStarts.{startsFrom, rcptStarts, EnvelopeChecked}
+use Rattle.envelope.specs.LinesLaws.{fault-front, lines-end, lines-at, text-part}
 
 -- what the check of the RCPT lines from a place on answers, and the array of line starts afterwards
 pub record RcptsChecked (e : List ℕ) (at : ℕ) (before after : List ℕ) (r : Checked) : Type 0 where
-  pub answer : r ≡ rcptsFrom 0 0 (drop at e)
-  pub starts : after ≡ overlay (startsFrom 0 0 at (drop at e)) before
+  pub answer : r ≡ checkedFrom 1 (lines (drop at e))
+  pub starts : after ≡ overlay (startsFrom 1 at (lines (drop at e))) before
 
 -- ---- the line at a place; `end` is where its CRLF is due
 
 module _ (s : List ℕ) (i end : ℕ) (d : end ≡ i + lineLen (drop i s)) where
-  front-end : drop (lineLen (drop i s)) (drop i s) ≡ drop end s
-  front-end = rw (drop-drop, ← d)
+  crlf-due : crlf (drop (lineLen (drop i s)) (drop i s)) ≡ crlf (drop end s)
+  crlf-due = rw (drop-drop, ← d)
 
   module _ (mail : Bool) where
-    pub front-no-cr : (getD s end 0 ≡ 13 → ⊥) → Malformed ≡ frontFault mail (drop i s)
-    unfolding frontFault
-    front-no-cr n = rw (front-end, crlf-at s end, ne-eqb (getD s end 0) 13 n)
+    pub front-no-cr : (getD s end 0 ≡ 13 → ⊥) → Malformed ≡ endedFault mail (drop i s)
+    unfolding endedFault
+    front-no-cr n = rw (crlf-due, crlf-at s end, ne-eqb (getD s end 0) 13 n)
 
     module _ (c : getD s end 0 ≡ 13) where
       pub front-in : end < length s
       front-in = byte-within s end 12 c
 
-      pub front-no-lf : (getD s (end + 1) 0 ≡ 10 → ⊥) → Malformed ≡ frontFault mail (drop i s)
-      unfolding frontFault
-      front-no-lf n = rw (front-end, crlf-at s end, eq-eqb (getD s end 0) 13 c, ne-eqb (getD s (end + 1) 0) 10 n)
+      pub front-no-lf : (getD s (end + 1) 0 ≡ 10 → ⊥) → Malformed ≡ endedFault mail (drop i s)
+      unfolding endedFault
+      front-no-lf n = rw (crlf-due, crlf-at s end, eq-eqb (getD s end 0) 13 c, ne-eqb (getD s (end + 1) 0) 10 n)
 
-      pub front-line : getD s (end + 1) 0 ≡ 10 → {l : List ℕ} {f : Fault} → l ≡ take (end - i) (drop i s) → f ≡ lineFault mail l → f ≡ frontFault mail (drop i s)
-      unfolding frontFault
-      front-line n e q =
-          let m : end - i ≡ lineLen (drop i s) = omega arith in
-          q ∙ rw (e, m, front-end, crlf-at s end, eq-eqb (getD s end 0) 13 c, eq-eqb (getD s (end + 1) 0) 10 n)
+      pub front-line : getD s (end + 1) 0 ≡ 10 → {l : List ℕ} {f : Fault} → l ≡ take (end - i) (drop i s) → f ≡ lineFault mail l → f ≡ endedFault mail (drop i s)
+      unfolding endedFault
+      front-line n e q = q ∙ rw (text-part s i end d e, crlf-due, crlf-at s end, eq-eqb (getD s end 0) 13 c, eq-eqb (getD s (end + 1) 0) 10 n)
 
-    -- a line without fault has its CRLF
-    pub fine-end : isFine (frontFault mail (drop i s)) ≡ true → end + 2 ≤ length s
-    unfolding frontFault isFine
-    fine-end e =
-        by-test (eqb (getD s end 0) 13 && eqb (getD s (end + 1) 0) 10)
-        (λ t. let both = and-yes (eqb (getD s end 0) 13) (eqb (getD s (end + 1) 0) 10) t in
-        omega (arith, byte-within s (end + 1) 9 (eqb→eq (getD s (end + 1) 0) 10 (both .1))))
-        (λ t. absurd (let z = rw (front-end, crlf-at s end, no-false (eqb (getD s end 0) 13 && eqb (getD s (end + 1) 0) 10) t) at e in true-yes false z))
+-- ---- a line without fault
 
-pub rcpt-many : (n : ℕ) (e : List ℕ) → 100 ≤ n → Malformed ≡ rcptFault n e
-unfolding rcptFault
-rcpt-many n e h = rw (le-ltb n 100 h)
+fine-is : (f : Fault) → isFine f ≡ true → f ≡ Fine
+unfolding isFine faultNumber
+fine-is Fine e = refl
+fine-is Malformed e = absurd (true-yes false e)
+fine-is NoAlternative e = absurd (true-yes false e)
+fine-is BadAlternative e = absurd (true-yes false e)
 
-pub rcpt-front : (n : ℕ) (e : List ℕ) → n < 100 → frontFault false e ≡ rcptFault n e
-unfolding rcptFault
-rcpt-front n e h = rw (lt-ltb n 100 h)
+module _ (mail : Bool) (line : List ℕ) (f : isFine (endedFault mail line) ≡ true) where
+  ended : crlf (drop (lineLen line) line) ≡ true
+  unfolding endedFault isFine faultNumber
+  ended =
+      by-test (crlf (drop (lineLen line) line)) (yes-true (crlf (drop (lineLen line) line)))
+      (λ t. absurd (true-yes false (rw (no-false (crlf (drop (lineLen line) line)) t) at f)))
 
-module _ (n : ℕ) (e : List ℕ) (f : isFine (rcptFault n e) ≡ true) where
-  pub fine-few : n < 100
-  unfolding rcptFault isFine
-  fine-few = by-test (ltb n 100) (λ t. ltb-yes {a = n} {b = 100} t) (λ t. absurd (let z = rw (no-false (ltb n 100) t) at f in true-yes false z))
+  pub ended-inside : lineLen line + 2 ≤ length line
+  ended-inside = crlf-inside line (lineLen line) ended
 
-  pub fine-front : isFine (frontFault false e) ≡ true
-  fine-front = rw (rcpt-front n e fine-few) f
+  pub ended-fine : lineFault mail (lineText line) ≡ Fine
+  unfolding endedFault
+  ended-fine = fine-is (lineFault mail (lineText line)) (rw ended at f)
 
-module _ (f : Fault) (n : ℕ) (next : Checked) where
-  pub fine-next : isFine f ≡ true → thenNext f n next ≡ next
-  unfolding thenNext isFine
-  fine-next e = go f e
-    where
-      go : (f : Fault) → isFine f ≡ true → thenNext f n next ≡ next
-      go Fine e = refl
-      go Malformed e = absurd (true-yes false e)
-      go NoAlternative e = absurd (true-yes false e)
-      go BadAlternative e = absurd (true-yes false e)
+module _ (n : ℕ) (line : List ℕ) (f : isFine (faultOf n line) ≡ true) where
+  pub fine-few : n ≤ 100
+  unfolding faultOf isFine faultNumber
+  fine-few = by-test (leb n 100) (λ t. leb-yes {a = n} {b = 100} t) (λ t. absurd (true-yes false (rw (no-false (leb n 100) t) at f)))
 
-  pub fault-next : isFine f ≡ false → thenNext f n next ≡ Refused f n
-  unfolding thenNext isFine
-  fault-next e = go f e
-    where
-      go : (f : Fault) → isFine f ≡ false → thenNext f n next ≡ Refused f n
-      go Fine e = absurd (true-yes false (sym e))
-      go Malformed e = refl
-      go NoAlternative e = refl
-      go BadAlternative e = refl
+  pub fine-ended : isFine (endedFault (eqb n 0) line) ≡ true
+  unfolding faultOf
+  fine-ended = rw (le-leb n 100 fine-few) at f
 
--- ---- one RCPT line after another
+pub rcpt-many : (n : ℕ) (line : List ℕ) → 100 ≤ n → Malformed ≡ faultOf (n + 1) line
+unfolding faultOf
+rcpt-many n line h = rw (lt-leb (n + 1) 100 (omega arith))
 
-rcpts-after : (k n : ℕ) (s : List ℕ) → rcptsFrom k n s ≡ rcptsFrom 0 n (drop k s)
-unfolding rcptsFrom
-rcpts-after zero n s = refl
-rcpts-after (suc k) zero [] = refl
-rcpts-after (suc k) (suc n) [] = refl
-rcpts-after (suc k) n (b ∷ s) = rcpts-after k n s
+pub rcpt-front : (n : ℕ) (line : List ℕ) → n < 100 → endedFault false line ≡ faultOf (n + 1) line
+unfolding faultOf
+rcpt-front n line h = rw (le-leb (n + 1) 100 (omega arith), ne-eqb (n + 1) 0 (λ z. omega arith))
 
-starts-after : (k n at : ℕ) (s : List ℕ) → startsFrom k n at s ≡ startsFrom 0 n (at + k) (drop k s)
-unfolding startsFrom
-starts-after zero n at s = rw add-zero
-starts-after (suc k) n at [] = refl
-starts-after (suc k) n at (b ∷ s) = let e : at + suc k ≡ suc at + k = omega arith in rw e (starts-after k n (suc at) s)
+-- ---- one line after another
 
-module _ (s : List ℕ) (i n : ℕ) where
-  module _ (h : i < length s) where
-    rcpts-cons : rcptsFrom 0 n (drop i s)
-        ≡ thenNext (rcptFault n (drop i s)) (suc n) (rcptsFrom 0 (suc n) (drop (i + lineLen (drop i s) + 2) s))
-    unfolding rcptsFrom
-    rcpts-cons =
-        let l = lineLen (drop i s) in
-        let e : suc i + suc l ≡ i + l + 2 = omega arith in
-        rw (← e, ← drop-drop (suc l) (suc i) s, ← rcpts-after (suc l) (suc n) (drop (suc i) s), drop-cons s i 0 h)
+-- a line at a place without fault has its CRLF
+pub fine-end : (s : List ℕ) (i end n : ℕ) → end ≡ i + lineLen (drop i s) → isFine (faultOf n (drop i s)) ≡ true → end + 2 ≤ length s
+fine-end s i end n d f = omega (arith, ended-inside (eqb n 0) (drop i s) (fine-ended n (drop i s) f), length-drop i s)
 
-    starts-cons : startsFrom 0 n i (drop i s)
-        ≡ cond (isFine (rcptFault n (drop i s))) (i ∷ startsFrom 0 (suc n) (i + lineLen (drop i s) + 2) (drop (i + lineLen (drop i s) + 2) s)) []
+module _ (s : List ℕ) (i n end : ℕ) (h : i < length s) (d : end ≡ i + lineLen (drop i s)) where
+  module _ (f : isFine (faultOf n (drop i s)) ≡ true) where
+    pub checked-step : checkedFrom n (lines (drop i s)) ≡ checkedFrom (n + 1) (lines (drop (end + 2) s))
+    unfolding checkedFrom
+    checked-step = rw (add-one, lines-at s i end d h, fault-front (drop i s) n, f)
+
+    pub starts-step : startsFrom n i (lines (drop i s)) ≡ (i ∷ []) ++ startsFrom (n + 1) (end + 2) (lines (drop (end + 2) s))
     unfolding startsFrom
-    starts-cons =
-        let l = lineLen (drop i s) in
-        let e : suc i + suc l ≡ i + l + 2 = omega arith in
-        rw (← e, ← drop-drop (suc l) (suc i) s, ← starts-after (suc l) (suc n) (suc i) (drop (suc i) s), drop-cons s i 0 h)
+    starts-step =
+        let m : i + length (take (lineLen (drop i s) + 2) (drop i s)) ≡ end + 2 = rw (length-take, length-drop) (omega (arith, fine-end s i end n d f)) in
+        rw (add-one, lines-at s i end d h, fault-front (drop i s) n, f, m)
 
-    module _ (f : isFine (rcptFault n (drop i s)) ≡ true) (end : ℕ) (d : end ≡ i + lineLen (drop i s)) where
-      pub rcpts-step : rcptsFrom 0 n (drop i s) ≡ rcptsFrom 0 (n + 1) (drop (end + 2) s)
-      rcpts-step = rw (add-one, d) (rcpts-cons ∙ fine-next (rcptFault n (drop i s)) (suc n) (rcptsFrom 0 (suc n) (drop (i + lineLen (drop i s) + 2) s)) f)
+  module _ (f : isFine (faultOf n (drop i s)) ≡ false) where
+    pub checked-stop : checkedFrom n (lines (drop i s)) ≡ Refused (faultOf n (drop i s)) n
+    unfolding checkedFrom
+    checked-stop = rw (lines-at s i end d h, fault-front (drop i s) n, f)
 
-      pub starts-step : startsFrom 0 n i (drop i s) ≡ (i ∷ []) ++ startsFrom 0 (n + 1) (end + 2) (drop (end + 2) s)
-      starts-step = rw (add-one, d) (starts-cons ∙ rw f)
-
-    module _ (f : isFine (rcptFault n (drop i s)) ≡ false) where
-      pub rcpts-stop : rcptsFrom 0 n (drop i s) ≡ Refused (rcptFault n (drop i s)) (n + 1)
-      rcpts-stop = rw add-one (rcpts-cons ∙ fault-next (rcptFault n (drop i s)) (suc n) (rcptsFrom 0 (suc n) (drop (i + lineLen (drop i s) + 2) s)) f)
-
-      pub starts-stop : startsFrom 0 n i (drop i s) ≡ []
-      starts-stop = starts-cons ∙ rw f
-
-  module _ (h : length s ≤ i) where
-    pub rcpts-end : rcptsFrom 0 n (drop i s) ≡ rcptsFrom 0 n []
-    rcpts-end = rw (drop-of-length-le s {i = i} h)
-
-    pub starts-end : startsFrom 0 n i (drop i s) ≡ []
+    pub starts-stop : startsFrom n i (lines (drop i s)) ≡ []
     unfolding startsFrom
-    starts-end = rw (drop-of-length-le s {i = i} h)
+    starts-stop = rw (lines-at s i end d h, fault-front (drop i s) n, f)
 
 -- how far the check of the RCPT lines from a place on has come: n lines passed, the next at i
 pub record RcptsReached (e : List ℕ) (at : ℕ) (before after : List ℕ) (n i : ℕ) : Type 0 where
   pub few : n ≤ 100
-  pub answer : rcptsFrom 0 0 (drop at e) ≡ rcptsFrom 0 n (drop i e)
-  pub starts : Reached (startsFrom 0 0 at (drop at e)) (startsFrom 0 n i (drop i e)) 0 before after n
+  pub answer : checkedFrom 1 (lines (drop at e)) ≡ checkedFrom (n + 1) (lines (drop i e))
+  pub starts : Reached (startsFrom 1 at (lines (drop at e))) (startsFrom (n + 1) i (lines (drop i e))) 0 before after n
 
 pub rcpts-start : (e : List ℕ) (at : ℕ) (before : List ℕ) → RcptsReached e at before before 0 at
-rcpts-start e at before = record { few = omega arith; answer = refl; starts = reached-start (startsFrom 0 0 at (drop at e)) 0 before }
+rcpts-start e at before = record { few = omega arith; answer = refl; starts = reached-start (startsFrom 1 at (lines (drop at e))) 0 before }
 
 module _ {e before after : List ℕ} {at n i : ℕ} (k : RcptsReached e at before after n i) where
-  pub rcpts-more : {f : Fault} (end : ℕ) → i < length e → end ≡ i + lineLen (drop i e) → f ≡ rcptFault n (drop i e) → isFine f ≡ true
-      → RcptsReached e at before (set after n i) (n + 1) (end + 2)
-  rcpts-more end h d q f =
-      let g : isFine (rcptFault n (drop i e)) ≡ true = rw (← q) f in
-      let l = fine-few n (drop i e) g in
+  module _ {f : Fault} (end : ℕ) (h : i < length e) (d : end ≡ i + lineLen (drop i e)) (q : f ≡ faultOf (n + 1) (drop i e)) where
+    pub rcpts-more : isFine f ≡ true → RcptsReached e at before (set after n i) (n + 1) (end + 2)
+    rcpts-more f =
+        let g : isFine (faultOf (n + 1) (drop i e)) ≡ true = rw (← q) f in
+        record {
+          few = fine-few (n + 1) (drop i e) g;
+          answer = k .answer ∙ checked-step e i (n + 1) end h d g;
+          starts = reached-then (i ∷ []) (startsFrom (n + 1 + 1) (end + 2) (lines (drop (end + 2) e))) (k .starts) (starts-step e i (n + 1) end h d g) (appended-byte n i after);
+        }
+
+    pub rcpts-refused : isFine f ≡ false → RcptsChecked e at before after (Refused f (n + 1))
+    rcpts-refused f =
+        let g : isFine (faultOf (n + 1) (drop i e)) ≡ false = rw (← q) f in
+        record {
+          answer = rw q (sym (k .answer ∙ checked-stop e i (n + 1) end h d g));
+          starts = wrote-from (reached-end (k .starts) (starts-stop e i (n + 1) end h d g)) .bytes;
+        }
+
+  pub rcpts-passed : {r : Checked} → length e ≤ i → r ≡ checkedFrom (n + 1) [] → RcptsChecked e at before after r
+  unfolding startsFrom
+  rcpts-passed h q =
       record {
-        few = omega arith;
-        answer = k .answer ∙ rcpts-step e i n h g end d;
-        starts = reached-then (i ∷ []) (startsFrom 0 (n + 1) (end + 2) (drop (end + 2) e)) (k .starts) (starts-step e i n h g end d) (appended-byte n i after);
+        answer = q ∙ sym (k .answer ∙ ap (checkedFrom (n + 1)) (lines-end e i h));
+        starts = wrote-from (reached-end (k .starts) (rw (lines-end e i h))) .bytes;
       }
-
-  checked-rest : {r : Checked} → r ≡ rcptsFrom 0 n (drop i e) → startsFrom 0 n i (drop i e) ≡ [] → RcptsChecked e at before after r
-  checked-rest a b = record { answer = a ∙ sym (k .answer); starts = wrote-from (reached-end (k .starts) b) .bytes }
-
-  pub rcpts-refused : {f : Fault} → i < length e → f ≡ rcptFault n (drop i e) → isFine f ≡ false → RcptsChecked e at before after (Refused f (n + 1))
-  rcpts-refused h q f =
-      let g : isFine (rcptFault n (drop i e)) ≡ false = rw (← q) f in
-      checked-rest (rw q (sym (rcpts-stop e i n h g))) (starts-stop e i n h g)
-
-  pub rcpts-passed : {r : Checked} → length e ≤ i → r ≡ rcptsFrom 0 n [] → RcptsChecked e at before after r
-  rcpts-passed h q = checked-rest (q ∙ sym (rcpts-end e i n h)) (starts-end e i n h)
 
 -- ---- the whole envelope
 
-module _ {e before : List ℕ} {f : Fault} (q : f ≡ frontFault true e) where
+pub none-counted : (n : ℕ) → n ≡ 0 → Refused Malformed 1 ≡ checkedFrom (n + 1) []
+unfolding checkedFrom
+none-counted n e = rw e
+
+pub some-counted : (n : ℕ) → (n ≡ 0 → ⊥) → Passed n ≡ checkedFrom (n + 1) []
+unfolding checkedFrom
+some-counted n h = rw (add-one, le-ltb (suc n) 2 (omega arith))
+
+empty-refused : (before : List ℕ) → EnvelopeChecked [] before before (Refused (endedFault true []) 0)
+unfolding checked rcptStarts lines cutBy cutAfter checkedFrom startsFrom endedFault crlf lineLen overlay
+empty-refused before = record { answer = refl; starts = refl }
+
+front-refused : (e before : List ℕ) → 0 < length e → isFine (endedFault true e) ≡ false → EnvelopeChecked e before before (Refused (endedFault true e) 0)
+unfolding checked rcptStarts faultOf overlay
+front-refused e before h g =
+    record { answer = sym (checked-stop e 0 0 (lineLen e) h (omega arith) g); starts = rw (starts-stop e 0 0 (lineLen e) h (omega arith) g) }
+
+module _ {e before : List ℕ} {f : Fault} (q : f ≡ endedFault true e) where
   pub mail-refused : isFine f ≡ false → EnvelopeChecked e before before (Refused f 0)
-  unfolding checked rcptStarts overlay
-  mail-refused g =
-      let h : isFine (frontFault true e) ≡ false = rw (← q) g in
-      record {
-        answer = rw q (sym (fault-next (frontFault true e) 0 (rcptsFrom 0 0 (drop (lineLen e + 2) e)) h));
-        starts = rw h;
-      }
+  mail-refused g = rw q (go e (rw (← q) g))
+    where
+      go : (e : List ℕ) → isFine (endedFault true e) ≡ false → EnvelopeChecked e before before (Refused (endedFault true e) 0)
+      go [] g = empty-refused before
+      go (b ∷ s) g = front-refused (b ∷ s) before (omega arith) g
 
   pub mail-passed : {after : List ℕ} {r : Checked} (end : ℕ) → end ≡ 0 + lineLen e → isFine f ≡ true → RcptsChecked e (end + 2) before after r
       → EnvelopeChecked e before after r
-  unfolding checked rcptStarts
+  unfolding checked rcptStarts faultOf
   mail-passed end d g k =
-      let h : isFine (frontFault true e) ≡ true = rw (← q) g in
-      let m : end + 2 ≡ lineLen e + 2 = omega arith in
+      let h : isFine (endedFault true e) ≡ true = rw (← q) g in
+      let l = ended-inside true e h in
       record {
-        answer = k .answer ∙ rw m (sym (fine-next (frontFault true e) 0 (rcptsFrom 0 0 (drop (lineLen e + 2) e)) h));
-        starts = k .starts ∙ rw (h, m);
+        answer = k .answer ∙ sym (checked-step e 0 0 end (omega arith) d h);
+        starts = k .starts ∙ rw (starts-step e 0 0 end (omega arith) d h);
       }
-
--- ---- the end of the envelope
-
-pub none-counted : (n : ℕ) → n ≡ 0 → Refused Malformed 1 ≡ rcptsFrom 0 n []
-unfolding rcptsFrom
-none-counted n e = rw e
-
-pub some-counted : (n : ℕ) → (n ≡ 0 → ⊥) → Passed n ≡ rcptsFrom 0 n []
-unfolding rcptsFrom
-some-counted zero h = absurd (h refl)
-some-counted (suc n) h = refl

@@ -1,42 +1,33 @@
--- What is written for an envelope of at most 16,384 bytes has a length that a usize holds, so that the answers of the writers are
--- that length. Assumes nothing.
+-- What is written for an envelope that passes the check is no longer than the envelope. Assumes nothing.
+use mathlib.Core.Path.{_≡_}
 use mathlib.Core.Bool.{Bool, true, false}
 use mathlib.Core.List.{List, [], _∷_, map}
-use Prim.Native.Nat.{ℕ, _*_, _≤_, min}
+use Prim.Native.Nat.{ℕ, _≤_}
 use native.Mathlib.Omega.{arith}
-use lib.ListN.{length, length-append, length-take, length-drop}
-use Rattle.utf8.specs.Lists.{joined}
-use Rattle.buffer.specs.Buffer.{Wrote, AppendedCapped, greatest}
-use Rattle.buffer.specs.BufferLaws.{appended-of, wrote-from}
-use Rattle.envelope_line.specs.LengthLaws.{written-le, replacement-le}
-use Rattle.envelope.specs.Envelope.{lineAt, writtenAt, writtenBy, entries, mailReplacement, replacementBy}
-use Rattle.envelope.specs.WrittenLaws.{length-entries}
+use lib.ListN.{length, length-append, length-take}
+use Rattle.lists.specs.Lists.{joined}
+use Rattle.line.specs.Line.{lineLen}
+use Rattle.envelope_line.specs.ReplacementLaws.{written-short}
+use Rattle.envelope.specs.declared.Checked.the-variants.{Passed}
+use Rattle.envelope.specs.Envelope.{lines, lineText, endedFault, isFine, checked, texts, writtenEnded, writtenOf, written}
+use Rattle.envelope.specs.LinesLaws.{lines-joined}
+use Rattle.envelope.specs.CheckLaws.{ended-inside, ended-fine}
+use Rattle.envelope.specs.PassedLaws.{RcptsFine, LinesFine, passed-fine}
 
-module _ (e : List ℕ) (h : length e ≤ 16384) where
-  line-le : (at : ℕ) → length (lineAt at e) ≤ 16384
-  unfolding lineAt
-  line-le at = rw (length-take, length-drop) (omega arith)
+ended-le : (mail : Bool) (line : List ℕ) → isFine (endedFault mail line) ≡ true → length (writtenEnded mail (lineText line)) ≤ length line
+unfolding writtenEnded lineText
+ended-le mail line f =
+    rw length-append (omega (arith, written-short mail (lineText line) (ended-fine mail line f), length-take (lineLen line) line, ended-inside mail line f))
 
-  at-le : (mail : Bool) (at : ℕ) → length (writtenAt mail e at) ≤ 65539
-  unfolding writtenAt
-  at-le mail at = rw length-append (omega (arith, written-le mail (lineAt at e), line-le at))
+rcpts-le : (rcpts : List (List ℕ)) → RcptsFine rcpts → length (joined (map (writtenEnded false) (map lineText rcpts))) ≤ length (joined rcpts)
+rcpts-le [] f = omega arith
+rcpts-le (line ∷ more) f = rw (length-append, length-append) (omega (arith, ended-le false line (f .0), rcpts-le more (f .1)))
 
-  each-le : (starts : List ℕ) → length (joined (map (writtenAt false e) starts)) ≤ length starts * 65539
-  each-le [] = omega arith
-  each-le (at ∷ starts) = rw length-append (omega (arith, at-le false at, each-le starts))
+lines-le : (ls : List (List ℕ)) → LinesFine ls → length (writtenOf (map lineText ls)) ≤ length (joined ls)
+unfolding writtenOf
+lines-le [] f = omega arith
+lines-le (mail ∷ rcpts) f = rw (length-append, length-append) (omega (arith, ended-le true mail (f .0), rcpts-le rcpts (f .1)))
 
-  pub written-fits : (array : List ℕ) (count : ℕ) → length (writtenBy (entries (min count 100) array) e) ≤ greatest
-  unfolding writtenBy
-  written-fits array count =
-      let starts = entries (min count 100) array in
-      rw length-append (omega (arith, at-le true 0, each-le starts, length-entries (min count 100) array))
-
-  pub mail-replacement-fits : length (mailReplacement e) ≤ greatest
-  unfolding mailReplacement
-  mail-replacement-fits = omega (arith, replacement-le true (lineAt 0 e), line-le 0)
-
-  pub rcpt-replacement-fits : (starts : List ℕ) → length (replacementBy starts e) ≤ greatest
-  unfolding replacementBy
-  rcpt-replacement-fits [] = omega arith
-  rcpt-replacement-fits (at ∷ []) = omega (arith, replacement-le false (lineAt at e), line-le at)
-  rcpt-replacement-fits (at ∷ next ∷ more) = omega arith
+pub written-le : (e : List ℕ) (m : ℕ) → checked e ≡ Passed m → length (written e) ≤ length e
+unfolding written texts
+written-le e m p = rw (lines-joined e) at (lines-le (lines e) (passed-fine e m p))

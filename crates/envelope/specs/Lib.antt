@@ -1,8 +1,11 @@
 pub mod Envelope
+pub mod LineStarts
+pub mod LinesLaws
 pub mod CheckLaws
 pub mod OrcptLaws
+pub mod PassedLaws
 pub mod WrittenLaws
 pub mod LengthLaws
 pub mod AsciiLaws
-pub mod EnvelopeCases
 pub mod ReplacementLaws
+pub mod EnvelopeCases

@@ -1,14 +1,14 @@
 // Envelopes: one MAIL line, then 1 to 100 RCPT lines.
-mod checking;
-mod original;
-mod writing;
+mod faults;
+mod orcpts;
+mod output;
 
-pub use checking::check;
 use envelope_line::Fault;
-pub use original::orcpt_line;
-pub use writing::put;
-pub use writing::put_mail_replacement;
-pub use writing::put_rcpt_replacement;
+pub use faults::check;
+pub use orcpts::orcpt_line;
+pub use output::put;
+pub use output::put_mail_replacement;
+pub use output::put_rcpt_replacement;
 
 // What the check answers: the number of RCPT lines; or the first line at fault, with its fault.
 pub enum Checked {

@@ -1,24 +1,27 @@
 -- What is written for a line without fault, in which no ORCPT carries non-ASCII, is ASCII. Assumes nothing.
 use mathlib.Core.Path.{_≡_, refl}
-use mathlib.Core.Bool.{Bool, true, false, not, cond, _&&_, _||_, and-false}
+use mathlib.Core.Bool.{Bool, true, false, cond, _&&_}
 use mathlib.Core.List.{List, [], _∷_, _++_}
-use Prim.Native.Nat.{ℕ, zero, suc, _+_, _≤_, _<_, zero-le, suc-le-suc}
+use Prim.Native.Nat.{ℕ, suc, _+_, _≤_, _<_}
 use native.Mathlib.Numerals.{add-one}
 use native.Mathlib.Omega.{arith}
 use lib.Dec.{T, eqb, leb, ltb, eqb→eq}
 use lib.ListN.{length, take, drop, getD, take-append-drop, drop-of-length-le}
 use lib.Seq.{drop-cons, drop-drop}
 use mir.Facts.{and-yes, yes-and, ltb-yes, yes-ltb, ltb-no}
-use borrow.Author.Tests.{lt-leb, ne-eqb, eqb-true, not-false}
-use Rattle.utf8.specs.Lists.{by-test, cond-has, yes-true, true-yes, no-false, all, all-append, all-left, all-right, all-weaken, nonempty}
-use Rattle.utf8.specs.Byte.{within, within-high, isAscii}
-use Rattle.utf8.specs.Run.{run, run-all, run-after}
-use Rattle.utf8.specs.Utf8.{utf8}
+use borrow.Author.Tests.{not-false}
+use Rattle.lists.specs.ListsLaws.{by-test, cond-has, true-yes, no-false, all-append, all-left, all-right}
+use Rattle.lists.specs.Lists.{all}
+use Rattle.lists.specs.Byte.{within, isAscii}
+use Rattle.lists.specs.ByteLaws.{within-high}
 use Rattle.letter_case.specs.LetterCase.{bytes, lower, sameAnyCase}
 use Rattle.address.specs.Address.{isAddress, isAsciiAddress}
-use Rattle.address.specs.Xtext.{decoded, isXtext, isAltAddress}
+use Rattle.xtext.specs.Xtext.{decoded, isXtext, isAltAddress}
 use Rattle.envelope_line.specs.declared.Fault.the-variants.{Fine, BadAlternative}
-use Rattle.envelope_line.specs.EnvelopeLine.{verb, verbLen, hasVerb, pathScan, isTo, pathLen, path, hasPath, tail, notSpace, paramsAfter, params, spaced, isKeywordByte, keywordLen, keyword, hasValue, value, isOrcpt, isValueByte, isParam, alts, altsOk, alt, altPlace, wellFormed, altFault, lineFault, orcptClean, orcptFault, newPath, withoutAlt, writtenLine}
+use Rattle.envelope_line.specs.EnvelopeLine.{verb, verbLen, hasVerb, pathLen, path, tail, altFault, lineFault, orcptFault, newPath, withoutAlt, writtenLine}
+use Rattle.parameter.specs.Parameter.{params, value, alts, alt, altPlace, orcptClean}
+use Rattle.parameter.specs.AsciiLaws.{tail-ascii}
+use Rattle.envelope_line.specs.FaultLaws.{formed, closed, alt-fine}
 
 module _ (f : ℕ → Bool) (n : ℕ) (s : List ℕ) (h : T (all f s)) where
   all-take : T (all f (take n s))
@@ -42,84 +45,6 @@ same-ascii (x ∷ xs) (y ∷ ys) t h =
     let low : lower x < 128 = cond-has (λ n. n < 128) (within 65 90 x) (x + 32) x (λ u. omega (arith, within-high 65 90 x u)) (λ u. x-low) in
     let up : y ≤ lower y = cond-has (λ n. y ≤ n) (within 65 90 y) (y + 32) y (λ u. omega arith) (λ u. omega arith) in
     yes-and (isAscii y) (all isAscii ys) (yes-ltb {a = y} {b = 128} (omega (arith, e, low, up))) (same-ascii xs ys (both .1) (here .1))
-
--- ---- parameters
-
-module _ (b : ℕ) where
-  keyword-ascii : T (isKeywordByte b) → T (isAscii b)
-  unfolding isKeywordByte
-  keyword-ascii t = by-test (isAscii b) (λ u. u) (λ u. absurd (
-      let h = ltb-no {a = b} {b = 128} u in
-      let n : b ≡ 45 → ⊥ = λ e. omega arith in
-      rw (lt-leb b 90 (omega arith), lt-leb b 122 (omega arith), lt-leb b 57 (omega arith), and-false (leb 65 b), and-false (leb 97 b), and-false (leb 48 b), ne-eqb b 45 n) at t))
-
-  value-ascii : T (isValueByte false b) → T (isAscii b)
-  unfolding isValueByte
-  value-ascii t = by-test (isAscii b) (λ u. u) (λ u. absurd (
-      let h = ltb-no {a = b} {b = 128} u in
-      rw (lt-leb b 126 (omega arith), and-false (leb 33 b)) at t))
-
--- the value of a parameter that is no ORCPT with non-ASCII
-value-all : (p v : List ℕ) → T (all (isValueByte (isOrcpt p)) v) → T (not (isOrcpt p) || all isAscii v) → T (all isAscii v)
-value-all p v a o = go (isOrcpt p) a o
-  where
-    go : (orcpt : Bool) → T (all (isValueByte orcpt) v) → T (not orcpt || all isAscii v) → T (all isAscii v)
-    go true a o = o
-    go false a o = all-weaken (isValueByte false) isAscii value-ascii v a
-
--- a keyword, and `=` with a value
-module _ (p : List ℕ) (k : ℕ) (word : T (all isAscii (take k p))) where
-  joined-ascii : T (all isAscii (drop k p)) → T (all isAscii p)
-  joined-ascii h = rw (take-append-drop k p) at (all-append isAscii (take k p) (drop k p) word h)
-
-  bare-ascii : length p ≤ k → T (all isAscii p)
-  bare-ascii l = joined-ascii (rw (drop-of-length-le p {i = k} l) tt)
-
-  valued-ascii : k < length p → getD p k 0 ≡ 61 → T (all isAscii (drop (k + 1) p)) → T (all isAscii p)
-  valued-ascii l e h = joined-ascii (rw (drop-cons p k 0 l, e) (rw add-one at h))
-
--- a parameter that is no ORCPT with non-ASCII
-param-ascii : (p : List ℕ) → T (isParam p) → T (orcptClean p) → T (all isAscii p)
-unfolding isParam orcptClean hasValue value keywordLen
-param-ascii p t o =
-    let k = run isKeywordByte p in
-    let word : T (all isAscii (take k p)) = all-weaken isKeywordByte isAscii keyword-ascii (take k p) (run-all isKeywordByte p) in
-    let equals = eqb (getD p k 0) 61 in
-    let some-there = nonempty (drop (k + 1) p) in
-    let bytes-ok = all (isValueByte (isOrcpt p)) (drop (k + 1) p) in
-    let rest : T (not (ltb k (length p)) || equals && some-there && bytes-ok) =
-    and-yes (nonempty (keyword p) && not (eqb (getD p 0 0) 45)) (not (ltb k (length p)) || equals && some-there && bytes-ok) t .1 in
-    by-test (ltb k (length p))
-    (λ u. let v : T (equals && some-there && bytes-ok) = rw (yes-true (ltb k (length p)) u) at rest in
-    let both = and-yes (equals && some-there) bytes-ok v in
-    let sign = eqb→eq (getD p k 0) 61 (and-yes equals some-there (both .0) .0) in
-    valued-ascii p k word (ltb-yes {a = k} {b = length p} u) sign (value-all p (drop (k + 1) p) (both .1) o))
-    (λ u. bare-ascii p k word (ltb-no {a = k} {b = length p} u))
-
--- The bytes of a text whose parameters are ASCII, after k bytes of the parameter before; the byte after these is ASCII.
-after-ascii : (k : ℕ) (s : List ℕ) → T (all isAscii (take k s)) → (k < length s → T (isAscii (getD s k 0))) → T (all (all isAscii) (paramsAfter k s)) → T (all isAscii s)
-unfolding paramsAfter
-after-ascii k [] h b a = tt
-after-ascii (suc k) (x ∷ s) h b a =
-    let both = and-yes (isAscii x) (all isAscii (take k s)) h in
-    yes-and (isAscii x) (all isAscii s) (both .0) (after-ascii k s (both .1) (λ l. b (suc-le-suc l)) a)
-after-ascii zero (x ∷ s) h b a =
-    let n = run notSpace s in
-    let both = and-yes (all isAscii (take n s)) (all (all isAscii) (paramsAfter n s)) a in
-    let space : n < length s → T (isAscii (getD s n 0)) = λ l. rw (eqb-true (getD s n 0) 32 (not-false (eqb (getD s n 0) 32) (run-after notSpace s l))) tt in
-    yes-and (isAscii x) (all isAscii s) (b (suc-le-suc zero-le)) (after-ascii n s (both .0) space (both .1))
-
-each-ascii : (ps : List (List ℕ)) → T (all isParam ps) → T (all orcptClean ps) → T (all (all isAscii) ps)
-each-ascii [] h o = tt
-each-ascii (p ∷ ps) h o =
-    let a = and-yes (isParam p) (all isParam ps) h in
-    let b = and-yes (orcptClean p) (all orcptClean ps) o in
-    yes-and (all isAscii p) (all (all isAscii) ps) (param-ascii p (a .0) (b .0)) (each-ascii ps (a .1) (b .1))
-
-tail-ascii : (t : List ℕ) → T (spaced t) → T (all isParam (params t)) → T (all orcptClean (params t)) → T (all isAscii t)
-unfolding spaced params
-tail-ascii [] s h o = tt
-tail-ascii (x ∷ t) s h o = after-ascii 0 (x ∷ t) tt (λ l. rw (eqb→eq x 32 s) tt) (each-ascii (paramsAfter 0 (x ∷ t)) h o)
 
 -- ---- the new path
 
@@ -150,45 +75,20 @@ verb-ascii true = tt
 verb-ascii false = tt
 
 module _ (mail : Bool) (line : List ℕ) (f : lineFault mail line ≡ Fine) where
-  pub well-formed : T (wellFormed mail line)
-  unfolding lineFault
-  well-formed = by-test (wellFormed mail line) (λ t. t) (λ t. absurd (
-      let q = rw (no-false (wellFormed mail line) t) at f in let z : _≡_ {A = ℕ} 0 1 = cc in omega arith))
-
-  pub alt-fine : altFault (all isAscii (path mail line)) (alts (params (tail mail line))) ≡ Fine
-  unfolding lineFault
-  alt-fine = rw (yes-true (wellFormed mail line) well-formed) at f
-
-  pub parts : T (hasVerb mail line) × T (hasPath mail line) × T (spaced (tail mail line)) × T (all isParam (params (tail mail line)))
-  unfolding wellFormed
-  parts =
-      let l = leb (length line) 998 in
-      let u = utf8 line in
-      let v = hasVerb mail line in
-      let p = hasPath mail line in
-      let s = spaced (tail mail line) in
-      let q = all isParam (params (tail mail line)) in
-      let a = and-yes (l && u && v && p && s && q) (altsOk (alts (params (tail mail line)))) well-formed in
-      let b = and-yes (l && u && v && p && s) q (a .0) in
-      let d = and-yes (l && u && v && p) s (b .0) in
-      let e = and-yes (l && u && v) p (d .0) in
-      (and-yes (l && u) v (e .0) .1, e .1, d .1, b .1)
-
   pub front-ascii : T (all isAscii (take (verbLen mail) line))
   unfolding hasVerb
-  front-ascii = same-ascii (verb mail) (take (verbLen mail) line) (parts .0) (verb-ascii mail)
+  front-ascii = same-ascii (verb mail) (take (verbLen mail) line) (formed mail line f .has-verb) (verb-ascii mail)
 
   module _ (o : orcptFault mail line ≡ false) where
     rest-ascii : T (all isAscii (tail mail line))
     unfolding orcptFault
-    rest-ascii = tail-ascii (tail mail line) (parts .2) (parts .3) (true-yes (all orcptClean (params (tail mail line))) (not-false (all orcptClean (params (tail mail line))) o))
+    rest-ascii = tail-ascii (tail mail line) (formed mail line f .is-spaced) (formed mail line f .are-params) (true-yes (all orcptClean (params (tail mail line))) (not-false (all orcptClean (params (tail mail line))) o))
 
     closed-ascii : T (all isAscii (drop (verbLen mail + pathLen mail line) line))
-    unfolding tail hasPath
+    unfolding tail
     closed-ascii =
         let n = verbLen mail + pathLen mail line in
-        let close = eqb→eq (getD line n 0) 62 (and-yes (isTo (pathScan mail (drop (verbLen mail) line))) (eqb (getD line n 0) 62) (parts .1) .1) in
-        ascii-from line n (rw close tt) rest-ascii
+        ascii-from line n (rw (closed mail line f) tt) rest-ascii
 
     -- "Out: an ASCII envelope": of a line
     pub line-ascii : T (all isAscii (writtenLine mail line))
@@ -200,7 +100,7 @@ module _ (mail : Bool) (line : List ℕ) (f : lineFault mail line ≡ Fine) wher
         let from : T (all isAscii (drop v line)) = rw (take-append-drop n (drop v line)) at (all-append isAscii (take n (drop v line)) (drop n (drop v line)) t after) in
         rw (take-append-drop v line) at (all-append isAscii (take v line) (drop v line) front-ascii from))
         (λ t. let ps = params (tail mail line) in
-        let new = new-ascii ps (rw (no-false (all isAscii (path mail line)) t) at alt-fine) in
+        let new = new-ascii ps (rw (no-false (all isAscii (path mail line)) t) at (alt-fine mail line f)) in
         let n = altPlace ps in
         let m = altPlace ps + suc (length (alt ps)) in
         let others = all-append isAscii (take n (tail mail line)) (drop m (tail mail line)) (all-take isAscii n (tail mail line) rest-ascii) (all-drop isAscii m (tail mail line) rest-ascii) in

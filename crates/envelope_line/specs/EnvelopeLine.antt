@@ -2,20 +2,20 @@
 --
 -- `mail` says whether the line stands where the MAIL line does; every other line is due to be a RCPT line. The parts of a line are
 -- defined for every line, and mean what their names say where the line is well-formed.
-use mathlib.Core.Bool.{Bool, true, false, not, cond, _&&_, _||_}
+use mathlib.Core.Bool.{Bool, true, false, not, cond, _&&_}
 use mathlib.Core.List.{List, [], _∷_, _++_}
-use Prim.Native.Nat.{ℕ, zero, suc, _+_}
-use lib.Dec.{eqb, leb, ltb}
+use Prim.Native.Nat.{ℕ, suc, _+_}
+use lib.Dec.{eqb, leb}
 use lib.ListN.{length, take, drop, getD}
-use Rattle.utf8.specs.Lists.{all, nonempty}
-use Rattle.utf8.specs.Byte.{within, isAscii}
-use Rattle.utf8.specs.Run.{run}
+use Rattle.lists.specs.Lists.{all}
+use Rattle.lists.specs.Byte.{within, isAscii}
 use Rattle.utf8.specs.Utf8.{utf8}
 use Rattle.letter_case.specs.LetterCase.{bytes, sameAnyCase}
 use Rattle.address.specs.declared.Scan.{Scan}
 use Rattle.address.specs.declared.Scan.the-variants.{To, Stop}
-use Rattle.address.specs.Address.{isHigh, addressScan}
-use Rattle.address.specs.Xtext.{decoded, isAltAddress}
+use Rattle.address.specs.Address.{addressScan}
+use Rattle.xtext.specs.Xtext.{decoded, isAltAddress}
+use Rattle.parameter.specs.Parameter.{params, spaced, value, isParam, alts, altsOk, alt, altPlace, orcptClean}
 use Rattle.envelope_line.specs.declared.Fault.{Fault}
 use Rattle.envelope_line.specs.declared.Fault.the-variants.{Fine, Malformed, NoAlternative, BadAlternative}
 
@@ -64,88 +64,6 @@ hasPath mail line = isTo (pathScan mail (drop (verbLen mail) line)) && eqb (getD
 unfoldable pub tail : Bool → List ℕ → List ℕ
 tail mail line = drop (verbLen mail + pathLen mail line + 1) line
 
--- ---- parameters
-
-abbrev pub notSpace : ℕ → Bool
-notSpace b = not (eqb b 32)
-
--- The parameters of a tail, "each after one space" (32): a parameter goes up to the next space or the end. After k bytes that belong
--- to the parameter before.
-unfoldable pub paramsAfter : ℕ → List ℕ → List (List ℕ)
-paramsAfter k [] = []
-paramsAfter (suc k) (b ∷ s) = paramsAfter k s
-paramsAfter zero (b ∷ s) = let n = run notSpace s in take n s ∷ paramsAfter n s
-
-unfoldable pub params : List ℕ → List (List ℕ)
-params s = paramsAfter 0 s
-
--- a tail with parameters starts with the first one's space
-unfoldable pub spaced : List ℕ → Bool
-spaced [] = true
-spaced (b ∷ s) = eqb b 32
-
--- "letters, digits, hyphens" (45)
-unfoldable pub isKeywordByte : ℕ → Bool
-isKeywordByte b = within 65 90 b || within 97 122 b || within 48 57 b || eqb b 45
-
-unfoldable pub keywordLen : List ℕ → ℕ
-keywordLen p = run isKeywordByte p
-
-unfoldable pub keyword : List ℕ → List ℕ
-keyword p = take (keywordLen p) p
-
--- a value follows the keyword
-unfoldable pub hasValue : List ℕ → Bool
-hasValue p = ltb (keywordLen p) (length p)
-
--- the value, past the keyword and `=`
-unfoldable pub value : List ℕ → List ℕ
-value p = drop (keywordLen p + 1) p
-
--- "Keywords compare in any case."
-unfoldable pub isOrcpt : List ℕ → Bool
-isOrcpt p = sameAnyCase (bytes "ORCPT") (keyword p)
-
-unfoldable pub isAlt : List ℕ → Bool
-isAlt p = sameAnyCase (bytes "ALT-ADDRESS") (keyword p)
-
--- "bytes 33 to 126 other than `=`" (61). "Only ORCPT may also hold non-ASCII in its value."
-unfoldable pub isValueByte : Bool → ℕ → Bool
-isValueByte orcpt b = within 33 126 b && not (eqb b 61) || orcpt && isHigh b
-
--- "a keyword (letters, digits, hyphens, first not a hyphen), and maybe `=` with a value of one or more bytes .."
-unfoldable pub isParam : List ℕ → Bool
-isParam p =
-    nonempty (keyword p)
-    && not (eqb (getD p 0 0) 45)
-    && (not (hasValue p) || eqb (getD p (keywordLen p) 0) 61 && nonempty (value p) && all (isValueByte (isOrcpt p)) (value p))
-
--- ---- ALT-ADDRESS
-
--- the ALT-ADDRESS parameters
-unfoldable pub alts : List (List ℕ) → List (List ℕ)
-alts [] = []
-alts (p ∷ ps) = let more = alts ps in cond (isAlt p) (p ∷ more) more
-
--- "a second ALT-ADDRESS, an ALT-ADDRESS without a value .. are malformed"
-unfoldable pub altsOk : List (List ℕ) → Bool
-altsOk [] = true
-altsOk (p ∷ []) = hasValue p
-altsOk (p ∷ q ∷ ps) = false
-
--- the first ALT-ADDRESS parameter, empty where there is none
-unfoldable pub alt : List (List ℕ) → List ℕ
-alt ps = headOr (alts ps)
-  where
-    headOr : List (List ℕ) → List ℕ
-    headOr [] = []
-    headOr (p ∷ ps) = p
-
--- how many bytes stand before the first ALT-ADDRESS parameter's space, each parameter with its space before it
-unfoldable pub altPlace : List (List ℕ) → ℕ
-altPlace [] = 0
-altPlace (p ∷ ps) = let more = altPlace ps in cond (isAlt p) 0 (suc (length p) + more)
-
 -- ---- the fault of a line
 
 -- "at most 998 bytes", UTF-8, verb, path, parameters
@@ -172,9 +90,6 @@ unfoldable pub lineFault : Bool → List ℕ → Fault
 lineFault mail line = cond (wellFormed mail line) (altFault (all isAscii (path mail line)) (alts (params (tail mail line)))) Malformed
 
 -- "an ORCPT carries non-ASCII"
-unfoldable pub orcptClean : List ℕ → Bool
-orcptClean p = not (isOrcpt p) || all isAscii (value p)
-
 unfoldable pub orcptFault : Bool → List ℕ → Bool
 orcptFault mail line = not (all orcptClean (params (tail mail line)))
 

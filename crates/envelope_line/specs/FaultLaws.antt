@@ -1,22 +1,25 @@
 -- Laws of faults: the tests in the order in which code makes them. Assumes nothing.
-use mathlib.Core.Path.{_≡_, refl, sym, _∙_}
+use mathlib.Core.Path.{_≡_, sym, _∙_}
 use mathlib.Core.Bool.{Bool, true, false, cond, _&&_}
 use mathlib.Core.List.{List, [], _∷_}
 use Prim.Native.Nat.{ℕ, _+_, _-_, _≤_, _<_}
 use native.Mathlib.Omega.{arith}
+use lib.Dec.{T, leb, eqb, eqb→eq}
 use lib.ListN.{length, take, drop, getD}
+use mir.Facts.{and-yes, leb-yes}
 use borrow.Author.Tests.{lt-leb, le-leb, eq-eqb, ne-eqb}
-use Rattle.utf8.specs.Lists.{all}
-use Rattle.utf8.specs.Byte.{isAscii}
+use Rattle.lists.specs.ListsLaws.{by-test, yes-true, no-false}
+use Rattle.lists.specs.Lists.{all}
+use Rattle.lists.specs.Byte.{isAscii}
 use Rattle.utf8.specs.Utf8.{utf8}
 use Rattle.address.specs.declared.Scan.{Scan}
 use Rattle.address.specs.declared.Scan.the-variants.{To, Stop}
-use Rattle.address.specs.Address.{later}
-use Rattle.address.specs.Xtext.{isAltAddress}
-use Rattle.envelope_line.specs.PathLaws.{pathAt, path-end-to}
+use Rattle.xtext.specs.Xtext.{isAltAddress}
+use Rattle.envelope_line.specs.PathLaws.{pathAt, later-to, path-end}
 use Rattle.envelope_line.specs.declared.Fault.{Fault}
 use Rattle.envelope_line.specs.declared.Fault.the-variants.{Fine, Malformed, NoAlternative, BadAlternative}
-use Rattle.envelope_line.specs.EnvelopeLine.{verbLen, hasVerb, pathScan, isTo, pathLen, path, hasPath, tail, params, spaced, isParam, hasValue, value, alts, altsOk, wellFormed, altFault, lineFault}
+use Rattle.envelope_line.specs.EnvelopeLine.{verbLen, hasVerb, pathScan, isTo, pathLen, path, hasPath, tail, wellFormed, altFault, lineFault}
+use Rattle.parameter.specs.Parameter.{params, spaced, isParam, hasValue, value, alts, altsOk}
 
 -- the fault of a line by its tail; `ascii` says whether the path is ASCII
 unfoldable pub tailFault : Bool → List ℕ → Fault
@@ -81,21 +84,10 @@ module _ (ascii : Bool) (p : List ℕ) where
 -- ---- the whole line
 
 module _ (mail : Bool) (line : List ℕ) where
-  is-to : (n : ℕ) → To n ≡ pathAt mail line → isTo (pathScan mail (drop (verbLen mail) line)) ≡ true
-  unfolding pathAt later
-  is-to n e = go (pathScan mail (drop (verbLen mail) line)) e
-    where
-      go : (x : Scan) → To n ≡ later (verbLen mail) x → isTo x ≡ true
-      go (To k) e = refl
-      go (Stop k) e = absurd (let z : _≡_ {A = ℕ} 0 1 = cc in omega arith)
-
-  is-stop : (n : ℕ) → Stop n ≡ pathAt mail line → isTo (pathScan mail (drop (verbLen mail) line)) ≡ false
-  unfolding pathAt later
-  is-stop n e = go (pathScan mail (drop (verbLen mail) line)) e
-    where
-      go : (x : Scan) → Stop n ≡ later (verbLen mail) x → isTo x ≡ false
-      go (Stop k) e = refl
-      go (To k) e = absurd (let z : _≡_ {A = ℕ} 0 1 = cc in omega arith)
+  -- whether the path ends where one can
+  path-is-to : {x : Scan} → x ≡ pathAt mail line → isTo (pathScan mail (drop (verbLen mail) line)) ≡ isTo x
+  unfolding pathAt
+  path-is-to e = rw (e, later-to (verbLen mail) (pathScan mail (drop (verbLen mail) line)))
 
   pub line-long : 998 < length line → Malformed ≡ lineFault mail line
   unfolding lineFault wellFormed
@@ -118,17 +110,68 @@ module _ (mail : Bool) (line : List ℕ) where
 
         pub line-no-path : (n : ℕ) → Stop n ≡ pathAt mail line → Malformed ≡ lineFault mail line
         unfolding hasPath
-        line-no-path n e = no-path (rw (is-stop n e))
+        line-no-path n e = no-path (rw (path-is-to e))
 
         module _ (n : ℕ) (e : To n ≡ pathAt mail line) where
           pub line-open : (getD line n 0 ≡ 62 → ⊥) → Malformed ≡ lineFault mail line
           unfolding hasPath
-          line-open o = no-path (rw (is-to n e, ← path-end-to mail line n e, ne-eqb (getD line n 0) 62 o))
+          line-open o = no-path (rw (path-is-to e, ← path-end mail line e, ne-eqb (getD line n 0) 62 o))
 
           pub line-tail : {p : List ℕ} {a : Bool} {f : Fault} → getD line n 0 ≡ 62 → p ≡ take (n - verbLen mail) (drop (verbLen mail) line)
               → a ≡ all isAscii p → f ≡ tailFault a (drop (n + 1) line) → f ≡ lineFault mail line
           unfolding lineFault wellFormed tailFault hasPath path tail
           line-tail {p} {a} {f} o d b q =
-              let k = path-end-to mail line n e in
+              let k = path-end mail line e in
               let m : n - verbLen mail ≡ pathLen mail line = omega arith in
-              q ∙ rw (le-leb (length line) 998 l, u, v, is-to n e, ← k, eq-eqb (getD line n 0) 62 o, b, d, m)
+              q ∙ rw (le-leb (length line) 998 l, u, v, path-is-to e, ← k, eq-eqb (getD line n 0) 62 o, b, d, m)
+
+-- ---- a line without fault
+
+pub record Formed (mail : Bool) (line : List ℕ) : Type 0 where
+  pub short : length line ≤ 998
+  pub is-utf8 : T (utf8 line)
+  pub has-verb : T (hasVerb mail line)
+  pub has-path : T (hasPath mail line)
+  pub is-spaced : T (spaced (tail mail line))
+  pub are-params : T (all isParam (params (tail mail line)))
+
+module _ (mail : Bool) (line : List ℕ) (f : lineFault mail line ≡ Fine) where
+  well-formed : T (wellFormed mail line)
+  unfolding lineFault
+  well-formed = by-test (wellFormed mail line) (λ t. t) (λ t. absurd (
+      let q = rw (no-false (wellFormed mail line) t) at f in let z : _≡_ {A = ℕ} 0 1 = cc in omega arith))
+
+  pub alt-fine : altFault (all isAscii (path mail line)) (alts (params (tail mail line))) ≡ Fine
+  unfolding lineFault
+  alt-fine = rw (yes-true (wellFormed mail line) well-formed) at f
+
+  pub formed : Formed mail line
+  unfolding wellFormed
+  formed =
+      let l = leb (length line) 998 in
+      let u = utf8 line in
+      let v = hasVerb mail line in
+      let p = hasPath mail line in
+      let s = spaced (tail mail line) in
+      let q = all isParam (params (tail mail line)) in
+      let a = and-yes (l && u && v && p && s && q) (altsOk (alts (params (tail mail line)))) well-formed in
+      let b = and-yes (l && u && v && p && s) q (a .0) in
+      let d = and-yes (l && u && v && p) s (b .0) in
+      let e = and-yes (l && u && v) p (d .0) in
+      let g = and-yes (l && u) v (e .0) in
+      let h = and-yes l u (g .0) in
+      record {
+        short = leb-yes {a = length line} {b = 998} (h .0);
+        is-utf8 = h .1;
+        has-verb = g .1;
+        has-path = e .1;
+        is-spaced = d .1;
+        are-params = b .1;
+      }
+
+  -- the `>` after its path
+  pub closed : getD line (verbLen mail + pathLen mail line) 0 ≡ 62
+  unfolding hasPath
+  closed =
+      let n = verbLen mail + pathLen mail line in
+      eqb→eq (getD line n 0) 62 (and-yes (isTo (pathScan mail (drop (verbLen mail) line))) (eqb (getD line n 0) 62) (formed .has-path) .1)

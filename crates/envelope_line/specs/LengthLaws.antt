@@ -1,53 +1,22 @@
 -- How long what is written for a line can be. Assumes nothing.
-use mathlib.Core.Path.{_≡_, refl}
 use mathlib.Core.Bool.{Bool}
 use mathlib.Core.List.{List, [], _∷_, _++_}
-use Prim.Native.Nat.{ℕ, zero, suc, _+_, _*_, _≤_}
+use Prim.Native.Nat.{ℕ, _+_, _*_, _≤_}
 use native.Mathlib.Omega.{arith}
-use lib.Dec.{T, leb}
 use lib.ListN.{length, take, drop, length-append, length-take, length-drop}
-use mir.Facts.{and-yes, yes-and, leb-yes, yes-leb}
-use Rattle.utf8.specs.Lists.{all, cond-has}
-use Rattle.utf8.specs.Byte.{isAscii}
-use Rattle.utf8.specs.Run.{run}
-use Rattle.address.specs.XtextLaws.{decoded-le}
-use Rattle.envelope_line.specs.EnvelopeLine.{verbLen, pathLen, path, tail, notSpace, paramsAfter, params, keywordLen, value, isAlt, alts, alt, altPlace, newPath, withoutAlt, writtenLine, replacement}
+use Rattle.lists.specs.Lists.{all}
+use Rattle.lists.specs.ListsLaws.{cond-has}
+use Rattle.lists.specs.Byte.{isAscii}
+use Rattle.xtext.specs.XtextLaws.{decoded-le}
+use Rattle.envelope_line.specs.EnvelopeLine.{verbLen, pathLen, path, tail, newPath, replacement}
+use Rattle.parameter.specs.Parameter.{params, keywordLen, value, alt}
+use Rattle.parameter.specs.LengthLaws.{alt-le}
 
 take-le : (n : ℕ) (s : List ℕ) → length (take n s) ≤ length s
 take-le n s = rw length-take (omega arith)
 
 drop-le : (n : ℕ) (s : List ℕ) → length (drop n s) ≤ length s
 drop-le n s = rw length-drop (omega arith)
-
--- no parameter is longer than the text
-abbrev shorter : ℕ → List ℕ → Bool
-shorter n p = leb (length p) n
-
-params-shorter : (k n : ℕ) (s : List ℕ) → length s ≤ n → T (all (shorter n) (paramsAfter k s))
-unfolding paramsAfter
-params-shorter k n [] h = tt
-params-shorter (suc k) n (b ∷ s) h = params-shorter k n s (omega arith)
-params-shorter zero n (b ∷ s) h =
-    let m = run notSpace s in
-    yes-and (shorter n (take m s)) (all (shorter n) (paramsAfter m s)) (yes-leb {a = length (take m s)} {b = n} (omega (arith, take-le m s))) (params-shorter m n s (omega arith))
-
-alts-shorter : (n : ℕ) (ps : List (List ℕ)) → T (all (shorter n) ps) → T (all (shorter n) (alts ps))
-unfolding alts
-alts-shorter n [] h = tt
-alts-shorter n (p ∷ ps) h =
-    let both = and-yes (shorter n p) (all (shorter n) ps) h in
-    let more = alts-shorter n ps (both .1) in
-    cond-has (λ l. T (all (shorter n) l)) (isAlt p) (p ∷ alts ps) (alts ps) (λ t. yes-and (shorter n p) (all (shorter n) (alts ps)) (both .0) more) (λ t. more)
-
-alt-le : (t : List ℕ) → length (alt (params t)) ≤ length t
-unfolding alt params
-alt-le t = go (alts (paramsAfter 0 t)) refl (alts-shorter (length t) (paramsAfter 0 t) (params-shorter 0 (length t) t (omega arith)))
-  where
-    go : (found : List (List ℕ)) → alts (paramsAfter 0 t) ≡ found → T (all (shorter (length t)) (alts (paramsAfter 0 t))) → length (alt (paramsAfter 0 t)) ≤ length t
-    go [] e h = rw e (omega arith)
-    go (p ∷ more) e h =
-        let k = rw e at h in
-        rw e (leb-yes {a = length p} {b = length t} (and-yes (shorter (length t) p) (all (shorter (length t)) more) k .0))
 
 module _ (mail : Bool) (line : List ℕ) where
   pub new-path-le : length (newPath mail line) ≤ length line
@@ -56,22 +25,6 @@ module _ (mail : Bool) (line : List ℕ) where
       let t = drop (verbLen mail + pathLen mail line + 1) line in
       let p = alt (params t) in
       omega (arith, decoded-le (drop (keywordLen p + 1) p), drop-le (keywordLen p + 1) p, alt-le t, drop-le (verbLen mail + pathLen mail line + 1) line)
-
-  pub written-le : length (writtenLine mail line) ≤ 4 * length line + 1
-  unfolding writtenLine withoutAlt tail
-  written-le =
-      let t = drop (verbLen mail + pathLen mail line + 1) line in
-      let ps = params t in
-      let n = altPlace ps in
-      let m = altPlace ps + suc (length (alt ps)) in
-      let l = drop-le (verbLen mail + pathLen mail line + 1) line in
-      let a = take-le n t in
-      let b = drop-le m t in
-      let d = new-path-le in
-      let v = take-le (verbLen mail) line in
-      cond-has (λ out. length out ≤ 4 * length line + 1) (all isAscii (path mail line)) line
-      (take (verbLen mail) line ++ (newPath mail line ++ (62 ∷ (take n t ++ drop m t)))) (λ u. omega arith)
-      (λ u. simp length-append (omega arith))
 
   pub replacement-le : length (replacement mail line) ≤ 2 * length line + 5
   unfolding replacement path

@@ -1,6 +1,5 @@
 pub mod EnvelopeLine
 pub mod PathLaws
-pub mod ParameterLaws
 pub mod FaultLaws
 pub mod WriteLaws
 pub mod AsciiLaws

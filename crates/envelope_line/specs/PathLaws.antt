@@ -1,9 +1,8 @@
 -- Laws of the verb and the path, as code finds them. Assumes nothing.
-use mathlib.Core.Path.{_≡_, _∙_}
+use mathlib.Core.Path.{_≡_, refl, ap, _∙_}
 use mathlib.Core.Bool.{Bool, true, false}
 use mathlib.Core.List.{List}
 use Prim.Native.Nat.{ℕ, _+_, _≤_, min}
-use native.Mathlib.Omega.{arith}
 use lib.ListN.{length, take, drop, getD}
 use lib.Seq.{getD-drop}
 use borrow.Author.Tests.{eq-eqb, ne-eqb}
@@ -13,7 +12,22 @@ use Rattle.line.specs.LineLaws.{drop-capped}
 use Rattle.address.specs.declared.Scan.{Scan}
 use Rattle.address.specs.declared.Scan.the-variants.{To, Stop}
 use Rattle.address.specs.Address.{later, addressScan}
-use Rattle.envelope_line.specs.EnvelopeLine.{verb, verbLen, hasVerb, pathScan, scanEnd, pathLen, tail}
+use Rattle.envelope_line.specs.EnvelopeLine.{verb, verbLen, hasVerb, pathScan, scanEnd, isTo, pathLen, tail}
+
+-- ---- a scan moved by n bytes
+
+module _ (n : ℕ) where
+  pub later-end : (x : Scan) → scanEnd (later n x) ≡ n + scanEnd x
+  unfolding later
+  later-end (To k) = refl
+  later-end (Stop k) = refl
+
+  pub later-to : (x : Scan) → isTo (later n x) ≡ isTo x
+  unfolding later
+  later-to (To k) = refl
+  later-to (Stop k) = refl
+
+-- ---- verb and path
 
 module _ (mail : Bool) (line : List ℕ) where
   pub has-verb-mail : {front : List ℕ} {r : Bool} → mail ≡ true → front ≡ take 11 line → r ≡ sameAnyCase (verb true) front → r ≡ hasVerb mail line
@@ -46,21 +60,10 @@ module _ (mail : Bool) (line : List ℕ) where
     unfolding pathAt pathScan
     path-rcpt n e = rw (m, ← w, n) e
 
-  pub path-end-to : (n : ℕ) → To n ≡ pathAt → n ≡ verbLen mail + pathLen mail line
-  unfolding pathAt pathLen later
-  path-end-to n e = go (pathScan mail (drop (verbLen mail) line)) e
-    where
-      go : (x : Scan) → To n ≡ later (verbLen mail) x → n ≡ verbLen mail + scanEnd x
-      go (To k) e = cc
-      go (Stop k) e = absurd (let z : _≡_ {A = ℕ} 0 1 = cc in omega arith)
-
-  pub path-end-stop : (n : ℕ) → Stop n ≡ pathAt → n ≡ verbLen mail + pathLen mail line
-  unfolding pathAt pathLen later
-  path-end-stop n e = go (pathScan mail (drop (verbLen mail) line)) e
-    where
-      go : (x : Scan) → Stop n ≡ later (verbLen mail) x → n ≡ verbLen mail + scanEnd x
-      go (Stop k) e = cc
-      go (To k) e = absurd (let z : _≡_ {A = ℕ} 0 1 = cc in omega arith)
+  -- where it ends, or stops
+  pub path-end : {x : Scan} → x ≡ pathAt → scanEnd x ≡ verbLen mail + pathLen mail line
+  unfolding pathAt pathLen
+  path-end e = ap scanEnd e ∙ later-end (verbLen mail) (pathScan mail (drop (verbLen mail) line))
 
   pub tail-from : (n r : ℕ) → n ≡ verbLen mail + pathLen mail line → r ≡ min (n + 1) greatest → length line ≤ greatest → drop r line ≡ tail mail line
   unfolding tail

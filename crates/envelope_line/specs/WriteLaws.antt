@@ -6,14 +6,15 @@ use Prim.Native.Nat.{ℕ, suc, _+_, _-_, _≤_, _<_}
 use native.Mathlib.Omega.{arith}
 use lib.ListN.{length, take, drop, length-drop, drop-of-length-le}
 use lib.Seq.{take-all, drop-drop}
-use Rattle.utf8.specs.Lists.{all}
-use Rattle.utf8.specs.Byte.{isAscii}
-use Rattle.utf8.specs.Run.{run}
-use Rattle.buffer.specs.Buffer.{Wrote, AppendedCapped}
-use Rattle.address.specs.Xtext.{decoded}
-use Rattle.address.specs.XtextLaws.{decoded-end}
-use Rattle.envelope_line.specs.EnvelopeLine.{verbLen, pathLen, path, tail, notSpace, params, keywordLen, value, alt, altPlace, newPath, withoutAlt, writtenLine, replacement}
-use Rattle.envelope_line.specs.ParameterLaws.{paramAt, length-param, AltFrom, no-alt, alt-there}
+use Rattle.lists.specs.Lists.{all}
+use Rattle.lists.specs.Byte.{isAscii}
+use Rattle.lists.specs.Run.{run}
+use Rattle.buffer.specs.Buffer.{Wrote}
+use Rattle.xtext.specs.Xtext.{decoded}
+use Rattle.xtext.specs.XtextLaws.{decoded-end}
+use Rattle.envelope_line.specs.EnvelopeLine.{verbLen, pathLen, path, tail, newPath, withoutAlt, writtenLine, replacement}
+use Rattle.parameter.specs.Parameter.{notSpace, params, keywordLen, value, alt, altPlace}
+use Rattle.parameter.specs.ParameterLaws.{paramAt, length-param, AltFrom, no-alt, alt-there}
 
 -- the same text
 pub wrote-same : {x y before after : List ℕ} {r : ℕ} → x ≡ y → Wrote x before after r → Wrote y before after r

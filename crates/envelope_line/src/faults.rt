@@ -4,17 +4,17 @@ ghost use lib.ListN.{drop};
 ghost use Rattle.envelope_line.specs.EnvelopeLine.{lineFault};
 ghost use Rattle.envelope_line.specs.FaultLaws.{onlyAltFault, tailFault};
 use crate::Fault;
-use crate::parameter::alt_place;
-use crate::parameter::are_params;
-use crate::parameter::is_spaced;
-use crate::parameter::keyword_len;
-use crate::parameter::param_end;
-use crate::parameter::value_start;
 use crate::path::has_verb;
 use crate::path::path;
 use crate::path::path_start;
 use address::Scan;
 use line::part;
+use parameter::alt_place;
+use parameter::are_params;
+use parameter::is_spaced;
+use parameter::keyword_len;
+use parameter::param_end;
+use parameter::value_start;
 
 // The fault of a line whose parameters are well-formed and of which p is the only ALT-ADDRESS.
 fn only_alt_fault(p: &[u8], ascii: bool) -> Fault
@@ -26,7 +26,7 @@ fn only_alt_fault(p: &[u8], ascii: bool) -> Fault
     if ascii {
         return Fault::BadAlternative;
     }
-    if address::xtext::is_alt_address(part(p, value_start(p), p.len())) {
+    if xtext::is_alt_address(part(p, value_start(p), p.len())) {
         return Fault::Fine;
     }
     Fault::BadAlternative
@@ -79,6 +79,6 @@ pub fn line_fault(line: &[u8], mail: bool) -> Fault
     tail_fault(
         line,
         end + 1,
-        address::is_ascii(part(line, path_start(mail), end)),
+        utf8::is_ascii(part(line, path_start(mail), end)),
     )
 }

@@ -1,4 +1,2 @@
 pub mod Field
-pub mod TextLaws
 pub mod FieldLaws
-pub mod FieldSound

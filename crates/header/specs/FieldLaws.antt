@@ -10,16 +10,16 @@ use lib.Dec.{T, eqb}
 use lib.ListN.{length, take, drop, getD, length-drop, length-take, take-append-drop, drop-of-length-le}
 use lib.Seq.{drop-cons, drop-drop, getD-drop, length-take-le, take-nil}
 use mir.Facts.{and-yes}
-use Rattle.utf8.specs.Lists.{cond-has, yes-true, true-yes, no-false, all, joined}
-use Rattle.utf8.specs.Byte.{isAscii}
-use Rattle.utf8.specs.Run.{run, run-le, run-all}
-use Rattle.header_name.specs.Names.{kindOf}
-use Rattle.header.specs.Lines.{blank, nameByte, nameLen}
-use Rattle.line.specs.Line.{crlf}
-use Rattle.line.specs.LineLaws.{notCr}
-use Rattle.header.specs.LineLaws.{crlf-inside}
-use Rattle.header.specs.Fields.{fold, fieldLen, fieldsAfter, fieldsOf, nameOf, valueOf, lineCount, isHeld, refused, heldFrom, heldOf}
-use Rattle.header.specs.declared.HeldField.the-variants.{Absent, At}
+use Rattle.lists.specs.Lists.{all, joined}
+use Rattle.lists.specs.ListsLaws.{cond-has, yes-true, true-yes, no-false}
+use Rattle.lists.specs.Byte.{isAscii}
+use Rattle.lists.specs.CutByLaws.{cut-nil, cut-front, cut-next, cut-joined, cut-few}
+use Rattle.lists.specs.Run.{run}
+use Rattle.lists.specs.RunLaws.{run-le, run-all}
+use Rattle.header_line.specs.Lines.{nameByte, nameLen}
+use Rattle.line.specs.Line.{blank, crlf, notCr}
+use Rattle.line.specs.LineLaws.{crlf-inside}
+use Rattle.header.specs.Fields.{fold, fieldLen, fieldsOf, nameOf, valueOf, lineCount}
 
 -- ---- where a field ends
 
@@ -96,57 +96,28 @@ field-after h at to k e =
 
 -- ---- a header is its fields
 
-fields-skip : (k : ℕ) (h : List ℕ) → fieldsAfter k h ≡ fieldsOf (drop k h)
-unfolding fieldsAfter fieldsOf
-fields-skip zero h = refl
-fields-skip (suc k) [] = refl
-fields-skip (suc k) (b ∷ rest) = fields-skip k rest
-
-drop-pred : (n b : ℕ) (rest : List ℕ) → 0 < n → drop (pred n) rest ≡ drop n (b ∷ rest)
-drop-pred zero b rest h = absurd (not-suc-le-zero h)
-drop-pred (suc n) b rest h = refl
-
-fields-cons : (b : ℕ) (rest : List ℕ) → fieldsOf (b ∷ rest) ≡ take (fieldLen (b ∷ rest)) (b ∷ rest) ∷ fieldsOf (drop (fieldLen (b ∷ rest)) (b ∷ rest))
-unfolding fieldsAfter fieldsOf
-fields-cons b rest =
-    let n = fieldLen (b ∷ rest) in
-    ap (λ (fields : List (List ℕ)). take n (b ∷ rest) ∷ fields) (fields-skip (pred n) rest ∙ ap fieldsOf (drop-pred n b rest (field-some b rest)))
-
 pub fields-nil : fieldsOf [] ≡ []
-unfolding fieldsAfter fieldsOf
-fields-nil = refl
+unfolding fieldsOf
+fields-nil = cut-nil fieldLen
 
 pub fields-front : (h : List ℕ) → 0 < length h → fieldsOf h ≡ take (fieldLen h) h ∷ fieldsOf (drop (fieldLen h) h)
+unfolding fieldsOf
 fields-front [] k = absurd (not-suc-le-zero k)
-fields-front (b ∷ rest) k = fields-cons b rest
+fields-front (b ∷ rest) k = cut-front fieldLen (b ∷ rest) k (field-some b rest)
 
--- the first field of what is left, and the others
-pub fields-at : (h : List ℕ) (at : ℕ) → at < length h
-    → fieldsOf (drop at h) ≡ take (fieldLen (drop at h)) (drop at h) ∷ fieldsOf (drop (at + fieldLen (drop at h)) h)
-fields-at h at k =
-    let front = drop-cons h at 0 k in
-    rw (← drop-drop (fieldLen (drop at h)) at h, front) (fields-cons (getD h at 0) (drop (suc at) h))
-
--- where code knows that place as `to`
+-- the first field of what is left from `at` on, where code knows the place after it as `to`
 pub fields-next : (h : List ℕ) (at to : ℕ) → at < length h → to ≡ at + fieldLen (drop at h) → fieldsOf (drop at h) ≡ take (to - at) (drop at h) ∷ fieldsOf (drop to h)
-fields-next h at to k e =
-    let n : fieldLen (drop at h) ≡ to - at = omega arith in
-    let there : at + (to - at) ≡ to = omega arith in
-    fields-at h at k ∙ rw (n, there)
-
-after-joined : (k : ℕ) (h : List ℕ) → joined (fieldsAfter k h) ≡ drop k h
-unfolding fieldsAfter
-after-joined zero [] = refl
-after-joined (suc k) [] = refl
-after-joined (suc k) (b ∷ rest) = after-joined k rest
-after-joined zero (b ∷ rest) =
-    let n = fieldLen (b ∷ rest) in
-    rw (after-joined (pred n) rest, drop-pred n b rest (field-some b rest)) (take-append-drop n (b ∷ rest))
+unfolding fieldsOf
+fields-next h at to k e = cut-next fieldLen h at to k e (field-after h at to k e .0)
 
 -- nothing is lost or invented between fields
 pub fields-joined : (h : List ℕ) → joined (fieldsOf h) ≡ h
 unfolding fieldsOf
-fields-joined h = after-joined 0 h
+fields-joined h = cut-joined fieldLen h
+
+pub fields-few : (h : List ℕ) → length (fieldsOf h) ≤ length h
+unfolding fieldsOf
+fields-few h = cut-few fieldLen h
 
 -- ---- a field's value
 
@@ -170,14 +141,14 @@ pub name-le : (field : List ℕ) → nameLen field ≤ length field
 unfolding nameLen
 name-le field = run-le nameByte field
 
-module _ (field : List ℕ) where
-  pub refused-ascii : all isAscii (valueOf field) ≡ true → false ≡ refused field
-  unfolding refused
-  refused-ascii e = rw e
+-- as code takes the name from the front of a field
+module _ (field : List ℕ) (n : ℕ) (e : n ≡ nameLen field) where
+  pub name-part : take n field ≡ nameOf field
+  unfolding nameOf
+  name-part = rw e
 
-  pub refused-kind : (n : ℕ) (held : Bool) → all isAscii (valueOf field) ≡ false → n ≡ nameLen field → held ≡ isHeld (kindOf (take (n - 0) field)) → held ≡ refused field
-  unfolding refused nameOf
-  refused-kind n held e k t = let m : n - 0 ≡ nameLen field = omega arith in t ∙ rw (e, m)
+  pub name-size : n ≡ length (take n field)
+  name-size = sym (length-take-le n field (rw e (name-le field)))
 
 -- ---- the lines that end before a place
 
@@ -211,28 +182,3 @@ module _ {s : List ℕ} {i n : ℕ} (c : Counted s i n) where
 
   pub counted-end : length s ≤ i → n ≡ lineCount s
   counted-end k = omega (arith, c .left, lines-end s i k)
-
--- ---- field after field
-
-pub record HeldLeft (h : List ℕ) (at : ℕ) : Type 0 where
-  pub same : heldOf h ≡ heldFrom h at (fieldsOf (drop at h))
-
-pub held-all : (h : List ℕ) → HeldLeft h 0
-unfolding heldOf
-held-all h = record { same = refl }
-
-pub held-end : {h : List ℕ} {at : ℕ} → HeldLeft h at → length h ≤ at → Absent ≡ heldOf h
-unfolding heldFrom
-held-end {h} {at} l k = sym (l .same ∙ rw (drop-of-length-le h {i = at} k, fields-nil))
-
-module _ {h : List ℕ} {at to : ℕ} (l : HeldLeft h at) (k : at < length h) (e : to ≡ at + fieldLen (drop at h)) where
-  pub held-here : refused (take (to - at) (drop at h)) ≡ true → (n : ℕ) → n ≡ lineCount (take (at - 0) h) → At n at ≡ heldOf h
-  unfolding heldFrom
-  held-here r n c = let m : at - 0 ≡ at = omega arith in sym (l .same ∙ rw (fields-next h at to k e, r, c, m))
-
-  pub held-next : refused (take (to - at) (drop at h)) ≡ false → HeldLeft h to
-  unfolding heldFrom
-  held-next r =
-      let size : length (take (to - at) (drop at h)) ≡ to - at = length-take-le (to - at) (drop at h) (omega (arith, field-le (drop at h))) in
-      let there : at + (to - at) ≡ to = omega arith in
-      record { same = l .same ∙ rw (fields-next h at to k e, r, size, there) }

@@ -5,10 +5,11 @@ use mathlib.Core.List.{List, [], _∷_, _++_}
 use Prim.Native.Nat.{ℕ}
 use lib.Dec.{T, eqb}
 use lib.ListN.{getD}
-use Rattle.utf8.specs.Lists.{all}
-use Rattle.utf8.specs.Byte.{within}
+use Rattle.lists.specs.Lists.{all}
+use Rattle.lists.specs.Byte.{within}
 use Rattle.utf8.specs.Utf8.{utf8}
-use Rattle.header.specs.Lines.{lineByte, blank, nameLen}
+use Rattle.header_line.specs.Lines.{lineByte, nameLen}
+use Rattle.line.specs.Line.{blank}
 use Rattle.header.specs.Fields.{nameOf, valueOf}
 
 -- a line, or what follows the colon of a name line

@@ -5,23 +5,26 @@ use mathlib.Core.List.{List, [], _∷_, _++_, append-assoc, append-nil}
 use Prim.Native.Nat.{ℕ, zero, suc, _+_, _-_, _≤_, _<_}
 use native.Mathlib.Nat.{add-zero}
 use native.Mathlib.Omega.{arith}
-use lib.Dec.{T, leb, eqb, eqb→eq}
+use lib.Dec.{T, leb, eqb, eqb→eq, lt→ltb}
 use lib.ListN.{length, take, drop, getD, length-append, length-drop, take-append-drop, List·getD-eq-default}
 use lib.Seq.{drop-drop, length-take-le, split-at, take-at, drop-at}
 use mir.Facts.{and-yes, yes-and, leb-yes, leb-no}
-use Rattle.utf8.specs.Lists.{by-test, yes-true, no-false, all, all-right, all-past, all-weaken, joined}
-use Rattle.utf8.specs.Byte.{isAscii, within}
-use Rattle.utf8.specs.Run.{run, run-all, run-past}
+use Rattle.lists.specs.ListsLaws.{by-test, yes-true, no-false, all-append, all-right, all-past, all-weaken}
+use Rattle.lists.specs.Lists.{all, joined}
+use Rattle.lists.specs.Byte.{isAscii, within}
+use Rattle.lists.specs.ByteLaws.{within-high}
+use Rattle.lists.specs.Run.{run}
+use Rattle.lists.specs.RunLaws.{run-all, run-past}
 use Rattle.utf8.specs.Utf8.{utf8}
 use Rattle.utf8.specs.Utf8Laws.{utf8-right, utf8-append, utf8-ascii, utf8-cut}
-use Rattle.header.specs.Lines.{lineByte, blank, nameByte, nameLen, named, continuation, wellFormed, lineOk, linesFrom, linesOf}
-use Rattle.line.specs.Line.{crlf, lineLen}
-use Rattle.header.specs.LineLaws.{crlf-inside, front-good, front-bad}
+use Rattle.header_line.specs.Lines.{lineByte, nameByte, nameLen, named, continuation, wellFormed, lineOk, linesFrom, checkedLines}
+use Rattle.line.specs.Line.{blank, crlf, lineLen, notCr}
+use Rattle.header_line.specs.LineLaws.{front-good, front-bad}
+use Rattle.line.specs.LineLaws.{crlf-inside}
 use Rattle.header.specs.Fields.{fold, fieldLen, fieldsOf, nameOf, valueOf, unfoldedAfter, trimmed, textOf}
 use Rattle.header.specs.FieldLaws.{ends, len-cons, len-past, fields-nil, fields-front}
-use Rattle.line.specs.LineLaws.{notCr}
 use Rattle.header.specs.FieldShape.{piece, continued, folded, Shaped, Each, withoutBreaks}
-use Rattle.header.specs.declared.Lines.the-variants.{WellFormed, Malformed}
+use Rattle.header_line.specs.declared.LineCheck.the-variants.{WellFormed, Malformed}
 
 -- ---- pieces
 
@@ -327,8 +330,8 @@ unfolding continuation
 first-named line t = rw and-false at (well-start true line t)
 
 -- each field of a header without malformed lines is a name, a colon, a value and CRLF
-pub fields-shaped : (h : List ℕ) → linesOf h ≡ WellFormed → Each Shaped (fieldsOf h)
-unfolding linesOf
+pub fields-shaped : (h : List ℕ) → checkedLines h ≡ WellFormed → Each Shaped (fieldsOf h)
+unfolding checkedLines
 fields-shaped [] e = rw fields-nil tt
 fields-shaped (b ∷ rest) e =
     let c = cut-line 0 0 (b ∷ rest) (omega arith) (first-well 0 0 (b ∷ rest) (omega arith) e) in
@@ -434,3 +437,20 @@ module _ {field : List ℕ} (s : Shaped field) where
   pub text-ascii : all isAscii (textOf field) ≡ all isAscii (valueOf field)
   unfolding textOf
   text-ascii = trimmed-ascii (unfoldedAfter 0 (valueOf field)) ∙ rw (unfolded, s .value) (joined-ascii (s .line) (s .more))
+
+-- ---- ASCII
+
+name-byte-ascii : (b : ℕ) → T (nameByte b) → T (isAscii b)
+unfolding nameByte
+name-byte-ascii b t = lt→ltb b 128 (omega (arith, within-high 33 126 b (and-yes (within 33 126 b) _ t .0)))
+
+pub name-ascii : (field : List ℕ) → T (all isAscii (nameOf field))
+unfolding nameOf nameLen
+name-ascii field = all-weaken nameByte isAscii name-byte-ascii (nameOf field) (run-all nameByte field)
+
+-- a field whose value is ASCII is ASCII
+pub field-ascii : {field : List ℕ} → Shaped field → T (all isAscii (valueOf field)) → T (all isAscii field)
+field-ascii {field} s t =
+    rw (s .parts)
+    (all-append isAscii (nameOf field) (58 ∷ (valueOf field ++ (13 ∷ 10 ∷ []))) (name-ascii field)
+    (all-append isAscii (58 ∷ valueOf field) (13 ∷ 10 ∷ []) t tt))

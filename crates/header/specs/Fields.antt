@@ -1,18 +1,12 @@
--- The fields of a header: name, value and text; and the first held field with non-ASCII. Assumes nothing.
-use mathlib.Core.Bool.{Bool, true, false, cond, not, _&&_}
+-- The fields of a header: name, value and text. Assumes nothing.
+use mathlib.Core.Bool.{Bool, cond, not, _&&_}
 use mathlib.Core.List.{List, [], _∷_}
-use Prim.Native.Nat.{ℕ, zero, suc, pred, _+_, _-_}
+use Prim.Native.Nat.{ℕ, zero, suc, _+_, _-_}
 use lib.ListN.{length, take, drop, getD}
-use Rattle.utf8.specs.Lists.{all}
-use Rattle.utf8.specs.Byte.{isAscii}
-use Rattle.utf8.specs.Run.{run}
-use Rattle.header_name.specs.declared.Kind.{Kind}
-use Rattle.header_name.specs.declared.Kind.the-variants.{Address, PlainText, Held, Other}
-use Rattle.header_name.specs.Names.{kindOf}
-use Rattle.header.specs.Lines.{blank, nameLen}
-use Rattle.line.specs.Line.{crlf}
-use Rattle.header.specs.declared.HeldField.{HeldField}
-use Rattle.header.specs.declared.HeldField.the-variants.{Absent, At}
+use Rattle.lists.specs.CutBy.{cutBy}
+use Rattle.lists.specs.Run.{run}
+use Rattle.header_line.specs.Lines.{nameLen}
+use Rattle.line.specs.Line.{blank, crlf}
 
 -- a fold at the front: CRLF before a continuation
 unfoldable pub fold : List ℕ → Bool
@@ -23,15 +17,9 @@ unfoldable pub fieldLen : List ℕ → ℕ
 fieldLen [] = 0
 fieldLen (b ∷ rest) = cond (crlf (b ∷ rest) && not (fold (b ∷ rest))) 2 (suc (fieldLen rest))
 
--- what is left of a header, after k bytes of the field before, cut into fields
-unfoldable pub fieldsAfter : ℕ → List ℕ → List (List ℕ)
-fieldsAfter k [] = []
-fieldsAfter (suc k) (b ∷ rest) = fieldsAfter k rest
-fieldsAfter zero (b ∷ rest) = take (fieldLen (b ∷ rest)) (b ∷ rest) ∷ fieldsAfter (pred (fieldLen (b ∷ rest))) rest
-
 -- a header cut into fields: a name line and its continuations each
 unfoldable pub fieldsOf : List ℕ → List (List ℕ)
-fieldsOf h = fieldsAfter 0 h
+fieldsOf h = cutBy fieldLen h
 
 -- a field's name
 unfoldable pub nameOf : List ℕ → List ℕ
@@ -59,24 +47,3 @@ textOf field = trimmed (unfoldedAfter 0 (valueOf field))
 unfoldable pub lineCount : List ℕ → ℕ
 lineCount [] = 0
 lineCount (b ∷ rest) = cond (crlf (b ∷ rest)) (suc (lineCount rest)) (lineCount rest)
-
--- whether a name of this kind is a held one
-unfoldable pub isHeld : Kind → Bool
-isHeld Address = false
-isHeld PlainText = false
-isHeld Held = true
-isHeld Other = false
-
--- "a held name .. carries non-ASCII"
-unfoldable pub refused : List ℕ → Bool
-refused field = not (all isAscii (valueOf field)) && isHeld (kindOf (nameOf field))
-
--- the first refused field of these fields of a header, the first of which starts at the byte `at`. "a field's place is its first
--- line": lines count from 0, so its number is how many lines end before it.
-unfoldable pub heldFrom : List ℕ → ℕ → List (List ℕ) → HeldField
-heldFrom h at [] = Absent
-heldFrom h at (field ∷ fields) = cond (refused field) (At (lineCount (take at h)) at) (heldFrom h (at + length field) fields)
-
--- the first such field of a header
-unfoldable pub heldOf : List ℕ → HeldField
-heldOf h = heldFrom h 0 (fieldsOf h)

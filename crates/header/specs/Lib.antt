@@ -1,9 +1,8 @@
-pub mod Lines
-pub mod LineLaws
 pub mod Fields
 pub mod FieldLaws
 pub mod FieldShape
 pub mod FieldShapeLaws
-pub mod LineNumber
 pub mod HeaderCases
 pub mod AsciiFields
+pub mod AsciiFieldsLaws
+pub mod LineNumberLaws

@@ -1,55 +1,92 @@
-// The lines and fields of a header section.
-pub mod checking;
-pub mod field;
-
+// The fields of a header section: a name line and its continuations each.
 ghost use mathlib.Core.Path.{_≡_};
-ghost use Rattle.header.specs.Lines.{linesOf};
-ghost use Rattle.header.specs.Fields.{heldOf};
+ghost use Prim.Native.Nat.{_+_, _≤_, _<_};
+ghost use lib.ListN.{length, take, drop};
+ghost use Rattle.lists.specs.Lists.{all};
+ghost use Rattle.lists.specs.Byte.{isAscii};
+ghost use Rattle.header.specs.Fields.{fieldLen, valueOf, lineCount};
+ghost use Rattle.header.specs.FieldLaws.{ends};
+ghost use Rattle.header.specs.AsciiFields.{AsciiFields};
+ghost use Rattle.header.specs.AsciiFieldsLaws.{Boundary};
+use header_line::name_len;
+use line::is_blank;
 
-// Whether every line of a header is well formed; else the number of the first malformed line, and the byte where it starts.
-pub enum Lines {
-    WellFormed,
-    Malformed(usize, usize),
-}
-
-// The first held field with non-ASCII in its value: the number of its first line, and the byte where it starts.
-pub enum HeldField {
-    Absent,
-    At(usize, usize),
-}
-
-// The lines of a header.
-pub fn check(h: &[u8]) -> Lines
-    ensures { λ r. ⌜ r ≡ linesOf (now (h .entry)) ⌝ }
+// Whether the CRLF that ends a field stands at i.
+fn ends_at(h: &[u8], i: usize) -> bool
+    requires { ⌜ i < length (now h) ⌝ }
+    ensures { λ r. ⌜ r ≡ ends (drop i (now (h .entry))) ⌝ }
 {
-    let mut at: usize = 0;
+    line::crlf_at(h, i) & !is_blank(line::byte_at(h, i + 2))
+}
+
+// The place after the field at `at`.
+pub fn field_end(h: &[u8], at: usize) -> usize
+    ensures { λ r. ⌜ r ≡ at + fieldLen (drop at (now (h .entry))) ⌝ }
+{
+    if h.len() <= at {
+        return at;
+    }
+    let mut i = line::next_cr(h, at);
+    while i < h.len() {
+        if ends_at(h, i) {
+            return i + 2;
+        }
+        i = line::next_cr(h, i + 1);
+    }
+    i
+}
+
+// The last place from `at` up to `to` where a field ends; `at` where there is none. From the end, since it is mostly near.
+fn last_field_end(h: &[u8], at: usize, to: usize) -> usize
+    requires { ⌜ (at ≤ to) × (to ≤ length (now h)) ⌝ }
+    ensures { λ r. ⌜ (at ≤ r) × (r ≤ to) × Boundary (now (h .entry)) at r ⌝ }
+{
+    let mut i = to;
+    while 2 <= i - at {
+        if ends_at(h, i - 2) {
+            return i;
+        }
+        i -= 1;
+    }
+    at
+}
+
+// The place after the fields from `at` on that are wholly ASCII, up to the first one that is not. They are passed over without a
+// look at their names or values.
+pub fn ascii_fields_end(h: &[u8], at: usize) -> usize
+    ensures { λ r. ⌜ AsciiFields (now (h .entry)) at r ⌝ }
+{
+    let high = utf8::ascii_end(h, at);
+    if h.len() <= high {
+        return high;
+    }
+    last_field_end(h, at, high)
+}
+
+// Whether the value of a field is ASCII.
+pub fn value_is_ascii(field: &[u8]) -> bool
+    ensures { λ r. ⌜ r ≡ all isAscii (valueOf (now (field .entry))) ⌝ }
+{
+    let n = name_len(field);
+    if field.len() < n + 3 {
+        return true;
+    }
+    let from = n + 1;
+    let to = field.len() - 2;
+    utf8::is_ascii(&field[from..to])
+}
+
+// How many lines end in some bytes.
+pub fn line_count(s: &[u8]) -> usize
+    ensures { λ r. ⌜ r ≡ lineCount (now (s .entry)) ⌝ }
+{
     let mut n: usize = 0;
-    while at < h.len() {
-        let next = checking::line_end(h, at, n == 0);
-        if next == at {
-            return Lines::Malformed(n, at);
+    let mut i = 0;
+    while i < s.len() {
+        if line::crlf_at(s, i) {
+            n += 1;
         }
-        at = next;
-        n += 1;
+        i += 1;
     }
-    Lines::WellFormed
-}
-
-// The first field of a header with a held name and non-ASCII in its value.
-pub fn held_field(h: &[u8]) -> HeldField
-    ensures { λ r. ⌜ r ≡ heldOf (now (h .entry)) ⌝ }
-{
-    let mut at: usize = 0;
-    while at < h.len() {
-        let start = field::ascii_fields_end(h, at);
-        if h.len() <= start {
-            return HeldField::Absent;
-        }
-        let to = field::field_end(h, start);
-        if field::is_refused(&h[start..to]) {
-            return HeldField::At(field::line_count(&h[0..start]), start);
-        }
-        at = to;
-    }
-    HeldField::Absent
+    n
 }

@@ -4,13 +4,33 @@ use mathlib.Core.List.{List, [], _∷_, _++_, map}
 use Prim.Native.Nat.{ℕ, _+_}
 use lib.Dec.{eqb}
 use lib.ListN.{length}
-use Rattle.utf8.specs.Lists.{joined}
+use Rattle.lists.specs.Lists.{joined}
 use Rattle.header_name.specs.declared.Kind.{Kind}
-use Rattle.header_name.specs.declared.Kind.the-variants.{Address, PlainText, Held, Other}
-use Rattle.header_name.specs.Names.{six, addressNames, plainTextNames, heldNames}
+use Rattle.header_name.specs.declared.Kind.the-variants.{Address, PlainText, Received, Commented, Parameterized, Held, Other}
+use Rattle.header_name.specs.Names.{Group, six, addressNames, plainTextNames, receivedNames, commentedNames, parameterizedNames, heldNames, groups}
 use Rattle.letter_case.specs.LetterCase.{bytes, sameAnyCase}
 
--- a name, and the letter that stands for its kind: A address, P plain text, H held
+-- the letter that stands for a kind: A address, P plain text, R received, C commented, Q parameterized, H held, O other
+unfoldable pub letter : Kind → ℕ
+letter Address = 65
+letter PlainText = 80
+letter Received = 82
+letter Commented = 67
+letter Parameterized = 81
+letter Held = 72
+letter Other = 79
+
+-- the kind that a letter stands for
+unfoldable pub lettered : ℕ → Kind
+lettered k =
+    cond (eqb k 65) Address
+    (cond (eqb k 80) PlainText
+    (cond (eqb k 82) Received
+    (cond (eqb k 67) Commented
+    (cond (eqb k 81) Parameterized
+    (cond (eqb k 72) Held Other)))))
+
+-- a name, and the letter of its kind
 pub record Entry : Type 0 where
   pub name : List ℕ
   pub kind : ℕ
@@ -18,11 +38,12 @@ pub record Entry : Type 0 where
 abbrev pub entry : ℕ → List ℕ → Entry
 entry kind name = record { name = name; kind = kind }
 
-unfoldable pub lettered : ℕ → Kind
-lettered k = cond (eqb k 65) Address (cond (eqb k 80) PlainText (cond (eqb k 72) Held Other))
+unfoldable pub entriesOf : List Group → List Entry
+entriesOf [] = []
+entriesOf (g ∷ gs) = map (entry (letter (g .kind))) (g .names) ++ entriesOf gs
 
 unfoldable pub entries : List Entry
-entries = map (entry 65) addressNames ++ (map (entry 80) plainTextNames ++ map (entry 72) heldNames)
+entries = entriesOf groups
 
 -- the kind of the first entry with that name
 unfoldable pub kindIn : List Entry → List ℕ → Kind
@@ -35,13 +56,13 @@ startsFrom at [] = at ∷ []
 startsFrom at (e ∷ es) = at ∷ startsFrom (at + length (e .name)) es
 
 unfoldable pub starts : List ℕ
-unfolding startsFrom entries addressNames plainTextNames heldNames six bytes
+unfolding startsFrom entries entriesOf letter six addressNames plainTextNames receivedNames commentedNames parameterizedNames heldNames groups bytes
 starts = startsFrom 0 entries
 
 unfoldable pub names : List ℕ
-unfolding entries addressNames plainTextNames heldNames six bytes
+unfolding entries entriesOf letter six addressNames plainTextNames receivedNames commentedNames parameterizedNames heldNames groups bytes
 names = joined (map (λ (e : Entry). e .name) entries)
 
 unfoldable pub kinds : List ℕ
-unfolding entries addressNames plainTextNames heldNames six bytes
+unfolding entries entriesOf letter six addressNames plainTextNames receivedNames commentedNames parameterizedNames heldNames groups bytes
 kinds = map (λ (e : Entry). e .kind) entries

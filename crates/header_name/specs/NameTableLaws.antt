@@ -1,7 +1,7 @@
 -- Laws of the table: it gives the kind of each name; its lists agree at each entry. Assumes nothing.
 use mathlib.Core.Path.{_≡_, refl, sym, _∙_}
 use mathlib.Core.Bool.{Bool, true, false, cond, _&&_}
-use mathlib.Core.List.{List, [], _∷_, _++_, map, append-nil}
+use mathlib.Core.List.{List, [], _∷_, _++_, map}
 use Prim.Native.Nat.{ℕ, _+_, _-_, _≤_, _<_}
 use native.Mathlib.Numerals.{add-one}
 use native.Mathlib.Omega.{arith}
@@ -9,12 +9,13 @@ use lib.Dec.{T, leb, eqb, leb→le, eqb→eq}
 use lib.ListN.{length, take, drop, getD, drop-of-length-le}
 use lib.Seq.{drop-cons}
 use mir.Facts.{and-yes}
-use Rattle.utf8.specs.Lists.{by-test, yes-true, no-false}
-use Rattle.utf8.specs.Byte.{below}
-use Rattle.header_name.specs.declared.Kind.the-variants.{Held, Other}
-use Rattle.header_name.specs.Names.{six, addressNames, plainTextNames, heldNames, among, kindOf}
+use Rattle.lists.specs.ListsLaws.{by-test, yes-true, no-false}
+use Rattle.lists.specs.ByteLaws.{below}
+use Rattle.header_name.specs.declared.Kind.{Kind}
+use Rattle.header_name.specs.declared.Kind.the-variants.{Address, PlainText, Received, Commented, Parameterized, Held, Other}
+use Rattle.header_name.specs.Names.{Group, six, addressNames, plainTextNames, receivedNames, commentedNames, parameterizedNames, heldNames, groups, among, kindAmong, kindOf}
 use Rattle.letter_case.specs.LetterCase.{bytes, sameAnyCase}
-use Rattle.header_name.specs.NameTable.{Entry, entry, lettered, entries, kindIn, startsFrom, starts, names, kinds}
+use Rattle.header_name.specs.NameTable.{Entry, entry, letter, lettered, entriesOf, entries, kindIn, startsFrom, starts, names, kinds}
 
 -- ---- the table gives the kind of each name
 
@@ -25,12 +26,24 @@ kind-part k [] es name = refl
 kind-part k (n ∷ group) es name =
     by-test (sameAnyCase n name) (λ t. rw (yes-true (sameAnyCase n name) t)) (λ t. rw (no-false (sameAnyCase n name) t) (kind-part k group es name))
 
+letter-back : (k : Kind) → lettered (letter k) ≡ k
+unfolding lettered letter
+letter-back Address = refl
+letter-back PlainText = refl
+letter-back Received = refl
+letter-back Commented = refl
+letter-back Parameterized = refl
+letter-back Held = refl
+letter-back Other = refl
+
+kind-groups : (gs : List Group) (name : List ℕ) → kindAmong gs name ≡ kindIn (entriesOf gs) name
+unfolding kindAmong entriesOf kindIn
+kind-groups [] name = refl
+kind-groups (g ∷ gs) name = sym (kind-part (letter (g .kind)) (g .names) (entriesOf gs) name ∙ rw (letter-back (g .kind), kind-groups gs name))
+
 pub kind-table : (name : List ℕ) → kindOf name ≡ kindIn entries name
-unfolding kindOf entries kindIn lettered
-kind-table name =
-    let last : kindIn (map (entry 72) heldNames) name ≡ cond (among heldNames name) Held Other = rw append-nil at (kind-part 72 heldNames [] name) in
-    sym (kind-part 65 addressNames (map (entry 80) plainTextNames ++ map (entry 72) heldNames) name
-    ∙ rw (kind-part 80 plainTextNames (map (entry 72) heldNames) name, last))
+unfolding kindOf entries
+kind-table name = kind-groups groups name
 
 -- ---- the lists agree at each entry
 
@@ -61,7 +74,7 @@ pub record Row (ns ss ks : List ℕ) (k : ℕ) : Type 0 where
   pub kind : getD ks k 0 ≡ getD entries k none .kind
 
 rowTest : ℕ → Bool
-unfolding startsFrom starts names kinds entries addressNames plainTextNames heldNames six bytes
+unfolding startsFrom starts names kinds entries entriesOf letter six addressNames plainTextNames receivedNames commentedNames parameterizedNames heldNames groups bytes
 rowTest k =
     leb (k + 2) (length starts)
     && leb (k + 1) (length kinds)
@@ -104,7 +117,7 @@ row ns ss ks k n s t h = rw (n, s, t) (row-of k h)
 -- ---- the search
 
 count : length entries ≡ 32
-unfolding entries addressNames plainTextNames heldNames six
+unfolding entries entriesOf six addressNames plainTextNames receivedNames commentedNames parameterizedNames heldNames groups
 count = refl
 
 -- what is left to search from entry k on

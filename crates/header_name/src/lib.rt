@@ -8,18 +8,23 @@ ghost use Rattle.header_name.specs.NameTable.{lettered as kindLettered, 
 pub enum Kind {
     Address,
     PlainText,
+    Received,
+    Commented,
+    Parameterized,
     Held,
     Other,
 }
 
-// The names, and the kind of each: A address, P plain text, H held.
+// The names, and the kind of each: A address, P plain text, R received, C commented, Q parameterized, H held.
 const NAMES: [u8; 354] = *b"\
     FromSenderReply-ToToCcBcc\
     Resent-FromResent-SenderResent-Reply-ToResent-ToResent-CcResent-Bcc\
     Return-PathDisposition-Notification-To\
     SubjectCommentsContent-Description\
-    ReceivedDateResent-DateMessage-IDResent-Message-IDIn-Reply-ToReferences\
-    MIME-VersionContent-TypeContent-IDContent-DispositionContent-Transfer-Encoding\
+    Received\
+    DateResent-DateMessage-IDResent-Message-IDIn-Reply-ToReferences\
+    MIME-VersionContent-IDContent-Transfer-Encoding\
+    Content-TypeContent-Disposition\
     Original-RecipientFinal-RecipientKeywords";
 
 const KINDS: [u8; 32] = *b"\
@@ -27,8 +32,10 @@ const KINDS: [u8; 32] = *b"\
     AAAAAA\
     AA\
     PPP\
-    HHHHHHH\
-    HHHHH\
+    R\
+    CCCCCC\
+    CCC\
+    QQ\
     HHH";
 
 // Where each name starts, and where the last one ends.
@@ -59,9 +66,9 @@ const STARTS: [usize; 33] = [
     225,
     235,
     247,
-    259,
-    269,
-    288,
+    257,
+    282,
+    294,
     313,
     331,
     346,
@@ -77,6 +84,15 @@ fn lettered(k: u8) -> Kind
     }
     if k == b'P' {
         return Kind::PlainText;
+    }
+    if k == b'R' {
+        return Kind::Received;
+    }
+    if k == b'C' {
+        return Kind::Commented;
+    }
+    if k == b'Q' {
+        return Kind::Parameterized;
     }
     if k == b'H' {
         return Kind::Held;

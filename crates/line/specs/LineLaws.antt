@@ -1,5 +1,5 @@
 -- Laws of lines: by position, as code goes from CR to CR. Assumes nothing.
-use mathlib.Core.Path.{_≡_, refl}
+use mathlib.Core.Path.{_≡_, refl, ap, sym, _∙_}
 use mathlib.Core.Bool.{Bool, true, false, not, _&&_, and-false}
 use mathlib.Core.List.{List, [], _∷_}
 use Prim.Native.Nat.{ℕ, suc, _+_, _-_, _≤_, _<_, min}
@@ -7,21 +7,15 @@ use native.Mathlib.Nat.{add-zero}
 use native.Mathlib.Numerals.{add-one}
 use native.Mathlib.Omega.{arith}
 use lib.Dec.{leb, ltb, eqb, eqb→eq}
-use lib.ListN.{length, take, drop, getD, length-drop, drop-of-length-le}
-use lib.Seq.{take-all, take-nil, drop-cons, drop-drop, getD-drop}
+use lib.ListN.{length, take, drop, getD, length-drop, drop-of-length-le, List·getD-eq-default}
+use lib.Seq.{take-all, take-nil, take-add, drop-at, drop-cons, drop-drop, getD-drop, length-take-le}
 use borrow.Author.Tests.{not-false}
-use Rattle.utf8.specs.Lists.{by-test, cond-has, yes-true, no-false, true-yes}
-use Rattle.utf8.specs.Run.{run, run-after}
-use mir.Facts.{leb-yes, leb-no, ltb-yes, ltb-no}
+use Rattle.lists.specs.ListsLaws.{by-test, cond-has, yes-true, no-false, true-yes}
+use Rattle.lists.specs.Run.{run}
+use Rattle.lists.specs.RunLaws.{run-after}
+use mir.Facts.{and-yes, leb-yes, leb-no, ltb-yes, ltb-no}
 use Rattle.buffer.specs.Buffer.{greatest}
-use Rattle.line.specs.Line.{crlf, lineLen}
-
-abbrev pub notCr : ℕ → Bool
-notCr b = not (eqb b 13)
-
--- how many bytes stand before the first CR
-abbrev pub crRun : List ℕ → ℕ
-crRun s = run notCr s
+use Rattle.line.specs.Line.{crlf, lineLen, notCr, crRun}
 
 -- no CRLF stands before the first CR
 pub line-cr : (s : List ℕ) → lineLen s ≡ crRun s + lineLen (drop (crRun s) s)
@@ -49,6 +43,10 @@ module _ (s : List ℕ) (i : ℕ) where
   unfolding crlf
   crlf-at = rw (getD-drop i s 0 0, getD-drop i s 1 0, add-zero)
 
+  pub crlf-past : length s ≤ i → false ≡ crlf (drop i s)
+  unfolding crlf
+  crlf-past h = rw (drop-of-length-le s {i = i} h)
+
   pub line-next-cr : (r : ℕ) → r ≡ i + crRun (drop i s) → i + lineLen (drop i s) ≡ r + lineLen (drop r s)
   line-next-cr r e = let k = line-cr (drop i s) in let d = drop-drop (crRun (drop i s)) i s in rw (e, ← d) (omega arith)
 
@@ -72,10 +70,49 @@ module _ (s : List ℕ) (i : ℕ) where
   unfolding lineLen
   line-past h = rw (drop-of-length-le s {i = i} h) (omega arith)
 
+pub crlf-inside : (h : List ℕ) (e : ℕ) → crlf (drop e h) ≡ true → e + 2 ≤ length h
+unfolding crlf
+crlf-inside h e t =
+    let both = and-yes (eqb (getD (drop e h) 0 0) 13) (eqb (getD (drop e h) 1 0) 10) (true-yes (eqb (getD (drop e h) 0 0) 13 && eqb (getD (drop e h) 1 0) 10) t) in
+    let lf : getD h (e + 1) 0 ≡ 10 = sym (getD-drop e h 1 0) ∙ eqb→eq (getD (drop e h) 1 0) 10 (both .1) in
+    by-test (leb (length h) (e + 1))
+    (λ u. absurd (omega (arith, sym (List·getD-eq-default h 0 {n = e + 1} (leb-yes u)) ∙ lf)))
+    (λ u. omega (arith, leb-no {a = length h} {b = e + 1} u))
+
 pub line-le : (s : List ℕ) → lineLen s ≤ length s
 unfolding lineLen
 line-le [] = omega arith
 line-le (b ∷ s) = let k = line-le s in cond-has (λ n. n ≤ suc (length s)) (crlf (b ∷ s)) 0 (suc (lineLen s)) (λ t. omega arith) (λ t. omega arith)
+
+-- ---- the line at the front, with its CRLF
+
+crlf-take : (n : ℕ) (s : List ℕ) → crlf (take (suc (suc n)) s) ≡ crlf s
+unfolding crlf
+crlf-take n [] = refl
+crlf-take n (a ∷ []) = refl
+crlf-take n (a ∷ b ∷ s) = refl
+
+len-front : (n : ℕ) (s : List ℕ) → n ≡ lineLen s → lineLen (take (suc (suc n)) s) ≡ lineLen s
+len-front n [] e = refl
+len-front n (b ∷ s) e =
+    by-test (crlf (b ∷ s))
+    (λ t. let c = yes-true (crlf (b ∷ s)) t in
+    line-none (take (suc (suc n)) (b ∷ s)) (crlf-take n (b ∷ s) ∙ c) ∙ sym (line-none (b ∷ s) c))
+    (λ t. let c = no-false (crlf (b ∷ s)) t in
+    let m : n ≡ suc (lineLen s) = e ∙ line-more b s c in
+    line-more b (take (suc n) s) (crlf-take n (b ∷ s) ∙ c)
+    ∙ ap (λ k. suc (lineLen (take (suc k) s))) m
+    ∙ ap suc (len-front (lineLen s) s refl)
+    ∙ sym (line-more b s c))
+
+module _ (s : List ℕ) where
+  pub line-front : lineLen (take (lineLen s + 2) s) ≡ lineLen s
+  line-front = let m : lineLen s + 2 ≡ suc (suc (lineLen s)) = omega arith in rw m (len-front (lineLen s) s refl)
+
+  pub crlf-front : crlf (drop (lineLen s) (take (lineLen s + 2) s)) ≡ crlf (drop (lineLen s) s)
+  crlf-front =
+      let n = lineLen s in
+      rw (take-add n 2 s, drop-at (take n s) (take 2 (drop n s)) n (length-take-le n s (line-le s))) (crlf-take 0 (drop n s))
 
 -- ---- parts
 

@@ -2,15 +2,46 @@
 ghost use mathlib.Core.Path.{_≡_};
 ghost use Prim.Native.Nat.{_+_, _-_, _≤_};
 ghost use lib.ListN.{length, take, drop, getD};
-ghost use Rattle.utf8.specs.Lists.{all};
-ghost use Rattle.line.specs.Line.{lineLen};
-ghost use Rattle.line.specs.LineLaws.{notCr, crRun};
+ghost use Rattle.lists.specs.Lists.{all};
+ghost use Rattle.lists.specs.Run.{run};
+ghost use Rattle.line.specs.Line.{blank, crlf, lineLen, notCr, crRun};
 
 // The byte at a place; 0 past the end.
 pub fn byte_at(s: &[u8], at: usize) -> u8
     ensures { λ r. ⌜ r ≡ getD (now (s .entry)) at 0 ⌝ }
 {
     if at < s.len() { s[at] } else { 0 }
+}
+
+// Space or TAB.
+pub fn is_blank(b: u8) -> bool
+    ensures { λ r. ⌜ r ≡ blank b ⌝ }
+{
+    (b == 32) | (b == 9)
+}
+
+// Where the spaces and TABs from a place on end.
+pub fn blanks_end(s: &[u8], at: usize) -> usize
+    ensures { λ r. ⌜ r ≡ at + run blank (drop at (now (s .entry))) ⌝ }
+{
+    let mut i = at;
+    while i < s.len() {
+        if !is_blank(s[i]) {
+            return i;
+        }
+        i += 1;
+    }
+    i
+}
+
+// Whether CRLF stands at a place.
+pub fn crlf_at(s: &[u8], at: usize) -> bool
+    ensures { λ r. ⌜ r ≡ crlf (drop at (now (s .entry))) ⌝ }
+{
+    if s.len() <= at {
+        return false;
+    }
+    (s[at] == 13) & (byte_at(s, at + 1) == 10)
 }
 
 // The bytes of a text from `from` up to `to`, as far as they are there.

@@ -1,8 +1,8 @@
 ghost use mathlib.Core.Path.{_≡_};
 ghost use Prim.Native.Nat.{_+_, _≤_};
 ghost use lib.ListN.{length, take, drop};
-ghost use Rattle.utf8.specs.Lists.{all};
-ghost use Rattle.utf8.specs.Byte.{isAscii};
+ghost use Rattle.lists.specs.Lists.{all};
+ghost use Rattle.lists.specs.Byte.{isAscii};
 ghost use Rattle.utf8.specs.Utf8.{charLen, secondLow, secondHigh, continues, charAt, asciiRun, utf8};
 
 // A character's length in bytes, by its first byte.
@@ -130,6 +130,19 @@ pub fn ascii_end(s: &[u8], at: usize) -> usize
         i += 1;
     }
     i
+}
+
+// Whether every byte is ASCII. Without an early exit: most texts are ASCII to their end.
+pub fn is_ascii(s: &[u8]) -> bool
+    ensures { λ r. ⌜ r ≡ all isAscii (now (s .entry)) ⌝ }
+{
+    let mut ok = true;
+    let mut i = 0;
+    while i < s.len() {
+        ok = ok & (s[i] < 128);
+        i += 1;
+    }
+    ok
 }
 
 // Whether a text is UTF-8.

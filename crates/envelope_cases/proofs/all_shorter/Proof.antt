@@ -1,6 +1,5 @@
--- Each turn leaves fewer lengths.
-use Prim.Native.Nat.{_-_}
 use lib.ListN.{length}
+use Prim.Native.Nat.{_-_}
 use borrow.Author.Needs.{needs}
 use Rattle.envelope_cases.proofs.all_shorter.Statement.{statement}
 use Rattle.envelope_cases.proofs.all_shorter.Tie as tie

@@ -1,8 +1,8 @@
 use Rattle.header.specs.FieldLaws.{field-after}
 use lib.ListN.{length}
-use borrow.Author.Needs.{needs}
 use native.Mathlib.Omega.{arith}
 use Prim.Native.Nat.{_-_}
+use borrow.Author.Needs.{needs}
 use Rattle.header_cases.proofs.show_fields.Statement.{statement}
 use Rattle.header_cases.proofs.show_fields.Tie as tie
 
@@ -24,20 +24,14 @@ loop-holds c = search needs
 field-end-requires : tie.Need-field-end-requires Inv-loop μ-loop
 field-end-requires c κs = search needs
 
-sub-show-field : tie.Need-sub-show-field Inv-loop μ-loop
-sub-show-field c = let p = field-after _ _ _ (c .before .loop-test .taken) (c .field-end .ensures) in omega (arith, p .0)
-
-part-show-field-start : tie.Need-part-show-field-start Inv-loop μ-loop
-part-show-field-start c = let p = field-after _ _ _ (c .before .loop-test .taken) (c .field-end .ensures) in omega (arith, p .0, p .1)
-
-part-show-field-end : tie.Need-part-show-field-end Inv-loop μ-loop
-part-show-field-end c = let p = field-after _ _ _ (c .before .loop-test .taken) (c .field-end .ensures) in omega (arith, p .0, p .1)
+part-requires : tie.Need-part-requires Inv-loop μ-loop
+part-requires c κs = search needs
 
 show-field-requires : tie.Need-show-field-requires Inv-loop μ-loop
 show-field-requires c κs = search needs
 
 loop-less : tie.Need-loop-less Inv-loop μ-loop
-loop-less c = let p = field-after _ _ _ (c .before .before .before .loop-test .taken) (c .before .before .field-end .ensures) in omega (arith, p .0)
+loop-less c = omega (arith, field-after _ _ _ (c .before .before .before .loop-test .taken) (c .before .before .field-end .ensures) .0)
 
 loop-again : tie.Need-loop-again Inv-loop μ-loop
 loop-again c = search needs
@@ -55,9 +49,7 @@ show-fields-spec =
     say-requires
     loop-holds
     field-end-requires
-    sub-show-field
-    part-show-field-start
-    part-show-field-end
+    part-requires
     show-field-requires
     loop-less
     loop-again

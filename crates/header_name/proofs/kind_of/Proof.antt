@@ -16,7 +16,7 @@ slice-aggregate-kind-in-3 : tie.Need-slice-aggregate-kind-in-3
 slice-aggregate-kind-in-3 c = search needs
 
 kind-in-requires : tie.Need-kind-in-requires
-unfolding startsFrom starts names kinds entries addressNames plainTextNames heldNames six bytes
+unfolding startsFrom starts names kinds
 kind-in-requires c κs = (refl, refl, refl)
 
 returns : tie.Need-returns

@@ -1,5 +1,5 @@
-use Rattle.line.specs.LineLaws.{notCr, crRun}
-use Rattle.utf8.specs.Run.{run-step, run-stop, run-end}
+use Rattle.line.specs.Line.{notCr, crRun}
+use Rattle.lists.specs.RunLaws.{run-step, run-stop, run-end}
 use borrow.Author.Tests.{eq-eqb, ne-eqb}
 use lib.ListN.{length, drop}
 use mathlib.Core.Path.{_≡_, sym, _∙_}

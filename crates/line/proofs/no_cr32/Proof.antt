@@ -1,5 +1,5 @@
-use Rattle.line.specs.LineLaws.{notCr}
-use Rattle.utf8.specs.Run.{Tested, tested-none, tested-more, tested-all}
+use Rattle.line.specs.Line.{notCr}
+use Rattle.lists.specs.RunLaws.{Tested, tested-none, tested-more, tested-all}
 use Prim.Native.Nat.{_-_, _≤_}
 use native.Mathlib.Omega.{arith}
 use Rattle.line.proofs.no_cr32.Statement.{statement}

@@ -1,5 +1,5 @@
-use Rattle.line.specs.LineLaws.{notCr, crRun}
-use Rattle.utf8.specs.Run.{run-block}
+use Rattle.line.specs.Line.{notCr, crRun}
+use Rattle.lists.specs.RunLaws.{run-block}
 use borrow.Author.Tests.{not-false}
 use lib.ListN.{length, drop}
 use mathlib.Core.Path.{_≡_, refl, sym, _∙_}

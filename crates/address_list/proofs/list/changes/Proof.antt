@@ -1,7 +1,6 @@
 use native.Mathlib.Omega.{arith}
 use Rattle.address_list.specs.Parts.{changes}
 use Rattle.address_list.specs.PartsLaws.{changes-angled}
-use mathlib.Core.Path.{_∙_}
 use borrow.Author.Needs.{needs}
 use Rattle.address_list.proofs.list.changes.Statement.{statement}
 use Rattle.address_list.proofs.list.changes.Tie as tie

@@ -1,7 +1,6 @@
 use Rattle.address_list.specs.Parts.{changes}
-use mathlib.Core.Bool.{_||_}
-use mathlib.Core.Path.{_≡_, refl, sym, _∙_}
-use Prim.Native.Nat.{_+_, _-_, _≤_}
+use mathlib.Core.Path.{refl, sym, _∙_}
+use Prim.Native.Nat.{_-_}
 use native.Mathlib.Omega.{arith}
 use lib.ListN.{length}
 use Rattle.address_list.specs.TableLaws.{Walked, walked-start, walked-unfit, walked-next, walked-end}
@@ -10,13 +9,13 @@ use Rattle.address_list.proofs.list.examine.Statement.{statement}
 use Rattle.address_list.proofs.list.examine.Tie as tie
 
 abbrev Inv-loop : tie.InvT-loop
-Inv-loop s place₀ changed₀ i₀ place changed i = Walked s i place changed
+Inv-loop s rules state₀ changed₀ i₀ state changed i = Walked rules s i state changed
 
 abbrev μ-loop : tie.MeasureT-loop
-μ-loop s place₀ changed₀ i₀ place changed i = length s - i
+μ-loop s rules state₀ changed₀ i₀ state changed i = length s - i
 
 loop-holds : tie.Need-loop-holds Inv-loop μ-loop
-loop-holds c = walked-start _
+loop-holds c = walked-start _ _
 
 part-from-requires : tie.Need-part-from-requires Inv-loop μ-loop
 part-from-requires c κs = search needs

@@ -1,8 +1,8 @@
 use Rattle.address.specs.AddressLaws.{byte-within}
-use mathlib.Core.Path.{_≡_, refl, sym, _∙_}
+use mathlib.Core.Path.{sym, _∙_}
 use Prim.Native.Nat.{_+_, _<_}
 use native.Mathlib.Omega.{arith}
-use Rattle.address_list.specs.PartsLaws.{Took, took-stray, alternative-close, alternative-ascii, alternative-no-bracket, alternative-no-address, alternative-open, alternative-half-open, alternative-high, alternative-there}
+use Rattle.address_list.specs.PartsLaws.{took-stray, alternative-close, alternative-ascii, alternative-no-bracket, alternative-no-address, alternative-open, alternative-half-open, alternative-high, alternative-there}
 use borrow.Author.Needs.{needs}
 use Rattle.address_list.proofs.part.alternative.Statement.{statement}
 use Rattle.address_list.proofs.part.alternative.Tie as tie

@@ -1,6 +1,5 @@
-use mathlib.Core.Path.{_≡_, refl, sym, _∙_}
 use native.Mathlib.Omega.{arith}
-use Rattle.address_list.specs.PartsLaws.{Took, took-stray, named-address, named-phrase, named-none}
+use Rattle.address_list.specs.PartsLaws.{took-stray, named-address, named-phrase, named-none}
 use borrow.Author.Needs.{needs}
 use Rattle.address_list.proofs.part.named.Statement.{statement}
 use Rattle.address_list.proofs.part.named.Tie as tie

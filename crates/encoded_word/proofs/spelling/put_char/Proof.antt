@@ -4,8 +4,8 @@ use Prim.Native.Nat.{_+_, _-_, _*_, _≤_}
 use native.Mathlib.Omega.{arith}
 use Rattle.buffer.specs.BufferLaws.{reached-start, reached-then, reached-end, length-appended}
 use Rattle.buffer.specs.Buffer.{Reached}
-use Rattle.encoded_word.specs.SpellingLaws.{spell-at, spell-end, length-spell-byte}
-use Rattle.encoded_word.specs.Spelling.{spell}
+use Rattle.word_spelling.specs.SpellingLaws.{spell-at, spell-end, length-spell-byte}
+use Rattle.word_spelling.specs.Spelling.{spell}
 use Rattle.encoded_word.proofs.spelling.put_char.Statement.{statement}
 use Rattle.encoded_word.proofs.spelling.put_char.Tie as tie
 

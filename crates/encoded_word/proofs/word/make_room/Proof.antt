@@ -1,6 +1,6 @@
 use mathlib.Core.Path.{sym}
 use Rattle.buffer.specs.BufferLaws.{appended-none, appended-then}
-use Rattle.encoded_word.specs.StreamLaws.{gap-here, gap-next, left-here, left-next}
+use Rattle.row.specs.StreamLaws.{gap-here, gap-next, left-here, left-next}
 use borrow.Author.Needs.{needs}
 use Rattle.encoded_word.proofs.word.make_room.Statement.{statement}
 use Rattle.encoded_word.proofs.word.make_room.Tie as tie

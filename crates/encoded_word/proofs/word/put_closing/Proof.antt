@@ -1,5 +1,5 @@
 use Rattle.buffer.specs.BufferLaws.{stores, appended-stores}
-use Rattle.encoded_word.specs.Reading.{closing}
+use Rattle.row.specs.Row.{closing}
 use lib.ListN.{length-set}
 use native.Mathlib.Omega.{arith}
 use borrow.Author.Needs.{needs}

@@ -1,5 +1,5 @@
 use Rattle.buffer.specs.BufferLaws.{stores, appended-stores}
-use Rattle.encoded_word.specs.Stream.{start}
+use Rattle.row.specs.Stream.{start}
 use lib.ListN.{length-set}
 use native.Mathlib.Omega.{arith}
 use borrow.Author.Needs.{needs}

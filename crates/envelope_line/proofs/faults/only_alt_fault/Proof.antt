@@ -1,5 +1,5 @@
 use Rattle.envelope_line.specs.FaultLaws.{only-bare, only-beside, only-fine, only-bad}
-use Rattle.envelope_line.specs.ParameterLaws.{has-value, has-none, value-part}
+use Rattle.parameter.specs.ParameterLaws.{has-value, has-none, value-part}
 use mathlib.Core.Path.{sym, _∙_}
 use borrow.Author.Needs.{needs}
 use Rattle.envelope_line.proofs.faults.only_alt_fault.Statement.{statement}

@@ -1,0 +1,25 @@
+use Rattle.address_pieces.specs.WritingLaws.{with-copy}
+use native.Mathlib.Omega.{arith}
+use borrow.Author.Needs.{needs}
+use Rattle.address_pieces.proofs.add_with_copy.Statement.{statement}
+use Rattle.address_pieces.proofs.add_with_copy.Tie as tie
+
+add-rewritten-requires : tie.Need-add-rewritten-requires
+add-rewritten-requires c κs = search needs
+
+add-encoded-requires : tie.Need-add-encoded-requires
+add-encoded-requires c κs = search needs
+
+same-length : tie.Need-same-length
+same-length c = search needs
+
+same-length-2 : tie.Need-same-length-2
+same-length-2 c = search needs
+
+returns : tie.Need-returns
+returns c = with-copy _ _ _ (c .before .before .before .before .before .before .before .before .before .before .before .before .before .before .before .pre .0) (omega arith) (c .before .before .before .before .before .before .before .before .add-rewritten .ensures) (c .before .before .add-encoded .ensures)
+
+pub add-with-copy-spec : {M : Type 1} → statement M
+add-with-copy-spec =
+    tie.close
+    (tie.spec add-rewritten-requires add-encoded-requires same-length same-length-2 returns)

@@ -1,0 +1,40 @@
+use Rattle.address_pieces.specs.WritingLaws.{wrote-same}
+use Rattle.address_pieces.specs.Pieces.{piece}
+use Rattle.address_pieces.specs.PiecesLaws.{address-ascii, address-high}
+use mathlib.Core.Path.{sym, _∙_}
+use borrow.Author.Needs.{needs}
+use Rattle.address_pieces.proofs.part.put_bare.Statement.{statement}
+use Rattle.address_pieces.proofs.part.put_bare.Tie as tie
+
+is-ascii-requires : tie.Need-is-ascii-requires
+is-ascii-requires c κs = search needs
+
+put-piece-requires : tie.Need-put-piece-requires
+put-piece-requires c κs = search needs
+
+same-length : tie.Need-same-length
+same-length c = search needs
+
+returns : tie.Need-returns
+returns c = wrote-same (address-ascii _ _ piece (sym (c .before .before .before .before .before .is-ascii .ensures) ∙ c .before .before .before .before .if1 .taken)) (c .before .before .put-piece .ensures)
+
+put-removed-requires : tie.Need-put-removed-requires
+put-removed-requires c κs = search needs
+
+same-length-2 : tie.Need-same-length-2
+same-length-2 c = search needs
+
+returns-2 : tie.Need-returns-2
+returns-2 c = wrote-same (address-high _ _ piece (sym (c .before .before .before .before .before .is-ascii .ensures) ∙ c .before .before .before .before .if1 .left)) (c .before .before .put-removed .ensures)
+
+pub put-bare-spec : {M : Type 1} → statement M
+put-bare-spec =
+    tie.close
+    (tie.spec
+    is-ascii-requires
+    put-piece-requires
+    same-length
+    returns
+    put-removed-requires
+    same-length-2
+    returns-2)

@@ -1,0 +1,5 @@
+pub mod NewFieldLaws
+pub mod Outcome
+pub mod OutcomeLaws
+pub mod OutgoingHeader
+pub mod OutputLaws

@@ -1,0 +1,269 @@
+-- Laws of the outcome where the input is accepted: measured, then written. Assumes nothing.
+use mathlib.Core.Path.{_≡_, refl, sym, ap, _∙_}
+use mathlib.Core.List.{List, [], _∷_, _++_}
+use Prim.Native.Nat.{ℕ, _+_, _*_, _≤_, _<_, min}
+use native.Mathlib.Omega.{arith}
+use native.Mathlib.Nat.{not-suc-le-zero}
+use lib.ListN.{length, length-append}
+use borrow.Author.Tests.{lt-ltb, le-ltb}
+use Rattle.buffer.specs.Buffer.{Wrote, AppendedCapped, greatest}
+use Rattle.buffer.specs.BufferLaws.{capped-then, capped-same, wrote-of}
+use Rattle.letter_case.specs.LetterCase.{bytes}
+use Rattle.encoded_word.specs.Segments.{rendered}
+use Rattle.encoded_word.specs.SegmentsLaws.{rendered-append}
+use Rattle.envelope_line.specs.declared.Fault.{Fault}
+use Rattle.envelope.specs.declared.Checked.{Checked}
+use Rattle.envelope.specs.declared.Checked.the-variants.{Passed, Refused}
+use Rattle.envelope.specs.Envelope.{checked, texts, writtenOf, written, orcptLine, mailReplacement, onlyRcptOf, rcptReplacement}
+use Rattle.envelope.specs.LineStarts.{EnvelopeChecked, textsAt}
+use Rattle.envelope.specs.WrittenLaws.{stored}
+use Rattle.envelope.specs.LengthLaws.{written-le}
+use Rattle.envelope.specs.ReplacementLaws.{mail-replacement-short, rcpt-replacement-short}
+use Rattle.header_line.specs.declared.LineCheck.{LineCheck}
+use Rattle.header_line.specs.declared.LineCheck.the-variants.{WellFormed, Malformed}
+use Rattle.header_line.specs.Lines.{checkedLines}
+use Rattle.rules.specs.declared.Rules.the-variants.{Spool}
+use Rattle.outgoing_field.specs.Fate.{segmentsOf, headerSegments, limited, heldOf}
+use Rattle.outgoing_field.specs.FateLaws.{limited-short}
+use Rattle.outgoing_field.specs.OwedLaws.{owed-header}
+use Rattle.call.specs.declared.Refusal.{Refusal}
+use Rattle.call.specs.declared.Refusal.the-variants.{EnvelopeOver, HeaderOver, EnvelopeLine, EnvelopeNeeds, HeaderNeeds}
+use Rattle.call.specs.declared.Verdict.{Verdict}
+use Rattle.call.specs.declared.Verdict.the-variants.{Accept, Refuse}
+use Rattle.call.specs.declared.Answer.{Answer}
+use Rattle.call.specs.OutgoingHeader.{newField, newFields, outgoingSegments, outgoingHeader}
+use Rattle.call.specs.Outcome.{over, ofEnvelope, ofLines, ofOrcpt, ofHeld, firstOf, verdict, outcomeOf, outcome, observed}
+use Rattle.call.specs.OutcomeLaws.{RefusedBy}
+use Rattle.call.specs.NewFieldLaws.{length-new-field}
+
+-- ---- refusals
+
+-- where a verdict refuses, so does the call
+pub refused-observed : (e h b c : List ℕ) {refusal : Refusal} {r : Answer} → verdict e h (length b) (length c) ≡ Refuse refusal → RefusedBy refusal r → observed r b c ≡ outcome e h b c
+unfolding outcome outcomeOf
+refused-observed e h b c v a = rw (v, a .number, a .place, a .none₁, a .none₂)
+
+pub over-yes : (limit size : ℕ) (refusal : Refusal) → limit < size → over limit size refusal ≡ Refuse refusal
+unfolding over
+over-yes limit size refusal k = rw (lt-ltb limit size k)
+
+pub over-no : (limit size : ℕ) (refusal : Refusal) → size ≤ limit → over limit size refusal ≡ Accept
+unfolding over
+over-no limit size refusal k = rw (le-ltb limit size k)
+
+module _ (e h : List ℕ) (room₁ room₂ : ℕ) where
+  pub envelope-over : 16384 < length e → verdict e h room₁ room₂ ≡ Refuse EnvelopeOver
+  unfolding verdict firstOf
+  envelope-over k = rw (over-yes 16384 (length e) EnvelopeOver k)
+
+  module _ (short₁ : length e ≤ 16384) where
+    pub header-over : 32768 < length h → verdict e h room₁ room₂ ≡ Refuse HeaderOver
+    unfolding verdict firstOf
+    header-over k = rw (over-no 16384 (length e) EnvelopeOver short₁, over-yes 32768 (length h) HeaderOver k)
+
+    module _ (short₂ : length h ≤ 32768) where
+      pub envelope-line : (fault : Fault) (line : ℕ) → checked e ≡ Refused fault line → verdict e h room₁ room₂ ≡ Refuse (EnvelopeLine fault line)
+      unfolding verdict firstOf ofEnvelope
+      envelope-line fault line k = rw (over-no 16384 (length e) EnvelopeOver short₁, over-no 32768 (length h) HeaderOver short₂, k)
+
+      module _ (count : ℕ) (passed : checked e ≡ Passed count) where
+        past-envelope : verdict e h room₁ room₂
+            ≡ firstOf
+            (ofLines (checkedLines h)
+            ∷ ofOrcpt (orcptLine e)
+            ∷ ofHeld (heldOf Spool h)
+            ∷ over room₁ (length (written e)) (EnvelopeNeeds (length (written e)))
+            ∷ over room₂ (length (outgoingHeader e h)) (HeaderNeeds (length (outgoingHeader e h)))
+            ∷ [])
+        unfolding verdict firstOf ofEnvelope
+        past-envelope = rw (over-no 16384 (length e) EnvelopeOver short₁, over-no 32768 (length h) HeaderOver short₂, passed)
+
+-- of verdicts one after another
+first-refused : (a b : List Verdict) (refusal : Refusal) → firstOf a ≡ Refuse refusal → firstOf (a ++ b) ≡ Refuse refusal
+unfolding firstOf
+first-refused [] b refusal k = absurd (let z : _≡_ {A = ℕ} 0 1 = cc in omega arith)
+first-refused (Accept ∷ a) b refusal k = first-refused a b refusal k
+first-refused (Refuse r ∷ a) b refusal k = k
+
+first-accepted : (a b : List Verdict) → firstOf a ≡ Accept → firstOf (a ++ b) ≡ firstOf b
+unfolding firstOf
+first-accepted [] b k = refl
+first-accepted (Accept ∷ a) b k = first-accepted a b k
+first-accepted (Refuse r ∷ a) b k = absurd (let z : _≡_ {A = ℕ} 0 1 = cc in omega arith)
+
+-- no header line is malformed, and no ORCPT and no held field carries non-ASCII
+pub record Accepted (e h : List ℕ) : Type 0 where
+  pub content : firstOf (ofLines (checkedLines h) ∷ ofOrcpt (orcptLine e) ∷ ofHeld (heldOf Spool h) ∷ []) ≡ Accept
+
+pub accepted-lines : {e h : List ℕ} → Accepted e h → checkedLines h ≡ WellFormed
+unfolding firstOf ofLines
+accepted-lines {e} {h} ok = go (checkedLines h) refl (ok .content)
+  where
+    go : (l : LineCheck) → checkedLines h ≡ l → firstOf (ofLines l ∷ ofOrcpt (orcptLine e) ∷ ofHeld (heldOf Spool h) ∷ []) ≡ Accept → checkedLines h ≡ WellFormed
+    go WellFormed q k = q
+    go (Malformed line at) q k = absurd (let z : _≡_ {A = ℕ} 0 1 = cc in omega arith)
+
+-- ---- the header, by the texts of its new first fields
+
+unfoldable pub headerOf : List ℕ → List ℕ → List ℕ → List ℕ
+headerOf mail rcpt h =
+    rendered ((newField (bytes "Downgraded-Mail-From:") mail ++ newField (bytes "Downgraded-Rcpt-To:") rcpt) ++ headerSegments Spool h)
+
+header-le : (h : List ℕ) → checkedLines h ≡ WellFormed → length (rendered (headerSegments Spool h)) ≤ 30 * length h
+unfolding segmentsOf
+header-le h w = owed-header Spool h w .short
+
+-- texts of new first fields, and a header, within their limits
+pub record Short (mail rcpt h : List ℕ) : Type 0 where
+  pub of-mail : length mail ≤ 2048
+  pub of-rcpt : length rcpt ≤ 2048
+  pub of-header : length h ≤ 32768
+
+header-of-le : {mail rcpt h : List ℕ} → Short mail rcpt h → checkedLines h ≡ WellFormed → length (headerOf mail rcpt h) ≤ 30 * length h + 20600
+unfolding headerOf bytes
+header-of-le {mail} {rcpt} {h} s w =
+    let first = newField (bytes "Downgraded-Mail-From:") mail in
+    let second = newField (bytes "Downgraded-Rcpt-To:") rcpt in
+    omega (
+      arith,
+      ap length (rendered-append (first ++ second) (headerSegments Spool h)),
+      length-append (rendered (first ++ second)) (rendered (headerSegments Spool h)),
+      ap length (rendered-append first second),
+      length-append (rendered first) (rendered second),
+      length-new-field (bytes "Downgraded-Mail-From:") mail,
+      length-new-field (bytes "Downgraded-Rcpt-To:") rcpt,
+      header-le h w,
+      s .of-mail,
+      s .of-rcpt,
+    )
+
+pub header-wrote : {mail rcpt h before mid rest after : List ℕ} {n m k : ℕ} → Short mail rcpt h → checkedLines h ≡ WellFormed → length before ≤ greatest
+    → AppendedCapped (rendered (newField (bytes "Downgraded-Mail-From:") mail)) 0 before mid n
+    → AppendedCapped (rendered (newField (bytes "Downgraded-Rcpt-To:") rcpt)) n mid rest m
+    → AppendedCapped (rendered (headerSegments Spool (limited h))) m rest after k
+    → Wrote (headerOf mail rcpt h) before after k
+unfolding headerOf
+header-wrote {mail} {rcpt} {h} s w room a b d =
+    let first = newField (bytes "Downgraded-Mail-From:") mail in
+    let second = newField (bytes "Downgraded-Rcpt-To:") rcpt in
+    let last = headerSegments Spool h in
+    let whole = capped-then (capped-then a b room) (rw (limited-short h (s .of-header)) at d) room in
+    let same : (rendered first ++ rendered second) ++ rendered last ≡ rendered ((first ++ second) ++ last) = rw (rendered-append (first ++ second) last, rendered-append first second) in
+    wrote-of (capped-same same whole) (omega (arith, header-of-le s w, s .of-header))
+
+-- ---- room
+
+-- r tells whether so many bytes fit a room: where r fits it they do, else r is how many they are.
+pub record Needed (size room r : ℕ) : Type 0 where
+  pub enough : r ≤ room → size ≤ room
+  pub exact : room < r → r ≡ size
+
+pub needed-size : {size room r : ℕ} → r ≡ size → Needed size room r
+needed-size e = record { enough = λ k. rw e at k; exact = λ k. e }
+
+-- a room that holds every outgoing header of a well-formed header of this length
+pub ample : {mail rcpt h : List ℕ} {room : ℕ} → Short mail rcpt h → checkedLines h ≡ WellFormed → 30 * length h + 20600 ≤ room → Needed (length (headerOf mail rcpt h)) room 0
+ample {mail} {rcpt} {h} {room} s w k = record { enough = λ z. fits; exact = λ z. absurd (not-suc-le-zero z) }
+  where
+    fits : length (headerOf mail rcpt h) ≤ room
+    fits = omega (arith, header-of-le s w)
+
+-- these are the texts of the new first fields
+pub record Texts (e mail rcpt : List ℕ) : Type 0 where
+  pub of-mail : mail ≡ mailReplacement e
+  pub of-rcpt : rcpt ≡ rcptReplacement e
+
+pub header-of : {e mail rcpt : List ℕ} → Texts e mail rcpt → (h : List ℕ) → headerOf mail rcpt h ≡ outgoingHeader e h
+unfolding headerOf outgoingHeader outgoingSegments newFields
+header-of t h = rw (t .of-mail, t .of-rcpt)
+
+-- the outgoing header has at most 30 bytes for each byte of a well-formed header, and 20,600 for the new first fields
+pub outgoing-le : (e h : List ℕ) (count : ℕ) → checked e ≡ Passed count → length h ≤ 32768 → checkedLines h ≡ WellFormed
+    → length (outgoingHeader e h) ≤ 30 * length h + 20600
+outgoing-le e h count p k w =
+    let t : Texts e (mailReplacement e) (rcptReplacement e) = record { of-mail = refl; of-rcpt = refl } in
+    let s : Short (mailReplacement e) (rcptReplacement e) h =
+    record { of-mail = omega (arith, mail-replacement-short e count p); of-rcpt = omega (arith, rcpt-replacement-short e count p); of-header = k } in
+    rw (header-of t h) at (header-of-le s w)
+
+-- ---- what the writers need
+
+-- An envelope and a header within their limits; the envelope passes the check, with so many RCPT lines whose starts are the first
+-- of an array.
+pub record Ready (e h array : List ℕ) (count : ℕ) : Type 0 where
+  pub short₁ : length e ≤ 16384
+  pub short₂ : length h ≤ 32768
+  pub passed : checked e ≡ Passed count
+  pub starts : textsAt count array e ≡ texts e
+
+pub to-ready : {e h before after : List ℕ} {count : ℕ} {r : Checked} → length e ≤ 16384 → length h ≤ 32768 → EnvelopeChecked e before after r → r ≡ Passed count → length before ≡ 100
+    → Ready e h after count
+to-ready s t c k l = let d = rw k at c in record { short₁ = s; short₂ = t; passed = sym (d .answer); starts = stored d l }
+
+module _ {e h array : List ℕ} {count : ℕ} (r : Ready e h array count) where
+  pub content-refused : (room₁ room₂ : ℕ) {refusal : Refusal} → firstOf (ofLines (checkedLines h) ∷ ofOrcpt (orcptLine e) ∷ ofHeld (heldOf Spool h) ∷ []) ≡ Refuse refusal
+      → verdict e h room₁ room₂ ≡ Refuse refusal
+  content-refused room₁ room₂ {refusal} k =
+      past-envelope e h room₁ room₂ (r .short₁) (r .short₂) count (r .passed)
+      ∙ first-refused (ofLines (checkedLines h) ∷ ofOrcpt (orcptLine e) ∷ ofHeld (heldOf Spool h) ∷ []) _ refusal k
+
+  pub mail-short : length (mailReplacement e) ≤ 2048
+  mail-short = omega (arith, mail-replacement-short e count (r .passed))
+
+  rcpt-is : onlyRcptOf (textsAt count array e) ≡ rcptReplacement e
+  unfolding rcptReplacement
+  rcpt-is = rw (r .starts)
+
+  pub rcpt-short : length (onlyRcptOf (textsAt count array e)) ≤ 2048
+  rcpt-short = rw rcpt-is (omega (arith, rcpt-replacement-short e count (r .passed)))
+
+  -- the envelope
+  pub ready-written : {before after : List ℕ} {n : ℕ} → AppendedCapped (writtenOf (textsAt count array e)) 0 before after n → Wrote (written e) before after n
+  unfolding written
+  ready-written a = wrote-of (rw (r .starts) at a) (omega (arith, written-le e count (r .passed), r .short₁))
+
+  pub ready-texts : {mail rcpt : List ℕ} → mail ≡ mailReplacement e → rcpt ≡ onlyRcptOf (textsAt count array e) → Texts e mail rcpt
+  ready-texts p q = record { of-mail = p; of-rcpt = q ∙ rcpt-is }
+
+  pub ready-short : {mail rcpt : List ℕ} → Texts e mail rcpt → Short mail rcpt h
+  ready-short t = record { of-mail = rw (t .of-mail) mail-short; of-rcpt = rw (t .of-rcpt) (omega (arith, rcpt-replacement-short e count (r .passed))); of-header = r .short₂ }
+
+  -- ---- room
+
+  module _ (ok : Accepted e h) (b c : List ℕ) where
+    past-content : verdict e h (length b) (length c)
+        ≡ firstOf
+        (over (length b) (length (written e)) (EnvelopeNeeds (length (written e)))
+        ∷ over (length c) (length (outgoingHeader e h)) (HeaderNeeds (length (outgoingHeader e h)))
+        ∷ [])
+    past-content =
+        past-envelope e h (length b) (length c) (r .short₁) (r .short₂) count (r .passed)
+        ∙ first-accepted (ofLines (checkedLines h) ∷ ofOrcpt (orcptLine e) ∷ ofHeld (heldOf Spool h) ∷ []) _ (ok .content)
+
+    pub envelope-needs : {n : ℕ} {a : Answer} → n ≡ length (written e) → length b < n → RefusedBy (EnvelopeNeeds n) a → observed a b c ≡ outcome e h b c
+    unfolding firstOf
+    envelope-needs {n} {a} q k f =
+        refused-observed e h b c (past-content ∙ rw (over-yes (length b) (length (written e)) (EnvelopeNeeds (length (written e))) (rw q at k))) (rw q at f)
+
+    pub header-needs : {mail rcpt : List ℕ} {n m : ℕ} {a : Answer} → Texts e mail rcpt → n ≡ length (written e) → n ≤ length b → Needed (length (headerOf mail rcpt h)) (length c) m → length c < m
+        → RefusedBy (HeaderNeeds m) a → observed a b c ≡ outcome e h b c
+    unfolding firstOf
+    header-needs {mail} {rcpt} {n} {m} {a} t q k d l f =
+        let p : m ≡ length (outgoingHeader e h) = d .exact l ∙ ap length (header-of t h) in
+        refused-observed e h b c
+        (past-content
+        ∙ rw (over-no (length b) (length (written e)) (EnvelopeNeeds (length (written e))) (rw q at k), over-yes (length c) (length (outgoingHeader e h)) (HeaderNeeds (length (outgoingHeader e h))) (rw p at l)))
+        (rw p at f)
+
+    -- both fit
+    pub downgraded : {mail rcpt : List ℕ} {n m : ℕ} {b′ c′ : List ℕ} {a : Answer} → Texts e mail rcpt → n ≡ length (written e) → n ≤ length b → Needed (length (headerOf mail rcpt h)) (length c) m → m ≤ length c
+        → a .number ≡ 0 → a .place ≡ 0 → Wrote (written e) b b′ (a .«envelope_len») → Wrote (headerOf mail rcpt h) c c′ (a .«header_len»)
+        → observed a b′ c′ ≡ outcome e h b c
+    unfolding firstOf outcome outcomeOf
+    downgraded {mail} {rcpt} {n} {m} {b′} {c′} {a} t q k d l x y v u =
+        let p : length (outgoingHeader e h) ≤ length c = rw (header-of t h) at (d .enough l) in
+        let w : Wrote (outgoingHeader e h) c c′ (a .«header_len») = rw (header-of t h) at u in
+        let fine : verdict e h (length b) (length c) ≡ Accept =
+        past-content
+        ∙ rw (over-no (length b) (length (written e)) (EnvelopeNeeds (length (written e))) (rw q at k), over-no (length c) (length (outgoingHeader e h)) (HeaderNeeds (length (outgoingHeader e h))) p) in
+        rw (fine, x, y, v .size, w .size, v .bytes, w .bytes)

@@ -1,0 +1,95 @@
+// The downgrade call: an envelope and a header section to ASCII, or a refusal.
+mod new_fields;
+mod output;
+mod refusals;
+
+ghost use mathlib.Core.Path.{_≡_};
+ghost use Rattle.call.specs.Outcome.{observed, outcome};
+ghost use Rattle.call.specs.OutputLaws.{Ready};
+use envelope::Checked;
+use envelope_line::Fault;
+use refusals::refused;
+
+// Why a call is refused, with the paper's place: a line, or the length needed.
+pub enum Refusal {
+    EnvelopeOver,
+    HeaderOver,
+    EnvelopeLine(Fault, usize),
+    HeaderLine(usize),
+    OrcptLine(usize),
+    HeldLine(usize),
+    EnvelopeNeeds(usize),
+    HeaderNeeds(usize),
+}
+
+pub enum Verdict {
+    Accept,
+    Refuse(Refusal),
+}
+
+// What a call answers: the paper's number and place, and the lengths of what was written.
+#[repr(C)]
+pub struct Answer {
+    pub number: u32,
+    pub place: usize,
+    pub envelope_len: usize,
+    pub header_len: usize,
+}
+
+// An envelope that passes the check, its RCPT lines at `starts`.
+fn downgrade_checked(
+    envelope: &[u8],
+    header: &[u8],
+    starts: &[usize; 100],
+    count: usize,
+    envelope_buffer: &mut [u8],
+    header_buffer: &mut [u8],
+) -> Answer
+    requires { ⌜ Ready (now envelope) (now header) (now starts) count ⌝ }
+    ensures { λ r. ⌜ observed r (now («envelope_buffer» .exit)) (now («header_buffer» .exit)) ≡ outcome (now (envelope .entry)) (now (header .entry)) (now («envelope_buffer» .entry)) (now («header_buffer» .entry)) ⌝ }
+{
+    match refusals::of_content(envelope, header) {
+        Verdict::Refuse(refusal) => refused(refusal),
+        Verdict::Accept => {
+            output::fill(
+                envelope,
+                header,
+                starts,
+                count,
+                envelope_buffer,
+                header_buffer,
+            )
+        }
+    }
+}
+
+// Downgrades an envelope and a header into two buffers, or refuses them by number and place.
+pub fn downgrade(
+    envelope: &[u8],
+    header: &[u8],
+    envelope_buffer: &mut [u8],
+    header_buffer: &mut [u8],
+) -> Answer
+    ensures { λ r. ⌜ observed r (now («envelope_buffer» .exit)) (now («header_buffer» .exit)) ≡ outcome (now (envelope .entry)) (now (header .entry)) (now («envelope_buffer» .entry)) (now («header_buffer» .entry)) ⌝ }
+{
+    if 16384 < envelope.len() {
+        return refused(Refusal::EnvelopeOver);
+    }
+    if 32768 < header.len() {
+        return refused(Refusal::HeaderOver);
+    }
+    let mut starts = [0usize; 100];
+    match envelope::check(envelope, &mut starts) {
+        Checked::Refused(fault, line) => refused(Refusal::EnvelopeLine(fault, line)),
+        Checked::Passed(count) => {
+            downgrade_checked(
+                envelope,
+                header,
+                &starts,
+                count,
+                envelope_buffer,
+                header_buffer,
+            )
+        }
+    }
+}

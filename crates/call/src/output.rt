@@ -1,0 +1,114 @@
+// The envelope and the header written, where both fit their buffers.
+ghost use mathlib.Core.Path.{_≡_};
+ghost use lib.ListN.{length};
+ghost use Rattle.buffer.specs.Buffer.{Wrote};
+ghost use Rattle.envelope.specs.Envelope.{written};
+ghost use Rattle.call.specs.Outcome.{observed, outcome};
+ghost use Rattle.header_line.specs.declared.LineCheck.the-variants.{WellFormed};
+ghost use Rattle.header_line.specs.Lines.{checkedLines};
+ghost use Rattle.call.specs.OutputLaws.{Short, headerOf, Needed, Ready, Accepted, Texts};
+use crate::Answer;
+use crate::Refusal;
+use crate::new_fields::add_new_field;
+use crate::refusals::refused;
+use rules::Rules;
+
+// The text of a new first field has at most 2,001 bytes: two addresses of lines of 998, in `< < >>`.
+const ROOM: usize = 2048;
+
+// Writes the outgoing header to the front of out, as far as it fits; answers its whole length. `mail` and `rcpt` are the texts of
+// the new first fields.
+fn put_header(out: &mut [u8], mail: &[u8], rcpt: &[u8], header: &[u8]) -> usize
+    requires { ⌜ Short (now mail) (now rcpt) (now header) × (checkedLines (now header) ≡ WellFormed) ⌝ }
+    ensures { λ r. ⌜ Wrote (headerOf (now (mail .entry)) (now (rcpt .entry)) (now (header .entry))) (now (out .entry)) (now (out .exit)) r ⌝ }
+{
+    let mail_end = add_new_field(out, 0, b"Downgraded-Mail-From:", mail);
+    let rcpt_end = add_new_field(out, mail_end, b"Downgraded-Rcpt-To:", rcpt);
+    outgoing_field::add_fields(out, rcpt_end, Rules::Spool, header)
+}
+
+fn header_len(mail: &[u8], rcpt: &[u8], header: &[u8]) -> usize
+    requires { ⌜ Short (now mail) (now rcpt) (now header) × (checkedLines (now header) ≡ WellFormed) ⌝ }
+    ensures { λ r. ⌜ r ≡ length (headerOf (now (mail .entry)) (now (rcpt .entry)) (now (header .entry))) ⌝ }
+{
+    let mut none = [0u8; 0];
+    put_header(&mut none, mail, rcpt, header)
+}
+
+// The length of the outgoing header; or 0 where the room holds every outgoing header of a header of this length, which then need
+// not be measured.
+fn header_needs(mail: &[u8], rcpt: &[u8], header: &[u8], room: usize) -> usize
+    requires { ⌜ Short (now mail) (now rcpt) (now header) × (checkedLines (now header) ≡ WellFormed) ⌝ }
+    ensures { λ r. ⌜ Needed (length (headerOf (now (mail .entry)) (now (rcpt .entry)) (now (header .entry)))) room r ⌝ }
+{
+    if 30 * header.len() + 20600 <= room {
+        return 0;
+    }
+    header_len(mail, rcpt, header)
+}
+
+fn envelope_len(envelope: &[u8], header: &[u8], starts: &[usize; 100], count: usize) -> usize
+    requires { ⌜ Ready (now envelope) (now header) (now starts) count ⌝ }
+    ensures { λ r. ⌜ r ≡ length (written (now (envelope .entry))) ⌝ }
+{
+    let mut none = [0u8; 0];
+    envelope::put(&mut none, envelope, starts, count)
+}
+
+// Writes both, or refuses where one does not fit. Nothing is written before both are known to fit.
+fn fill_with(
+    envelope: &[u8],
+    header: &[u8],
+    starts: &[usize; 100],
+    count: usize,
+    mail: &[u8],
+    rcpt: &[u8],
+    envelope_buffer: &mut [u8],
+    header_buffer: &mut [u8],
+) -> Answer
+    requires { ⌜ Ready (now envelope) (now header) (now starts) count × Accepted (now envelope) (now header) × Texts (now envelope) (now mail) (now rcpt) ⌝ }
+    ensures { λ r. ⌜ observed r (now («envelope_buffer» .exit)) (now («header_buffer» .exit)) ≡ outcome (now (envelope .entry)) (now (header .entry)) (now («envelope_buffer» .entry)) (now («header_buffer» .entry)) ⌝ }
+{
+    let n = envelope_len(envelope, header, starts, count);
+    if envelope_buffer.len() < n {
+        return refused(Refusal::EnvelopeNeeds(n));
+    }
+    let m = header_needs(mail, rcpt, header, header_buffer.len());
+    if header_buffer.len() < m {
+        return refused(Refusal::HeaderNeeds(m));
+    }
+    Answer {
+        number: 0,
+        place: 0,
+        envelope_len: envelope::put(envelope_buffer, envelope, starts, count),
+        header_len: put_header(header_buffer, mail, rcpt, header),
+    }
+}
+
+// The same, with the texts of the new first fields still to be made.
+pub(crate) fn fill(
+    envelope: &[u8],
+    header: &[u8],
+    starts: &[usize; 100],
+    count: usize,
+    envelope_buffer: &mut [u8],
+    header_buffer: &mut [u8],
+) -> Answer
+    requires { ⌜ Ready (now envelope) (now header) (now starts) count × Accepted (now envelope) (now header) ⌝ }
+    ensures { λ r. ⌜ observed r (now («envelope_buffer» .exit)) (now («header_buffer» .exit)) ≡ outcome (now (envelope .entry)) (now (header .entry)) (now («envelope_buffer» .entry)) (now («header_buffer» .entry)) ⌝ }
+{
+    let mut mail = [0u8; ROOM];
+    let n = envelope::put_mail_replacement(&mut mail, envelope);
+    let mut rcpt = [0u8; ROOM];
+    let m = envelope::put_rcpt_replacement(&mut rcpt, envelope, starts, count);
+    fill_with(
+        envelope,
+        header,
+        starts,
+        count,
+        &mail[..n],
+        &rcpt[..m],
+        envelope_buffer,
+        header_buffer,
+    )
+}

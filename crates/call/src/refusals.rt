@@ -1,0 +1,100 @@
+// Refusals by what stands in the header, and by non-ASCII in an ORCPT; and what a refused call answers.
+ghost use mathlib.Core.Path.{_≡_};
+ghost use mathlib.Core.List.{[], _∷_};
+ghost use Rattle.envelope.specs.Envelope.{faultNumber, orcptLine};
+ghost use Rattle.header_line.specs.Lines.{checkedLines};
+ghost use Rattle.outgoing_field.specs.Fate.{heldOf};
+ghost use Rattle.rules.specs.declared.Rules.the-variants.{Spool};
+ghost use Rattle.call.specs.Outcome.{numberOf, placeOf, firstOf, ofLines, ofOrcpt, ofHeld};
+ghost use Rattle.call.specs.OutcomeLaws.{RefusedBy};
+use crate::Answer;
+use crate::Refusal;
+use crate::Verdict;
+use envelope::Orcpt;
+use envelope_line::Fault;
+use header_line::LineCheck;
+use outgoing_field::HeldField;
+use rules::Rules;
+
+fn fault_number(fault: Fault) -> u32
+    ensures { λ r. ⌜ r ≡ faultNumber fault ⌝ }
+{
+    match fault {
+        Fault::Fine => 0,
+        Fault::Malformed => 2,
+        Fault::NoAlternative => 3,
+        Fault::BadAlternative => 4,
+    }
+}
+
+fn number(refusal: Refusal) -> u32
+    ensures { λ r. ⌜ r ≡ numberOf refusal ⌝ }
+{
+    match refusal {
+        Refusal::EnvelopeOver => 1,
+        Refusal::HeaderOver => 1,
+        Refusal::EnvelopeLine(fault, line) => fault_number(fault),
+        Refusal::HeaderLine(line) => 5,
+        Refusal::OrcptLine(line) => 6,
+        Refusal::HeldLine(line) => 6,
+        Refusal::EnvelopeNeeds(size) => 7,
+        Refusal::HeaderNeeds(size) => 8,
+    }
+}
+
+fn place(refusal: Refusal) -> usize
+    ensures { λ r. ⌜ r ≡ placeOf refusal ⌝ }
+{
+    match refusal {
+        Refusal::EnvelopeOver => 0,
+        Refusal::HeaderOver => 1,
+        Refusal::EnvelopeLine(fault, line) => line,
+        Refusal::HeaderLine(line) => line,
+        Refusal::OrcptLine(line) => line,
+        Refusal::HeldLine(line) => line,
+        Refusal::EnvelopeNeeds(size) => size,
+        Refusal::HeaderNeeds(size) => size,
+    }
+}
+
+// What a refused call answers.
+pub(crate) fn refused(refusal: Refusal) -> Answer
+    ensures { λ r. ⌜ RefusedBy refusal r ⌝ }
+{
+    Answer {
+        number: number(refusal),
+        place: place(refusal),
+        envelope_len: 0,
+        header_len: 0,
+    }
+}
+
+// A held field with non-ASCII.
+fn held(header: &[u8]) -> Verdict
+    ensures { λ r. ⌜ r ≡ firstOf (ofHeld (heldOf Spool (now (header .entry))) ∷ []) ⌝ }
+{
+    match outgoing_field::first_held(Rules::Spool, header) {
+        HeldField::Absent => Verdict::Accept,
+        HeldField::At(line, at) => Verdict::Refuse(Refusal::HeldLine(line)),
+    }
+}
+
+// Non-ASCII in an ORCPT, or else in a held field.
+fn non_ascii(envelope: &[u8], header: &[u8]) -> Verdict
+    ensures { λ r. ⌜ r ≡ firstOf (ofOrcpt (orcptLine (now (envelope .entry))) ∷ ofHeld (heldOf Spool (now (header .entry))) ∷ []) ⌝ }
+{
+    match envelope::orcpt_line(envelope) {
+        Orcpt::Clean => held(header),
+        Orcpt::At(line) => Verdict::Refuse(Refusal::OrcptLine(line)),
+    }
+}
+
+// A malformed header line, or else non-ASCII that cannot be passed on.
+pub(crate) fn of_content(envelope: &[u8], header: &[u8]) -> Verdict
+    ensures { λ r. ⌜ r ≡ firstOf (ofLines (checkedLines (now (header .entry))) ∷ ofOrcpt (orcptLine (now (envelope .entry))) ∷ ofHeld (heldOf Spool (now (header .entry))) ∷ []) ⌝ }
+{
+    match header_line::check(header) {
+        LineCheck::WellFormed => non_ascii(envelope, header),
+        LineCheck::Malformed(line, at) => Verdict::Refuse(Refusal::HeaderLine(line)),
+    }
+}

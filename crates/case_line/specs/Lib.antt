@@ -1,0 +1,2 @@
+pub mod CaseLine
+pub mod CaseLineLaws

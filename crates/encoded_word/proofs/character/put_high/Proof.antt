@@ -1,0 +1,61 @@
+use lib.Dec.{lit≤}
+use borrow.Author.Needs.{needs}
+use Rattle.encoded_word.proofs.character.put_high.Statement.{statement}
+use Rattle.encoded_word.proofs.character.put_high.Tie as tie
+
+high-size-requires : tie.Need-high-size-requires
+high-size-requires c κs = search needs
+
+put-whole-requires : tie.Need-put-whole-requires
+put-whole-requires c κs = let k = rw (c .before .if1 .taken) at (c .before .before .high-size .ensures) in (lit≤ tt, lit≤ tt, k .fits (lit≤ tt), c .before .before .before .before .before .pre .2, c .before .before .before .before .before .pre .3, k, c .before .before .before .before .before .pre .4)
+
+same-length : tie.Need-same-length
+same-length c = search needs
+
+returns : tie.Need-returns
+returns c = search needs
+
+put-whole-requires-2 : tie.Need-put-whole-requires-2
+put-whole-requires-2 c κs = let k = rw (c .before .if2 .taken) at (c .before .before .before .high-size .ensures) in (lit≤ tt, lit≤ tt, k .fits (lit≤ tt), c .before .before .before .before .before .before .pre .2, c .before .before .before .before .before .before .pre .3, k, c .before .before .before .before .before .before .pre .4)
+
+same-length-2 : tie.Need-same-length-2
+same-length-2 c = search needs
+
+returns-2 : tie.Need-returns-2
+returns-2 c = search needs
+
+put-whole-requires-3 : tie.Need-put-whole-requires-3
+put-whole-requires-3 c κs = let k = rw (c .before .if3 .taken) at (c .before .before .before .before .high-size .ensures) in (lit≤ tt, lit≤ tt, k .fits (lit≤ tt), c .before .before .before .before .before .before .before .pre .2, c .before .before .before .before .before .before .before .pre .3, k, c .before .before .before .before .before .before .before .pre .4)
+
+same-length-3 : tie.Need-same-length-3
+same-length-3 c = search needs
+
+returns-3 : tie.Need-returns-3
+returns-3 c = search needs
+
+put-any-requires : tie.Need-put-any-requires
+put-any-requires c κs = search needs
+
+same-length-4 : tie.Need-same-length-4
+same-length-4 c = search needs
+
+returns-4 : tie.Need-returns-4
+returns-4 c = search needs
+
+pub put-high-spec : {M : Type 1} → statement M
+put-high-spec =
+    tie.close
+    (tie.spec
+    high-size-requires
+    put-whole-requires
+    same-length
+    returns
+    put-whole-requires-2
+    same-length-2
+    returns-2
+    put-whole-requires-3
+    same-length-3
+    returns-3
+    put-any-requires
+    same-length-4
+    returns-4)

@@ -1,0 +1,52 @@
+-- What is written reads back, and nothing else is read. Assumes nothing.
+use mathlib.Core.Path.{_≡_}
+use mathlib.Core.Bool.{Bool, true, false, not, _&&_, _||_}
+use Prim.Native.Nat.{ℕ, _+_, _-_, _≤_, _<_}
+use native.Mathlib.Omega.{arith}
+use lib.Dec.{T, eqb, eqb→eq, ltb}
+use mir.Facts.{and-yes, or-yes, ltb-yes}
+use Rattle.lists.specs.Byte.{within}
+use Rattle.lists.specs.ListsLaws.{true-yes}
+use Rattle.lists.specs.ByteLaws.{within-low, within-high, below, implies}
+use Rattle.hex.specs.Hex.{hexDigit, isHexDigit, hexValue}
+use mathlib.Core.Logic.{⊎-elim}
+
+-- each value 0 to 15, written, is a digit and reads back as itself
+pub written-reads : (v : ℕ) → v < 16 → T (isHexDigit (hexDigit v)) × (hexValue (hexDigit v) ≡ v)
+unfolding hexDigit isHexDigit hexValue
+written-reads v h =
+    let both = and-yes (isHexDigit (hexDigit v)) (eqb (hexValue (hexDigit v)) v)
+    (below (λ k. isHexDigit (hexDigit k) && eqb (hexValue (hexDigit k)) k) 16 tt v h) in
+    (both .0, eqb→eq (hexValue (hexDigit v)) v (both .1))
+
+-- no byte other than the sixteen digits is one: a digit is what its value, 0 to 15, is written as
+pub reads-only : (b : ℕ) → T (isHexDigit b) → (hexValue b < 16) × (hexDigit (hexValue b) ≡ b)
+unfolding hexDigit isHexDigit hexValue
+reads-only b t =
+    let most : b ≤ 70 = ⊎-elim (λ u. omega (arith, within-high 48 57 b u)) (λ u. within-high 65 70 b u) (or-yes (within 48 57 b) (within 65 70 b) t) in
+    let test : ℕ → Bool = λ k. not (isHexDigit k) || ltb (hexValue k) 16 && eqb (hexDigit (hexValue k)) k in
+    let both = and-yes (ltb (hexValue b) 16) (eqb (hexDigit (hexValue b)) b)
+    (implies (isHexDigit b) (ltb (hexValue b) 16 && eqb (hexDigit (hexValue b)) b) (below test 71 tt b (omega arith)) t) in
+    (ltb-yes (both .0), eqb→eq (hexDigit (hexValue b)) b (both .1))
+
+-- ---- the value, by the tests that code makes
+
+module _ (b : ℕ) where
+  -- a byte in a range
+  pub in-range : (lo hi : ℕ) → within lo hi b ≡ true → (lo ≤ b) × (b ≤ hi)
+  in-range lo hi e = let t = true-yes (within lo hi b) e in (within-low lo hi b t, within-high lo hi b t)
+
+  -- `0` to `9`
+  pub value-decimal : within 48 57 b ≡ true → (b - 48 ≡ hexValue b) × (b - 48 < 16)
+  unfolding hexValue
+  value-decimal e = (rw e, omega (arith, in-range 48 57 e))
+
+  -- `A` to `F`
+  pub value-letter : within 48 57 b ≡ false → within 65 70 b ≡ true → (b - 65 + 10 ≡ hexValue b) × (b - 65 + 10 < 16)
+  unfolding hexValue
+  value-letter n e = (rw (n, e), omega (arith, in-range 65 70 e))
+
+  -- any other byte
+  pub value-other : within 48 57 b ≡ false → within 65 70 b ≡ false → (0 ≡ hexValue b) × (0 < 16)
+  unfolding hexValue
+  value-other n m = (rw (n, m), omega arith)

@@ -1,0 +1,11 @@
+use mathlib.Core.Path.{refl}
+use Rattle.line.specs.Line.{blank}
+use Rattle.line.proofs.is_blank.Statement.{statement}
+use Rattle.line.proofs.is_blank.Tie as tie
+
+returns : tie.Need-returns
+unfolding blank
+returns c = refl
+
+pub is-blank-spec : {M : Type 1} → statement M
+is-blank-spec = tie.close (tie.spec returns)

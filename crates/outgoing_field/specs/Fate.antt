@@ -1,0 +1,74 @@
+-- What becomes of each field of a header: it is held, or something is written for it. Assumes nothing.
+use mathlib.Core.Bool.{Bool, true, false, cond}
+use mathlib.Core.List.{List, [], _∷_, map}
+use Prim.Native.Nat.{ℕ, _+_}
+use lib.Dec.{leb}
+use lib.ListN.{length, take}
+use Rattle.lists.specs.Byte.{isAscii}
+use Rattle.lists.specs.Lists.{all, joined}
+use Rattle.encoded_word.specs.Segments.{Segment}
+use Rattle.encoded_word.specs.Segments.Segment.{raw}
+use Rattle.rules.specs.declared.Rules.{Rules}
+use Rattle.header.specs.Fields.{fieldsOf, nameOf, valueOf, textOf, lineCount}
+use Rattle.header_name.specs.Names.{kindOf}
+use Rattle.header_name.specs.declared.Kind.{Kind}
+use Rattle.header_name.specs.declared.Kind.the-variants.{Address, PlainText, Received, Commented, Parameterized, Held, Other}
+use Rattle.field.specs.Field.{encodedField}
+use Rattle.address_pieces.specs.AddressField.{addressField}
+use Rattle.outgoing_field.specs.declared.HeldField.{HeldField}
+use Rattle.outgoing_field.specs.declared.HeldField.the-variants.{Absent, At}
+
+pub data Fate : Type 0 where
+  held : Fate
+  written : List Segment → Fate
+
+-- what becomes of a field whose value is not ASCII, by its kind, its name and its text. "Plain text: name, colon, encoded words of
+-- the text. Every other name is encapsulated: `Downgraded-` before the name".
+unfoldable pub kindFate : Rules → Kind → List ℕ → List ℕ → Fate
+kindFate rules Address name text = written (addressField rules name text)
+kindFate rules PlainText name text = written (encodedField false name text)
+kindFate rules Received name text = held
+kindFate rules Commented name text = held
+kindFate rules Parameterized name text = held
+kindFate rules Held name text = held
+kindFate rules Other name text = written (encodedField true name text)
+
+-- "A field whose value is ASCII is copied."
+unfoldable pub fateOf : Rules → List ℕ → Fate
+fateOf rules field =
+    cond (all isAscii (valueOf field)) (written (raw field ∷ [])) (kindFate rules (kindOf (nameOf field)) (nameOf field) (textOf field))
+
+-- ---- what is written
+
+unfoldable pub segmentsOf : Fate → List Segment
+segmentsOf held = []
+segmentsOf (written segments) = segments
+
+-- what is written for a field
+unfoldable pub fieldSegments : Rules → List ℕ → List Segment
+fieldSegments rules field = segmentsOf (fateOf rules field)
+
+-- what is written for the fields of a header, one after another
+unfoldable pub headerSegments : Rules → List ℕ → List Segment
+headerSegments rules h = joined (map (fieldSegments rules) (fieldsOf h))
+
+-- A header has at most 32,768 bytes, and so has a field: a longer one counts as empty.
+unfoldable pub limited : List ℕ → List ℕ
+limited s = cond (leb (length s) 32768) s []
+
+-- ---- what is held
+
+unfoldable pub isHeld : Fate → Bool
+isHeld held = true
+isHeld (written segments) = false
+
+-- the first held field of these fields of a header, the first of which starts at the byte `at`. "a field's place is its first line":
+-- lines count from 0, so its number is how many lines end before it.
+unfoldable pub heldFrom : Rules → List ℕ → ℕ → List (List ℕ) → HeldField
+heldFrom rules h at [] = Absent
+heldFrom rules h at (field ∷ fields) =
+    cond (isHeld (fateOf rules field)) (At (lineCount (take at h)) at) (heldFrom rules h (at + length field) fields)
+
+-- the first held field of a header
+unfoldable pub heldOf : Rules → List ℕ → HeldField
+heldOf rules h = heldFrom rules h 0 (fieldsOf h)

@@ -1,0 +1,301 @@
+-- Laws of what becomes of a field: as code writes it, and as it looks for held fields. Assumes nothing.
+use mathlib.Core.Path.{_≡_, refl, sym, ap, _∙_}
+use mathlib.Core.Bool.{Bool, true, false, cond, not}
+use mathlib.Core.List.{List, [], _∷_, _++_, append-nil, append-assoc, map}
+use Prim.Native.Nat.{ℕ, _+_, _-_, _*_, _≤_, _<_}
+use native.Mathlib.Omega.{arith}
+use lib.Dec.{T, leb}
+use lib.ListN.{length, take, drop, length-append, length-take, length-drop, drop-of-length-le}
+use lib.Seq.{length-take-le, take-length}
+use mir.Facts.{and-yes, leb-yes}
+use borrow.Author.Tests.{le-leb}
+use Rattle.lists.specs.Byte.{isAscii}
+use Rattle.lists.specs.ListsLaws.{cond-has, yes-true, true-yes}
+use Rattle.lists.specs.Lists.{all, joined}
+use Rattle.buffer.specs.Buffer.{Wrote, AppendedCapped, ReachedCapped, greatest}
+use Rattle.buffer.specs.BufferLaws.{length-wrote, capped-none, capped-start, length-capped, capped-turn, capped-end}
+use Rattle.row.specs.Row.{bounded}
+use Rattle.row.specs.RowLaws.{bounded-short}
+use Rattle.encoded_word.specs.Segments.{Segment, rendered}
+use Rattle.encoded_word.specs.Segments.Segment.{raw}
+use Rattle.encoded_word.specs.SegmentsLaws.{rendered-append}
+use Rattle.rules.specs.declared.Rules.{Rules}
+use Rattle.header_line.specs.Lines.{nameLen}
+use Rattle.header.specs.Fields.{fieldLen, fieldsOf, nameOf, valueOf, textOf, lineCount}
+use Rattle.header.specs.FieldLaws.{field-le, fields-nil, fields-next, name-part}
+use Rattle.header.specs.AsciiFields.{AsciiFields}
+use Rattle.header.specs.AsciiFieldsLaws.{value-ascii}
+use Rattle.field_text.specs.TextPlace.{textPlace}
+use Rattle.field_text.specs.TextLaws.{wrote-front, length-text, text-there}
+use Rattle.field_text.specs.declared.TextPlace.the-variants.{InPlace}
+use Rattle.header_name.specs.Names.{kindOf}
+use Rattle.header_name.specs.declared.Kind.{Kind}
+use Rattle.header_name.specs.declared.Kind.the-variants.{Address, PlainText, Received, Commented, Parameterized, Held, Other}
+use Rattle.field.specs.Field.{encodedField}
+use Rattle.address_pieces.specs.AddressField.{addressField, fitting}
+use Rattle.address_pieces.specs.WritingLaws.{fitting-short}
+use Rattle.outgoing_field.specs.Fate.{Fate, kindFate, fateOf, segmentsOf, fieldSegments, headerSegments, limited, isHeld, heldFrom, heldOf}
+use Rattle.outgoing_field.specs.Fate.Fate.{held, written}
+use Rattle.outgoing_field.specs.declared.HeldField.the-variants.{Absent, At}
+
+-- ---- a field whose value is ASCII
+
+module _ (rules : Rules) (field : List ℕ) where
+  fate-ascii : all isAscii (valueOf field) ≡ true → fateOf rules field ≡ written (raw field ∷ [])
+  unfolding fateOf
+  fate-ascii e = rw e
+
+  -- "A field whose value is ASCII is copied", byte for byte
+  pub field-copied : T (all isAscii (valueOf field)) → rendered (fieldSegments rules field) ≡ field
+  unfolding fieldSegments segmentsOf rendered
+  field-copied t = rw (fate-ascii (yes-true (all isAscii (valueOf field)) t)) (append-nil field)
+
+  pub ascii-not-held : all isAscii (valueOf field) ≡ true → false ≡ isHeld (fateOf rules field)
+  unfolding isHeld
+  ascii-not-held e = rw (fate-ascii e)
+
+  -- a field whose value is not ASCII goes by the kind of its name
+  fate-kind : (n : ℕ) {kind : Kind} → all isAscii (valueOf field) ≡ false → n ≡ nameLen field → kind ≡ kindOf (take n field)
+      → kindFate rules kind (nameOf field) (textOf field) ≡ fateOf rules field
+  unfolding fateOf
+  fate-kind n e k q = rw (e, q, name-part field n k)
+
+-- ---- held fields
+
+-- whether a field of a kind is held where its value is not ASCII
+unfoldable pub holds : Kind → Bool
+holds Address = false
+holds PlainText = false
+holds Received = true
+holds Commented = true
+holds Parameterized = true
+holds Held = true
+holds Other = false
+
+holds-is : (rules : Rules) (kind : Kind) (name text : List ℕ) → holds kind ≡ isHeld (kindFate rules kind name text)
+unfolding holds isHeld kindFate
+holds-is rules Address name text = refl
+holds-is rules PlainText name text = refl
+holds-is rules Received name text = refl
+holds-is rules Commented name text = refl
+holds-is rules Parameterized name text = refl
+holds-is rules Held name text = refl
+holds-is rules Other name text = refl
+
+pub held-by-kind : (rules : Rules) (field : List ℕ) (n : ℕ) {kind : Kind} {r : Bool} → all isAscii (valueOf field) ≡ false → n ≡ nameLen field → kind ≡ kindOf (take n field)
+    → r ≡ holds kind → r ≡ isHeld (fateOf rules field)
+held-by-kind rules field n {kind} e k q h = h ∙ holds-is rules kind (nameOf field) (textOf field) ∙ ap isHeld (fate-kind rules field n e k q)
+
+-- what is left to look through from a place on
+pub record HeldLeft (rules : Rules) (h : List ℕ) (at : ℕ) : Type 0 where
+  pub same : heldOf rules h ≡ heldFrom rules h at (fieldsOf (drop at h))
+
+pub held-all : (rules : Rules) (h : List ℕ) → HeldLeft rules h 0
+unfolding heldOf
+held-all rules h = record { same = refl }
+
+pub held-end : {rules : Rules} {h : List ℕ} {at : ℕ} → HeldLeft rules h at → length h ≤ at → Absent ≡ heldOf rules h
+unfolding heldFrom
+held-end {rules} {h} {at} l k = sym (l .same ∙ rw (drop-of-length-le h {i = at} k, fields-nil))
+
+module _ {rules : Rules} {h : List ℕ} {at to : ℕ} (l : HeldLeft rules h at) (k : at < length h) (e : to ≡ at + fieldLen (drop at h)) where
+  pub held-here : isHeld (fateOf rules (take (to - at) (drop at h))) ≡ true → (n : ℕ) → n ≡ lineCount (take (at - 0) h) → At n at ≡ heldOf rules h
+  unfolding heldFrom
+  held-here r n c = let m : at - 0 ≡ at = omega arith in sym (l .same ∙ rw (fields-next h at to k e, r, c, m))
+
+  pub held-next : isHeld (fateOf rules (take (to - at) (drop at h))) ≡ false → HeldLeft rules h to
+  unfolding heldFrom
+  held-next r =
+      let size : length (take (to - at) (drop at h)) ≡ to - at = length-take-le (to - at) (drop at h) (omega (arith, field-le (drop at h))) in
+      let there : at + (to - at) ≡ to = omega arith in
+      record { same = l .same ∙ rw (fields-next h at to k e, r, size, there) }
+
+held-past : (rules : Rules) (h : List ℕ) (at : ℕ) (passed more : List (List ℕ)) → T (all (all isAscii) passed)
+    → heldFrom rules h at (passed ++ more) ≡ heldFrom rules h (at + length (joined passed)) more
+unfolding heldFrom
+held-past rules h at [] more t = let e : at + 0 ≡ at = omega arith in rw e
+held-past rules h at (field ∷ passed) more t =
+    let both = and-yes (all isAscii field) (all (all isAscii) passed) t in
+    let free : isHeld (fateOf rules field) ≡ false = sym (ascii-not-held rules field (yes-true (all isAscii (valueOf field)) (value-ascii field (both .0)))) in
+    let e : at + length field + length (joined passed) ≡ at + (length field + length (joined passed)) = omega arith in
+    rw (free, held-past rules h (at + length field) passed more (both .1), length-append field (joined passed), e)
+
+-- no field that is wholly ASCII is held
+pub held-skip : {rules : Rules} {h : List ℕ} {at r : ℕ} → HeldLeft rules h at → at ≤ length h → AsciiFields h at r → HeldLeft rules h r
+held-skip {rules} {h} {at} {r} l k g =
+    let size : at + length (joined (g .passed)) ≡ r = rw (g .bytes, length-take, length-drop) (omega (arith, g .up, g .inside k)) in
+    record { same = l .same ∙ rw (g .fields, held-past rules h at (g .passed) (fieldsOf (drop r h)) (g .ascii), size) }
+
+-- ---- a field by its kind
+
+unfoldable pub needsScratch : Kind → Bool
+needsScratch Address = true
+needsScratch PlainText = false
+needsScratch Received = false
+needsScratch Commented = false
+needsScratch Parameterized = false
+needsScratch Held = false
+needsScratch Other = false
+
+-- The text is within the limit, and a scratch that a field of this kind needs is twice as long.
+pub record Served (kind : Kind) (text scratch : List ℕ) : Type 0 where
+  pub short : length text ≤ 32768
+  pub room : needsScratch kind ≡ true → 2 * length text ≤ length scratch
+
+module _ (rules : Rules) (kind : Kind) (name text : List ℕ) {before after : List ℕ} {at r : ℕ} where
+  pub kind-address : {scratch : List ℕ} → kind ≡ Address → Served kind text scratch
+      → AppendedCapped (rendered (addressField rules name (fitting (length scratch) text))) at before after r
+      → AppendedCapped (rendered (segmentsOf (kindFate rules kind name text))) at before after r
+  unfolding kindFate segmentsOf needsScratch
+  kind-address {scratch} e s a =
+      let room : 2 * length text ≤ length scratch = s .room (rw e) in
+      rw e (rw (fitting-short (length scratch) text (s .short) room) at a)
+
+  pub kind-encoded : (downgraded : Bool) {scratch : List ℕ} → kindFate rules kind name text ≡ written (encodedField downgraded name text) → Served kind text scratch
+      → AppendedCapped (rendered (encodedField downgraded name (bounded text))) at before after r
+      → AppendedCapped (rendered (segmentsOf (kindFate rules kind name text))) at before after r
+  unfolding segmentsOf
+  kind-encoded downgraded e s a = rw e (rw (bounded-short text (omega (arith, s .short))) at a)
+
+module _ (rules : Rules) (kind : Kind) (name text : List ℕ) where
+  pub plain-is : kind ≡ PlainText → kindFate rules kind name text ≡ written (encodedField false name text)
+  unfolding kindFate
+  plain-is e = rw e
+
+  pub other-is : kind ≡ Other → kindFate rules kind name text ≡ written (encodedField true name text)
+  unfolding kindFate
+  other-is e = rw e
+
+  pub kind-none : (before : List ℕ) (at : ℕ) → holds kind ≡ true → at ≤ greatest
+      → AppendedCapped (rendered (segmentsOf (kindFate rules kind name text))) at before before at
+  unfolding segmentsOf isHeld rendered
+  kind-none before at e h = none (kindFate rules kind name text) (sym (holds-is rules kind name text) ∙ e)
+    where
+      none : (fate : Fate) → isHeld fate ≡ true → AppendedCapped (rendered (segmentsOf fate)) at before before at
+      none held e = capped-none at before h
+      none (written segments) e = absurd (true-yes false e)
+
+-- ---- a field
+
+-- Buffers for the text of a field, and for what else it may need.
+pub record Roomy (field made scratch : List ℕ) : Type 0 where
+  pub short : length field ≤ 32768
+  pub text : length field ≤ length made
+  pub room : 2 * length field ≤ length scratch
+
+module _ {field made scratch : List ℕ} (s : Roomy field made scratch) where
+  pub served : (kind : Kind) {text : List ℕ} → text ≡ textOf field → Served kind text scratch
+  served kind e = record { short = rw e (omega (arith, s .short, length-text field)); room = λ k. rw e (omega (arith, s .room, length-text field)) }
+
+  -- a text that was made in its buffer
+  pub text-made : {after : List ℕ} {n : ℕ} → Wrote (textOf field) made after n → take n after ≡ textOf field
+  text-made w = wrote-front w (omega (arith, s .text, length-text field))
+
+  pub made-within : {after : List ℕ} {n : ℕ} → Wrote (textOf field) made after n → n ≤ length after
+  made-within w = omega (arith, w .size, length-wrote w, s .text, length-text field)
+
+  pub made-size : {after : List ℕ} {n : ℕ} → Wrote (textOf field) made after n → n ≡ length (take n after)
+  made-size {after} {n} w = sym (length-take-le n after (made-within w))
+
+-- a text that stands in the field
+pub text-placed : (field : List ℕ) {text : List ℕ} {a b : ℕ} → textPlace field ≡ InPlace a b → text ≡ take (b - a) (drop a field) → text ≡ textOf field
+text-placed field {text} {a} {b} e q = q ∙ text-there field a b e
+
+pub served-placed : (kind : Kind) (field : List ℕ) {text scratch : List ℕ} → needsScratch kind ≡ false → length field ≤ 32768 → text ≡ textOf field → Served kind text scratch
+served-placed kind field n h e = record {
+  short = rw e (omega (arith, h, length-text field));
+  room = λ k. absurd (true-yes false (sym n ∙ k));
+}
+
+pub added-named : (rules : Rules) (kind : Kind) (field : List ℕ) {text before after : List ℕ} {n at r : ℕ} → n ≡ nameLen field → text ≡ textOf field
+    → AppendedCapped (rendered (segmentsOf (kindFate rules kind (take n field) text))) at before after r
+    → AppendedCapped (rendered (segmentsOf (kindFate rules kind (nameOf field) (textOf field)))) at before after r
+added-named rules kind field {n = n} e q a = rw (name-part field n e, q) at a
+
+module _ (rules : Rules) (field : List ℕ) {before after : List ℕ} {at r : ℕ} where
+  pub added-copied : all isAscii (valueOf field) ≡ true → AppendedCapped field at before after r → AppendedCapped (rendered (fieldSegments rules field)) at before after r
+  added-copied e a = rw (field-copied rules field (true-yes (all isAscii (valueOf field)) e)) a
+
+  pub added-by-kind : (n : ℕ) {kind : Kind} → all isAscii (valueOf field) ≡ false → n ≡ nameLen field → kind ≡ kindOf (take n field)
+      → AppendedCapped (rendered (segmentsOf (kindFate rules kind (nameOf field) (textOf field)))) at before after r
+      → AppendedCapped (rendered (fieldSegments rules field)) at before after r
+  unfolding fieldSegments
+  added-by-kind n e k q a = rw (fate-kind rules field n e k q) at a
+
+-- ---- the limit
+
+unfoldable pub limitedLen : ℕ → ℕ
+limitedLen n = cond (leb n 32768) n 0
+
+module _ (s : List ℕ) (n : ℕ) (e : n ≡ limitedLen (length s)) where
+  pub limited-part : take n s ≡ limited s
+  unfolding limited limitedLen
+  limited-part = rw e (go (leb (length s) 32768))
+    where
+      go : (b : Bool) → take (cond b (length s) 0) s ≡ cond b s []
+      go true = take-length s
+      go false = refl
+
+  limited-le : n ≤ length s
+  unfolding limitedLen
+  limited-le = rw e (cond-has (λ n. n ≤ length s) (leb (length s) 32768) (length s) 0 (λ t. omega arith) (λ t. omega arith))
+
+  pub limited-size : n ≡ length (take n s)
+  limited-size = sym (length-take-le n s limited-le)
+
+  pub limited-within : length (take n s) ≤ 32768
+  unfolding limitedLen
+  limited-within =
+      rw (length-take-le n s limited-le, e) (cond-has (λ n. n ≤ 32768) (leb (length s) 32768) (length s) 0 (λ t. leb-yes t) (λ t. omega arith))
+
+pub limited-short : (s : List ℕ) → length s ≤ 32768 → limited s ≡ s
+unfolding limited
+limited-short s h = rw (le-leb (length s) 32768 h)
+
+-- ---- field after field
+
+header-next : (rules : Rules) (h : List ℕ) (i to : ℕ) → i < length h → to ≡ i + fieldLen (drop i h)
+    → rendered (headerSegments rules (drop i h)) ≡ rendered (fieldSegments rules (take (to - i) (drop i h))) ++ rendered (headerSegments rules (drop to h))
+unfolding headerSegments
+header-next rules h i to k e =
+    rw (fields-next h i to k e)
+    (rendered-append (fieldSegments rules (take (to - i) (drop i h))) (joined (map (fieldSegments rules) (fieldsOf (drop to h)))))
+
+rendered-passed : (rules : Rules) (passed more : List (List ℕ)) → T (all (all isAscii) passed)
+    → rendered (joined (map (fieldSegments rules) (passed ++ more))) ≡ joined passed ++ rendered (joined (map (fieldSegments rules) more))
+rendered-passed rules [] more t = refl
+rendered-passed rules (field ∷ passed) more t =
+    let both = and-yes (all isAscii field) (all (all isAscii) passed) t in
+    let rest = joined (map (fieldSegments rules) (passed ++ more)) in
+    rendered-append (fieldSegments rules field) rest
+    ∙ rw (field-copied rules field (value-ascii field (both .0)), rendered-passed rules passed more (both .1))
+    (sym (append-assoc field (joined passed) (rendered (joined (map (fieldSegments rules) more)))))
+
+header-passed : (rules : Rules) (h : List ℕ) (i r : ℕ) → AsciiFields h i r
+    → rendered (headerSegments rules (drop i h)) ≡ take (r - i) (drop i h) ++ rendered (headerSegments rules (drop r h))
+unfolding headerSegments
+header-passed rules h i r p = rw (p .fields, ← p .bytes) (rendered-passed rules (p .passed) (fieldsOf (drop r h)) (p .ascii))
+
+-- where a loop that writes the fields of a header stands
+pub record Fielding (rules : Rules) (h : List ℕ) (i at : ℕ) (before after : List ℕ) (n : ℕ) : Type 0 where
+  pub reached : ReachedCapped (rendered (headerSegments rules h)) (rendered (headerSegments rules (drop i h))) at before after n
+
+pub fielding-start : (rules : Rules) (h : List ℕ) (at : ℕ) (before : List ℕ) → at ≤ greatest → Fielding rules h 0 at before before at
+fielding-start rules h at before k = record { reached = capped-start (rendered (headerSegments rules h)) at before k }
+
+module _ {rules : Rules} {h before mid : List ℕ} {i at n : ℕ} (g : Fielding rules h i at before mid n) where
+  pub fielding-end : length h ≤ i → AppendedCapped (rendered (headerSegments rules h)) at before mid n
+  unfolding headerSegments rendered
+  fielding-end k = capped-end (g .reached) (rw (drop-of-length-le h {i = i} k, fields-nil))
+
+  pub length-fielding : length mid ≡ length before
+  length-fielding = length-capped (g .reached)
+
+  pub fielding-next : {after : List ℕ} {to m : ℕ} → length before ≤ greatest → i < length h → to ≡ i + fieldLen (drop i h)
+      → AppendedCapped (rendered (fieldSegments rules (take (to - i) (drop i h)))) n mid after m → Fielding rules h to at before after m
+  fielding-next {after} {to} {m} room k e a = record { reached = capped-turn (g .reached) (header-next rules h i to k e) a room }
+
+  -- fields that are wholly ASCII are copied together
+  pub fielding-skip : {after : List ℕ} {r m : ℕ} → length before ≤ greatest → AsciiFields h i r
+      → AppendedCapped (take (r - i) (drop i h)) n mid after m → Fielding rules h r at before after m
+  fielding-skip {after} {r} {m} room p a = record { reached = capped-turn (g .reached) (header-passed rules h i r p) a room }

@@ -1,0 +1,3 @@
+pub mod Fate
+pub mod FateLaws
+pub mod OwedLaws

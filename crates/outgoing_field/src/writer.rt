@@ -1,0 +1,187 @@
+// What is written for the fields of a header.
+ghost use mathlib.Core.Path.{_≡_};
+ghost use Prim.Native.Nat.{_≤_};
+ghost use lib.ListN.{length};
+ghost use Rattle.buffer.specs.Buffer.{AppendedCapped};
+ghost use Rattle.encoded_word.specs.Segments.{rendered};
+ghost use Rattle.header.specs.Fields.{nameOf, textOf};
+ghost use Rattle.outgoing_field.specs.Fate.{kindFate, segmentsOf, fieldSegments, headerSegments, limited};
+ghost use Rattle.outgoing_field.specs.FateLaws.{needsScratch, limitedLen, Served, Roomy};
+use field_text::TextPlace;
+use header_name::Kind;
+use rules::Rules;
+
+// The most bytes that a header has, and so a field.
+const LIMIT: usize = 32768;
+
+// A field by its kind, its name and its text. A phrase of an address field needs a scratch.
+fn add_by_kind(
+    out: &mut [u8],
+    at: usize,
+    rules: Rules,
+    kind: Kind,
+    name: &[u8],
+    text: &[u8],
+    scratch: &mut [u8],
+) -> usize
+    requires { ⌜ Served kind (now text) (now scratch) ⌝ }
+    ensures { λ r. ⌜ AppendedCapped (rendered (segmentsOf (kindFate rules kind (now (name .entry)) (now (text .entry))))) at (now (out .entry)) (now (out .exit)) r ⌝ }
+{
+    match kind {
+        Kind::Address => address_pieces::add_field(out, at, rules, name, text, scratch),
+        Kind::PlainText => field::add_encoded(out, at, name, text, false),
+        Kind::Received => at,
+        Kind::Commented => at,
+        Kind::Parameterized => at,
+        Kind::Held => at,
+        Kind::Other => field::add_encoded(out, at, name, text, true),
+    }
+}
+
+// A field, its text read in place, or made in a buffer of its own where it has a fold.
+fn add_with(
+    out: &mut [u8],
+    at: usize,
+    rules: Rules,
+    kind: Kind,
+    field: &[u8],
+    made: &mut [u8],
+    scratch: &mut [u8],
+) -> usize
+    requires { ⌜ Roomy (now field) (now made) (now scratch) ⌝ }
+    ensures { λ r. ⌜ AppendedCapped (rendered (segmentsOf (kindFate rules kind (nameOf (now (field .entry))) (textOf (now (field .entry)))))) at (now (out .entry)) (now (out .exit)) r ⌝ }
+{
+    let n = header_line::name_len(field);
+    match field_text::place(field) {
+        TextPlace::InPlace(from, to) => {
+            add_by_kind(
+                out,
+                at,
+                rules,
+                kind,
+                &field[..n],
+                line::part(field, from, to),
+                scratch,
+            )
+        }
+        TextPlace::Folded => {
+            let size = field_text::put(made, field);
+            add_by_kind(out, at, rules, kind, &field[..n], &made[..size], scratch)
+        }
+    }
+}
+
+// A field of at most 1,024 bytes: small buffers take less time to clear.
+fn add_short(out: &mut [u8], at: usize, rules: Rules, kind: Kind, field: &[u8]) -> usize
+    requires { ⌜ length (now field) ≤ 1024 ⌝ }
+    ensures { λ r. ⌜ AppendedCapped (rendered (segmentsOf (kindFate rules kind (nameOf (now (field .entry))) (textOf (now (field .entry)))))) at (now (out .entry)) (now (out .exit)) r ⌝ }
+{
+    let mut made = [0u8; 1024];
+    let mut scratch = [0u8; 2048];
+    add_with(out, at, rules, kind, field, &mut made, &mut scratch)
+}
+
+fn add_long(out: &mut [u8], at: usize, rules: Rules, kind: Kind, field: &[u8]) -> usize
+    requires { ⌜ length (now field) ≤ 32768 ⌝ }
+    ensures { λ r. ⌜ AppendedCapped (rendered (segmentsOf (kindFate rules kind (nameOf (now (field .entry))) (textOf (now (field .entry)))))) at (now (out .entry)) (now (out .exit)) r ⌝ }
+{
+    let mut made = [0u8; 32768];
+    let mut scratch = [0u8; 65536];
+    add_with(out, at, rules, kind, field, &mut made, &mut scratch)
+}
+
+// Whether a field of a kind needs a scratch besides its text.
+fn needs_scratch(kind: Kind) -> bool
+    ensures { λ r. ⌜ r ≡ needsScratch kind ⌝ }
+{
+    match kind {
+        Kind::Address => true,
+        Kind::PlainText => false,
+        Kind::Received => false,
+        Kind::Commented => false,
+        Kind::Parameterized => false,
+        Kind::Held => false,
+        Kind::Other => false,
+    }
+}
+
+// A field whose value is not ASCII. Most texts that are encoded whole have no fold, and need no buffer.
+fn add_non_ascii(out: &mut [u8], at: usize, rules: Rules, kind: Kind, field: &[u8]) -> usize
+    requires { ⌜ length (now field) ≤ 32768 ⌝ }
+    ensures { λ r. ⌜ AppendedCapped (rendered (segmentsOf (kindFate rules kind (nameOf (now (field .entry))) (textOf (now (field .entry)))))) at (now (out .entry)) (now (out .exit)) r ⌝ }
+{
+    if !needs_scratch(kind) {
+        if let TextPlace::InPlace(from, to) = field_text::place(field) {
+            let n = header_line::name_len(field);
+            let mut none = [0u8; 0];
+            return add_by_kind(
+                out,
+                at,
+                rules,
+                kind,
+                &field[..n],
+                line::part(field, from, to),
+                &mut none,
+            );
+        }
+    }
+    if field.len() <= 1024 {
+        return add_short(out, at, rules, kind, field);
+    }
+    add_long(out, at, rules, kind, field)
+}
+
+fn add_limited(out: &mut [u8], at: usize, rules: Rules, field: &[u8]) -> usize
+    requires { ⌜ length (now field) ≤ 32768 ⌝ }
+    ensures { λ r. ⌜ AppendedCapped (rendered (fieldSegments rules (now (field .entry)))) at (now (out .entry)) (now (out .exit)) r ⌝ }
+{
+    if header::value_is_ascii(field) {
+        return buffer::add_slice(out, at, field);
+    }
+    let n = header_line::name_len(field);
+    add_non_ascii(out, at, rules, header_name::kind_of(&field[..n]), field)
+}
+
+// How many of n bytes count.
+fn limited_len(n: usize) -> usize
+    ensures { λ r. ⌜ r ≡ limitedLen n ⌝ }
+{
+    if n <= LIMIT { n } else { 0 }
+}
+
+// Writes what becomes of a field from a place on, as far as it fits; answers the place after it. A field whose value is ASCII is
+// copied; names are looked up only where it is not.
+pub fn add_field(out: &mut [u8], at: usize, rules: Rules, field: &[u8]) -> usize
+    ensures { λ r. ⌜ AppendedCapped (rendered (fieldSegments rules (limited (now (field .entry))))) at (now (out .entry)) (now (out .exit)) r ⌝ }
+{
+    let end = limited_len(field.len());
+    add_limited(out, at, rules, &field[..end])
+}
+
+fn add_all(out: &mut [u8], at: usize, rules: Rules, h: &[u8]) -> usize
+    requires { ⌜ length (now h) ≤ 32768 ⌝ }
+    ensures { λ r. ⌜ AppendedCapped (rendered (headerSegments rules (now (h .entry)))) at (now (out .entry)) (now (out .exit)) r ⌝ }
+{
+    let mut next = at;
+    let mut i: usize = 0;
+    while i < h.len() {
+        let start = header::ascii_fields_end(h, i);
+        next = buffer::add_slice(out, next, &h[i..start]);
+        if h.len() <= start {
+            return next;
+        }
+        let to = header::field_end(h, start);
+        next = add_limited(out, next, rules, &h[start..to]);
+        i = to;
+    }
+    next
+}
+
+// Writes what becomes of the fields of a header from a place on, as far as it fits; answers the place after all of it. Fields that
+// are wholly ASCII are copied together.
+pub fn add_fields(out: &mut [u8], at: usize, rules: Rules, h: &[u8]) -> usize
+    ensures { λ r. ⌜ AppendedCapped (rendered (headerSegments rules (limited (now (h .entry))))) at (now (out .entry)) (now (out .exit)) r ⌝ }
+{
+    let end = limited_len(h.len());
+    add_all(out, at, rules, &h[..end])
+}

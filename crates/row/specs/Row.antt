@@ -1,0 +1,48 @@
+-- The row of encoded words of a text. Assumes nothing.
+use mathlib.Core.Bool.{Bool, cond}
+use mathlib.Core.List.{List, [], _∷_, _++_, map}
+use Prim.Native.Nat.{ℕ}
+use lib.Dec.{leb}
+use lib.ListN.{length}
+use Rattle.lists.specs.Lists.{joined}
+use Rattle.utf8.specs.Utf8.{chars}
+use Rattle.cut.specs.Cut.{cut}
+use Rattle.word_spelling.specs.Spelling.{spell, cost}
+
+-- `=?UTF-8?Q?`
+abbrev pub opening : List ℕ
+opening = 61 ∷ 63 ∷ 85 ∷ 84 ∷ 70 ∷ 45 ∷ 56 ∷ 63 ∷ 81 ∷ 63 ∷ []
+
+-- `?=`
+abbrev pub closing : List ℕ
+closing = 63 ∷ 61 ∷ []
+
+-- whether a word with this room holds these characters; every word has the same room, so k is not used
+abbrev pub fitsRoom : ℕ → ℕ → List (List ℕ) → Bool
+fitsRoom room k run = leb (cost (joined run)) room
+
+-- "A word takes as many whole characters as fit." No character, no word.
+unfoldable pub runs : ℕ → List (List ℕ) → List (List (List ℕ))
+runs room [] = []
+runs room (c ∷ cs) = cut (fitsRoom room) 0 (c ∷ []) cs
+
+-- "A word is `=?UTF-8?Q?`, 1 to 63 characters, `?=`.": `=?UTF-8?Q?`, the bytes in our spelling, `?=`
+unfoldable pub word : List ℕ → List ℕ
+word bytes = opening ++ (spell bytes ++ closing)
+
+-- "Every word has a line of its own: CRLF and one space come before it". 13 is CR, 10 is LF, 32 is the space.
+unfoldable pub lines : List (List ℕ) → List ℕ
+lines [] = []
+lines (bytes ∷ more) = (13 ∷ 10 ∷ 32 ∷ word bytes) ++ lines more
+
+-- the row of a text in words of 1 to so many characters
+unfoldable pub rowIn : ℕ → List ℕ → List ℕ
+rowIn room text = lines (map joined (runs room (chars text)))
+
+-- the row of a text, in words of "1 to 63 characters"
+abbrev pub row : List ℕ → List ℕ
+row text = rowIn 63 text
+
+-- The texts that are encoded: a text of more than 4 GiB counts as empty, so that no length is more than a usize holds.
+unfoldable pub bounded : List ℕ → List ℕ
+bounded text = cond (leb (length text) 4294967296) text []

@@ -1,0 +1,77 @@
+-- Laws of rows: none for an empty text, how a row starts, how long it is. Assumes nothing.
+use mathlib.Core.Path.{_≡_, refl, ap, _∙_}
+use mathlib.Core.List.{List, [], _∷_, _++_}
+use Prim.Native.Nat.{ℕ, _+_, _-_, _*_, _≤_, _<_}
+use native.Mathlib.Nat.{not-suc-le-zero}
+use native.Mathlib.Omega.{arith}
+use lib.ListN.{length, length-append}
+use lib.Dec.{T, leb}
+use mir.Facts.{and-yes, leb-yes, leb-no}
+use borrow.Author.Tests.{le-leb, lt-leb}
+use Rattle.lists.specs.Lists.{all, joined}
+use Rattle.lists.specs.ListsLaws.{by-test}
+use Rattle.utf8.specs.Utf8.{chars}
+use Rattle.utf8.specs.Utf8Laws.{chars-cons, chars-nil, chars-joined}
+use Rattle.word_spelling.specs.Spelling.{spell, cost}
+use Rattle.word_spelling.specs.SpellingLaws.{length-spell}
+use Rattle.word_spelling.specs.HighCharLaws.{both}
+use Rattle.row.specs.Row.{runs, lines, rowIn, bounded}
+use Rattle.row.specs.Stream.{start, gap, leftAfter, onwards, onwardsAt}
+use Rattle.row.specs.StreamLaws.{left-le, left-here, left-next, length-gap-here, length-gap-next, stream, chars-small, chars-fit}
+
+pub row-nil : (text : List ℕ) → length text ≡ 0 → rowIn 63 text ≡ []
+unfolding rowIn runs lines
+row-nil [] e = rw chars-nil refl
+row-nil (b ∷ text) e = absurd (omega arith)
+
+pub row-start : (text : List ℕ) → 0 < length text → rowIn 63 text ≡ start ++ onwardsAt text 0 63
+unfolding rowIn
+row-start [] h = absurd (not-suc-le-zero h)
+row-start (b ∷ text) h = go (chars-cons b text) (chars-fit (b ∷ text))
+  where
+    go : {c : List ℕ} {cs : List (List ℕ)} → chars (b ∷ text) ≡ c ∷ cs → T (all (λ c. leb (cost c) 63) (chars (b ∷ text)))
+        → rowIn 63 (b ∷ text) ≡ start ++ onwards 63 63 (chars (b ∷ text))
+    go {c} {cs} e t = rw e (stream 63 c cs (rw e at t))
+
+-- the texts that are encoded
+pub bounded-short : (text : List ℕ) → length text ≤ 4294967296 → bounded text ≡ text
+unfolding bounded
+bounded-short text h = rw (le-leb (length text) 4294967296 h)
+
+pub row-long : (text : List ℕ) → 4294967296 < length text → rowIn 63 (bounded text) ≡ []
+unfolding bounded
+row-long text h = rw (lt-leb (length text) 4294967296 h) (row-nil [] refl)
+
+pub row-none : (text : List ℕ) → length text ≡ 0 → rowIn 63 (bounded text) ≡ []
+row-none text h = rw (bounded-short text (omega arith)) (row-nil text h)
+
+pub length-row : (text : List ℕ) → 0 < length text → length (rowIn 63 text) ≡ 13 + length (onwardsAt text 0 63)
+unfolding start
+length-row text h = ap length (row-start text h) ∙ length-append start (onwardsAt text 0 63)
+
+-- Three times what is left to write, where a word is open with room for `left`. A new word is opened only where the open one has at
+-- least 40 characters, and a character takes 3 for each byte at most.
+length-onwards : (left : ℕ) (cs : List (List ℕ)) → left ≤ 63 → T (all (λ c. leb (cost c) 24) cs)
+    → 3 * length (onwards 63 left cs) ≤ 15 * length (joined cs) + 2 * (63 - left) + 6
+unfolding onwards
+length-onwards left [] l h = omega arith
+length-onwards left (c ∷ cs) l h =
+    let both = and-yes (leb (cost c) 24) (all (λ c. leb (cost c) 24) cs) h in
+    let small : cost c ≤ 24 = leb-yes (both .0) in
+    let next = leftAfter 63 left (cost c) in
+    let more = length-onwards next cs (left-le 63 left (cost c) l) (both .1) in
+    let size = length-append (gap left (cost c) ++ spell c) (onwards 63 next cs) in
+    by-test (leb (cost c) left)
+    (λ t.
+    let fits : cost c ≤ left = leb-yes t in
+    omega (arith, more, size, length-append (gap left (cost c)) (spell c), length-gap-here left (cost c) fits, left-here left (cost c) 63 fits, length-spell c, length-append c (joined cs)))
+    (λ t.
+    let full : left < cost c = leb-no t in
+    omega (arith, more, size, small, length-append (gap left (cost c)) (spell c), length-gap-next left (cost c) full, left-next left (cost c) 63 full, length-spell c, length-append c (joined cs)))
+
+-- a row takes at most 5 bytes for each byte of its text, and 15 more
+pub length-row-le : (text : List ℕ) → length (rowIn 63 text) ≤ 15 + 5 * length text
+length-row-le text =
+    by-test (leb 1 (length text))
+    (λ t. omega (arith, length-row text (leb-yes t), length-onwards 63 (chars text) (omega arith) (chars-small text), ap length (chars-joined text)))
+    (λ t. let none : length text ≡ 0 = omega (arith, leb-no {a = 1} {b = length text} t) in omega (arith, ap length (row-nil text none)))

@@ -1,0 +1,25 @@
+-- What the rules for address fields allow, and the fixed words that they write. Assumes nothing.
+use mathlib.Core.Bool.{Bool, true, false}
+use mathlib.Core.List.{List, [], _∷_}
+use Prim.Native.Nat.{ℕ}
+use Rattle.letter_case.specs.LetterCase.{bytes}
+use Rattle.rules.specs.declared.Rules.{Rules}
+use Rattle.rules.specs.declared.Rules.the-variants.{Spool, Current, Mailbox}
+
+-- an address may have an alternative, `<address <ASCII address>>`: in a message from the spool only
+abbrev pub allowsAlternative : Rules → Bool
+allowsAlternative Spool = true
+allowsAlternative Current = false
+allowsAlternative Mailbox = false
+
+-- the pieces before the encoded words of an address that is removed: "`Internationalized Address`"; none in a mailbox
+unfoldable pub removalStart : Rules → List (List ℕ)
+removalStart Spool = bytes "Internationalized Address" ∷ []
+removalStart Current = bytes "Internationalized Address" ∷ []
+removalStart Mailbox = []
+
+-- the piece after them: "`Removed:;`"; in a mailbox "`:;`"
+unfoldable pub removalEnd : Rules → List ℕ
+removalEnd Spool = bytes "Removed:;"
+removalEnd Current = bytes "Removed:;"
+removalEnd Mailbox = bytes ":;"

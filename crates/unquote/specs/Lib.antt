@@ -1,0 +1,2 @@
+pub mod Unquote
+pub mod UnquoteLaws

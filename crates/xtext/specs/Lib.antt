@@ -1,0 +1,3 @@
+pub mod Xtext
+pub mod XtextLaws
+pub mod AddressCases
