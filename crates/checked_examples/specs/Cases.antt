@@ -123,7 +123,37 @@ taken-by e h q n m b c k l =
 
 pub cases-right : AllRight cases
 unfolding rowIn runs cut lines word spell spellByte bare hexDigit bytes lower sameAnyCase crlf lineLen later byteThen scanThen isAtext isAtomByte isQuotedByte isLiteralByte dotAtomFrom dotAtomScan quotedFrom quotedScan literalFrom literalScan domainScan localScan addressScan isAddress isAsciiAddress run utf8 chars cutBy cutAfter charLen leadingOnes leadingZeros isChar secondLow secondHigh isXchar isHexDigit hexValue isHexchar unitLen unitByte decodingAfter decoding isXtext decoded isAltAddress verb hasVerb pathScan pathLen path hasPath tail params spaced isKeywordByte keywordLen keyword hasValue value isOrcpt isAlt isValueByte isParam alts altsOk wellFormed altFault lineFault envelopeLines lineText endedFault faultOf faultNumber isFine checkedFrom checked lineByte blank nameByte nameLen named continuation lineOk linesFrom checkedLines wellFormedLine numberOf placeOf over ofEnvelope ofLines ofOrcpt ofHeld firstOf verdict outcomeOf outcome texts orcptFrom orcptLine orcptFault writtenEnded writtenOf written writtenLine heldFrom heldOf isHeld fateOf fold fieldLen fieldsOf valueOf newField newFields outgoingSegments outgoingHeader mailOf mailReplacement onlyRcptOf rcptReplacement replacement segmentsOf fieldSegments headerSegments rendered
-cases-right =
-    (refl, (refl, (refl, (refl,
-    (λ b c. refl, (λ b c. refl, (λ b c. refl, (λ b c. refl, (λ b c. refl, (λ b c. refl, (λ b c. refl,
-    (taken-by (mailed (bytes "a@x") []) (headerNamed 76) refl tt tt, (λ b c. refl, tt)))))))))))))
+cases-right = (
+  refl,
+  (
+    refl,
+    (
+      refl,
+      (
+        refl,
+        (
+          λ b c. refl,
+          (
+            λ b c. refl,
+            (
+              λ b c. refl,
+              (
+                λ b c. refl,
+                (
+                  λ b c. refl,
+                  (
+                    λ b c. refl,
+                    (
+                      λ b c. refl,
+                      (taken-by (mailed (bytes "a@x") []) (headerNamed 76) refl tt tt, (λ b c. refl, tt)),
+                    ),
+                  ),
+                ),
+              ),
+            ),
+          ),
+        ),
+      ),
+    ),
+  ),
+)
