@@ -16,7 +16,7 @@ use Rattle.cut.specs.Cut.{cut}
 use Rattle.word_spelling.specs.Spelling.{bare, spellByte, spell}
 use Rattle.row.specs.Row.{runs, word, lines, rowIn, row}
 use Rattle.envelope.specs.Envelope.{lines as envelopeLines, lineText, endedFault, faultOf, faultNumber, isFine, checkedFrom, checked, texts, orcptFrom, orcptLine, writtenEnded, writtenOf, written, mailOf, mailReplacement, onlyRcptOf, rcptReplacement}
-use Rattle.header_line.specs.Lines.{checkedLines, lineByte, nameByte, nameLen, named, continuation, wellFormed, lineOk, linesFrom}
+use Rattle.header_line.specs.Lines.{checkedLines, lineByte, nameByte, nameLen, named, continuation, wellFormed, lineOk, linesOf, linesFrom}
 use Rattle.line.specs.Line.{blank, crlf, lineLen}
 use Rattle.address.specs.Address.{later, byteThen, scanThen, isAtext, isAtomByte, isQuotedByte, isLiteralByte, dotAtomFrom, dotAtomScan, quotedFrom, quotedScan, literalFrom, literalScan, domainScan, localScan, addressScan, isAddress, isAsciiAddress}
 use Rattle.xtext.specs.Xtext.{isXchar, isHexchar, unitLen, unitByte, decodingAfter, decoding, isXtext, decoded, isAltAddress}
@@ -122,7 +122,7 @@ taken-by e h q n m b c k l =
     rw (both-fit e h (length b) (length c) q (omega arith) (omega arith))
 
 pub cases-right : AllRight cases
-unfolding rowIn runs cut lines word spell spellByte bare hexDigit bytes lower sameAnyCase crlf lineLen later byteThen scanThen isAtext isAtomByte isQuotedByte isLiteralByte dotAtomFrom dotAtomScan quotedFrom quotedScan literalFrom literalScan domainScan localScan addressScan isAddress isAsciiAddress run utf8 chars cutBy cutAfter charLen leadingOnes leadingZeros isChar secondLow secondHigh isXchar isHexDigit hexValue isHexchar unitLen unitByte decodingAfter decoding isXtext decoded isAltAddress verb hasVerb pathScan pathLen path hasPath tail params spaced isKeywordByte keywordLen keyword hasValue value isOrcpt isAlt isValueByte isParam alts altsOk wellFormed altFault lineFault envelopeLines lineText endedFault faultOf faultNumber isFine checkedFrom checked lineByte blank nameByte nameLen named continuation lineOk linesFrom checkedLines wellFormedLine numberOf placeOf over ofEnvelope ofLines ofOrcpt ofHeld firstOf verdict outcomeOf outcome texts orcptFrom orcptLine orcptFault writtenEnded writtenOf written writtenLine heldFrom heldOf isHeld fateOf fold fieldLen fieldsOf valueOf newField newFields outgoingSegments outgoingHeader mailOf mailReplacement onlyRcptOf rcptReplacement replacement segmentsOf fieldSegments headerSegments rendered
+unfolding rowIn runs cut lines word spell spellByte bare hexDigit bytes lower sameAnyCase crlf lineLen later byteThen scanThen isAtext isAtomByte isQuotedByte isLiteralByte dotAtomFrom dotAtomScan quotedFrom quotedScan literalFrom literalScan domainScan localScan addressScan isAddress isAsciiAddress run utf8 chars cutBy cutAfter charLen leadingOnes leadingZeros isChar secondLow secondHigh isXchar isHexDigit hexValue isHexchar unitLen unitByte decodingAfter decoding isXtext decoded isAltAddress verb hasVerb pathScan pathLen path hasPath tail params spaced isKeywordByte keywordLen keyword hasValue value isOrcpt isAlt isValueByte isParam alts altsOk wellFormed altFault lineFault envelopeLines lineText endedFault faultOf faultNumber isFine checkedFrom checked lineByte blank nameByte nameLen named continuation lineOk linesOf linesFrom checkedLines wellFormedLine numberOf placeOf over ofEnvelope ofLines ofOrcpt ofHeld firstOf verdict outcomeOf outcome texts orcptFrom orcptLine orcptFault writtenEnded writtenOf written writtenLine heldFrom heldOf isHeld fateOf fold fieldLen fieldsOf valueOf newField newFields outgoingSegments outgoingHeader mailOf mailReplacement onlyRcptOf rcptReplacement replacement segmentsOf fieldSegments headerSegments rendered
 cases-right = (
   refl,
   (
