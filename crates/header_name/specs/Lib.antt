@@ -1,4 +1,4 @@
 pub mod Names
 pub mod NameTable
 pub mod NameTableLaws
-pub mod NameCases
+pub mod NameCounts
