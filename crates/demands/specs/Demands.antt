@@ -90,6 +90,8 @@ pub record Demand1 (e h b c : List ℕ) (o : Outcome) : Type 0 where
 
 -- ---- demand 2: "The outgoing envelope and header are those that RFC 5504 asks for, as the paper spells it out: all ASCII, each
 -- field that was ASCII copied byte for byte."
+-- Which text of an address field fits is defined by a table over its parts. The same in the paper's words is `AddressList`, in
+-- address_grammar/specs/PartGrammar; `fitting-text` and `listed-fits`, in FittingLaws there, prove that just its texts fit.
 
 -- what becomes of a field of the header
 abbrev pub became : List ℕ → List ℕ

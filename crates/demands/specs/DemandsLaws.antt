@@ -285,3 +285,7 @@ demands e h b c = record {
   where
     after-zero : outcome e h b c .number ≡ 0 → Taken e h b c
     after-zero z = taken e h b c (outcome e h b c .number) (outcome e h b c .place) (given-answered e h b c) z
+
+-- what equals the outcome meets them
+pub met : {e h b c : List ℕ} {o : Outcome} → o ≡ outcome e h b c → Demands e h b c o
+met {e} {h} {b} {c} q = rw q (demands e h b c)

@@ -17,9 +17,9 @@ use Rattle.lists.specs.Run.{run}
 use Rattle.lists.specs.RunLaws.{run-all, run-past}
 use Rattle.utf8.specs.Utf8.{utf8}
 use Rattle.utf8.specs.Utf8Laws.{utf8-right, utf8-append, utf8-ascii, utf8-cut}
-use Rattle.header_line.specs.Lines.{lineByte, nameByte, nameLen, named, continuation, wellFormed, lineOk, linesFrom, checkedLines}
+use Rattle.header_line.specs.Lines.{lineByte, nameByte, nameLen, named, continuation, wellFormed, lineOk, checkedLines}
 use Rattle.line.specs.Line.{blank, crlf, lineLen, notCr}
-use Rattle.header_line.specs.LineLaws.{front-good, front-bad}
+use Rattle.header_line.specs.LineLaws.{linesAt, front-good, front-bad}
 use Rattle.line.specs.LineLaws.{crlf-inside}
 use Rattle.header.specs.Fields.{fold, fieldLen, fieldsOf, nameOf, valueOf, unfoldedAfter, trimmed, textOf}
 use Rattle.header.specs.FieldLaws.{ends, len-cons, len-past, fields-nil, fields-front}
@@ -280,7 +280,7 @@ pub record Cut (n at : ℕ) (h : List ℕ) : Type 0 where
   pub next : ℕ
   pub is : h ≡ line ++ (13 ∷ 10 ∷ others)
   pub well : T (wellFormed (eqb n 0) line)
-  pub left : linesFrom 0 n at h ≡ linesFrom 0 (n + 1) next others
+  pub left : linesAt n at h ≡ linesAt (n + 1) next others
   pub after : next ≡ at + (length line + 2)
   pub shorter : length others < length h
 
@@ -306,7 +306,7 @@ different : {n at : ℕ} → Malformed n at ≡ WellFormed → ⊥
 different e = let z : _≡_ {A = ℕ} 0 1 = cc in omega arith
 
 -- where the lines are well formed, the first one is
-first-well : (n at : ℕ) (h : List ℕ) → 0 < length h → linesFrom 0 n at h ≡ WellFormed → T (lineOk (eqb n 0) h)
+first-well : (n at : ℕ) (h : List ℕ) → 0 < length h → linesAt n at h ≡ WellFormed → T (lineOk (eqb n 0) h)
 first-well n at h k e =
     by-test (lineOk (eqb n 0) h) (λ t. t) (λ t. absurd (different (sym (front-bad n at h k (no-false (lineOk (eqb n 0) h) t)) ∙ e)))
 
@@ -315,7 +315,7 @@ follow-none [] k = Follow.starts fresh-nil
 follow-none (b ∷ rest) k = absurd (omega arith)
 
 -- by the number of bytes
-follow : (m n at : ℕ) (h : List ℕ) → length h ≤ m → linesFrom 0 n at h ≡ WellFormed → Follow h
+follow : (m n at : ℕ) (h : List ℕ) → length h ≤ m → linesAt n at h ≡ WellFormed → Follow h
 follow zero n at h k e = follow-none h k
 follow (suc m) n at h k e =
     by-test (leb 1 (length h))
