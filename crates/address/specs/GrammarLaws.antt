@@ -329,6 +329,13 @@ address-complete (Address.address {local} {domain} l d) rest c =
     rw (append-assoc local (64 ∷ domain) rest, local-complete l tail (sign-closed (domain ++ rest)), drop-append-seam local tail, after)
     (later-more (length local) (1 + length domain) (length (local ++ (64 ∷ domain))) (omega (arith, length-append local (64 ∷ domain))))
 
+-- a local part before a byte other than `@` is no address
+pub local-alone : {l : List ℕ} → LocalPart l → (b : ℕ) (rest : List ℕ) → Closed (b ∷ rest) → (b ≡ 64 → ⊥) → addressScan (l ++ (b ∷ rest)) ≡ Stop (length l)
+unfolding addressScan scanThen byteThen later
+local-alone {l} p b rest c n =
+    let z : length l + 0 ≡ length l = omega arith in
+    rw (local-complete p (b ∷ rest) c, drop-append-seam l (b ∷ rest), ne-eqb b 64 n, z)
+
 -- ---- a whole text
 
 pub nothing-closed : Closed []

@@ -1,4 +1,7 @@
 pub mod EnvelopeLine
+pub mod LineGrammar
+pub mod TailGrammarLaws
+pub mod LineGrammarLaws
 pub mod PathLaws
 pub mod FaultLaws
 pub mod WriteLaws
