@@ -4,7 +4,7 @@
 --
 -- `mail` says whether the line stands where the MAIL line does; every other line is due to be a RCPT line.
 use mathlib.Core.Path.{_≡_}
-use mathlib.Core.Bool.{Bool, true, false, not, _&&_}
+use mathlib.Core.Bool.{Bool, true, false, not}
 use mathlib.Core.List.{List, [], _∷_, _++_}
 use mathlib.Core.Option.{Option, none, some}
 use Prim.Native.Nat.{ℕ, _≤_}
@@ -15,8 +15,7 @@ use Rattle.lists.specs.Byte.{isAscii}
 use Rattle.utf8.specs.Utf8.{utf8}
 use Rattle.letter_case.specs.LetterCase.{bytes, sameAnyCase}
 use Rattle.address.specs.Grammar.{Address}
-use Rattle.xtext.specs.Xtext.{decoded, isXtext}
-use Rattle.address.specs.Address.{isAsciiAddress}
+use Rattle.xtext.specs.Grammar.{AltAddress}
 use Rattle.parameter.specs.Parameter.{isKeywordByte, isValueByte}
 use Rattle.envelope_line.specs.declared.Fault.{Fault}
 use Rattle.envelope_line.specs.declared.Fault.the-variants.{Fine, Malformed, NoAlternative, BadAlternative}
@@ -75,24 +74,21 @@ pub record Line (mail : Bool) (path : List ℕ) (alternative : Option (List ℕ)
   pub is-path : Path mail path
   pub is-tail : Tail alternative tail
 
--- "xtext of an ASCII address": the decoded bytes are the address
-abbrev pub isAlternative : List ℕ → Bool
-isAlternative v = isXtext v && isAsciiAddress (decoded v)
-
 -- The answers to a line: 2 "envelope line malformed", 3 "path not ASCII, no ALT-ADDRESS", 4 "ALT-ADDRESS beside an ASCII path, or not
 -- xtext of an ASCII address".
 pub data Answer (mail : Bool) (line : List ℕ) : Fault → Type 0 where
   malformed : ((path : List ℕ) (alternative : Option (List ℕ)) → Line mail path alternative line → ⊥) → Answer mail line Malformed
   no-alternative : {path : List ℕ} → Line mail path none line → T (not (all isAscii path)) → Answer mail line NoAlternative
   beside-ascii : {path v : List ℕ} → Line mail path (some v) line → T (all isAscii path) → Answer mail line BadAlternative
-  no-address : {path v : List ℕ} → Line mail path (some v) line → T (not (all isAscii path)) → T (not (isAlternative v)) → Answer mail line BadAlternative
+  no-address : {path v : List ℕ} → Line mail path (some v) line → T (not (all isAscii path)) → ((address : List ℕ) → AltAddress v address → ⊥)
+      → Answer mail line BadAlternative
   as-it-is : {path : List ℕ} → Line mail path none line → T (all isAscii path) → Answer mail line Fine
-  to-replace : {path v : List ℕ} → Line mail path (some v) line → T (not (all isAscii path)) → T (isAlternative v) → Answer mail line Fine
+  to-replace : {path v new : List ℕ} → Line mail path (some v) line → T (not (all isAscii path)) → AltAddress v new → Answer mail line Fine
 
 -- A line and what is written for it: "A non-ASCII path is replaced by the decoded ALT-ADDRESS, and that parameter goes with the space
 -- before it. .. Nothing else changes."
 pub data Written (mail : Bool) : List ℕ → List ℕ → Type 0 where
   copied : {line path : List ℕ} → Line mail path none line → T (all isAscii path) → Written mail line line
-  replaced : {front path before p v after : List ℕ} → Verb mail front → Path mail path → T (not (all isAscii path))
-      → Others before → Alt v p → T (isAlternative v) → Others after
-      → Written mail (front ++ (path ++ (62 ∷ (before ++ (32 ∷ (p ++ after)))))) (front ++ (decoded v ++ (62 ∷ (before ++ after))))
+  replaced : {front path before p v new after : List ℕ} → Verb mail front → Path mail path → T (not (all isAscii path))
+      → Others before → Alt v p → AltAddress v new → Others after
+      → Written mail (front ++ (path ++ (62 ∷ (before ++ (32 ∷ (p ++ after)))))) (front ++ (new ++ (62 ∷ (before ++ after))))

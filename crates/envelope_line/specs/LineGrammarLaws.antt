@@ -10,7 +10,7 @@ use lib.Dec.{T, eqb, leb, eqb→eq}
 use lib.ListN.{length, take, drop, getD, take-append-drop, length-append}
 use lib.Seq.{drop-cons, drop-drop, take-take, take-at, drop-at, append-snoc, take-append-seam, drop-append-seam, take-append-add, getD-append-seam, getD-drop}
 use native.Mathlib.Nat.{not-suc-le-zero}
-use mir.Facts.{T-not, and-yes, yes-and, leb-yes, yes-leb}
+use mir.Facts.{T-not, not-T, and-yes, yes-and, leb-yes, yes-leb}
 use borrow.Author.Tests.{ne-eqb, eq-eqb, le-leb}
 use Rattle.lists.specs.ListsLaws.{by-test, cond-has, yes-true, no-false, all-append}
 use Rattle.lists.specs.Lists.{all, nonempty}
@@ -25,12 +25,13 @@ use Rattle.address.specs.Grammar.{Atom, DotAtom, LocalPart, Address}
 use Rattle.address.specs.AddressLaws.{byte-within}
 use Rattle.address.specs.GrammarLaws.{Closed, address-sound, address-complete, local-alone}
 use Rattle.xtext.specs.Xtext.{decoded, isXtext, isAltAddress}
+use Rattle.xtext.specs.GrammarLaws.{xtext-read, read-alt-address, alt-address-read}
 use Rattle.parameter.specs.Parameter.{params, spaced, value, isParam, alts, altsOk, alt}
 use Rattle.envelope_line.specs.declared.Fault.{Fault}
 use Rattle.envelope_line.specs.declared.Fault.the-variants.{Fine, Malformed, NoAlternative, BadAlternative}
 use Rattle.envelope_line.specs.EnvelopeLine.{verb, verbLen, hasVerb, pathScan, scanEnd, isTo, pathLen, path, hasPath, tail, wellFormed, altFault, lineFault, newPath, withoutAlt, writtenLine}
 use Rattle.envelope_line.specs.FaultLaws.{Formed, formed-of, closed-of, well-formed}
-use Rattle.envelope_line.specs.LineGrammar.{Verb, Path, Others, Alt, Tail, Line, isAlternative, Answer, Written}
+use Rattle.envelope_line.specs.LineGrammar.{Verb, Path, Others, Alt, Tail, Line, Answer, Written}
 use Rattle.envelope_line.specs.TailGrammarLaws.{altValue, read-tail, ReadsTail, tail-reads, alt-value, alt-gone, value-le}
 
 -- ---- texts that are the same in any case
@@ -325,12 +326,10 @@ line-fault {mail} {p} {v} {line} l =
 -- ---- the answers
 
 -- a value in a line is no longer than the line may be
-value-short : {mail : Bool} {p v line : List ℕ} → Line mail p (some v) line → isAltAddress v ≡ isAlternative v
-unfolding isAltAddress
+value-short : {mail : Bool} {p v line : List ℕ} → Line mail p (some v) line → length v ≤ 998
 value-short {mail} {p} {v} {line} l =
     let size = simp length-append at (ap length (l .is)) in
-    let short : length v ≤ 998 = omega (arith, value-le (l .is-tail), l .short, size) in
-    rw (le-leb (length v) 998 short)
+    omega (arith, value-le (l .is-tail), l .short, size)
 
 answer-by : {mail : Bool} {p : List ℕ} {v : Option (List ℕ)} {line : List ℕ} (ascii : Bool) → ascii ≡ all isAscii p → Line mail p v line → Answer mail line (faultBy ascii v)
 answer-by {v = none} true e l = Answer.as-it-is l (rw (← e) tt)
@@ -338,8 +337,8 @@ answer-by {v = none} false e l = Answer.no-alternative l (rw (← e) tt)
 answer-by {v = some w} true e l = Answer.beside-ascii l (rw (← e) tt)
 answer-by {mail} {p} {v = some w} {line} false e l =
     cond-has (λ f. Answer mail line f) (isAltAddress w) Fine BadAlternative
-    (λ t. Answer.to-replace l (rw (← e) tt) (rw (value-short l) at t))
-    (λ t. Answer.no-address l (rw (← e) tt) (rw (value-short l) at t))
+    (λ t. Answer.to-replace l (rw (← e) tt) (read-alt-address w t))
+    (λ t. Answer.no-address l (rw (← e) tt) (λ new a. T-not (isAltAddress w) (alt-address-read (value-short l) a .0) t))
 
 unformed : (mail : Bool) (line : List ℕ) → T (not (wellFormed mail line)) → lineFault mail line ≡ Malformed
 unfolding lineFault
@@ -360,9 +359,9 @@ answer-exact {mail} {line} (Answer.malformed none-makes) =
     (λ t. sym (unformed mail line t))
 answer-exact (Answer.no-alternative {path = p} l h) = sym (line-fault l ∙ rw (no-false (all isAscii p) h))
 answer-exact (Answer.beside-ascii {path = p} l h) = sym (line-fault l ∙ rw (yes-true (all isAscii p) h))
-answer-exact (Answer.no-address {path = p} {v} l h k) = sym (line-fault l ∙ rw (no-false (all isAscii p) h, value-short l, no-false (isAlternative v) k))
+answer-exact (Answer.no-address {path = p} {v} l h k) = sym (line-fault l ∙ rw (no-false (all isAscii p) h, no-false (isAltAddress v) (not-T (isAltAddress v) (λ t. k (decoded v) (read-alt-address v t)))))
 answer-exact (Answer.as-it-is {path = p} l h) = sym (line-fault l ∙ rw (yes-true (all isAscii p) h))
-answer-exact (Answer.to-replace {path = p} {v} l h k) = sym (line-fault l ∙ rw (no-false (all isAscii p) h, value-short l, yes-true (isAlternative v) k))
+answer-exact (Answer.to-replace {path = p} {v} l h a) = sym (line-fault l ∙ rw (no-false (all isAscii p) h, yes-true (isAltAddress v) (alt-address-read (value-short l) a .0)))
 
 -- ---- what is written
 
@@ -374,9 +373,9 @@ replaced-by {mail} {front} {p} {before} {a} {v} {after} f q h o x y =
     let t : List ℕ = before ++ (32 ∷ (a ++ after)) in
     rw (made-path f q t, no-false (all isAscii p) h, made-front f q t, made-tail f q t, alt-value o x y, alt-gone o x y)
 
-replaced-line : {mail : Bool} {front p v t : List ℕ} → Verb mail front → Path mail p → T (not (all isAscii p)) → Tail (some v) t → T (isAlternative v)
+replaced-line : {mail : Bool} {front p v t : List ℕ} → Verb mail front → Path mail p → T (not (all isAscii p)) → Tail (some v) t → T (isAltAddress v)
     → Written mail (front ++ (p ++ (62 ∷ t))) (writtenLine mail (front ++ (p ++ (62 ∷ t))))
-replaced-line f q h (Tail.with-alt o x y) k = rw (replaced-by f q h o x y) (Written.replaced f q h o x k y)
+replaced-line {v = v} f q h (Tail.with-alt o x y) k = rw (replaced-by f q h o x y) (Written.replaced f q h o x (read-alt-address v k) y)
 
 written-by : {mail : Bool} {p : List ℕ} {v : Option (List ℕ)} {line : List ℕ} (ascii : Bool) → ascii ≡ all isAscii p → Line mail p v line → faultBy ascii v ≡ Fine
     → Written mail line (writtenLine mail line)
@@ -386,7 +385,7 @@ written-by {v = none} false e l k = absurd (let z : _≡_ {A = ℕ} 0 1 = cc in 
 written-by {v = some w} true e l k = absurd (let z : _≡_ {A = ℕ} 0 1 = cc in omega arith)
 written-by {v = some w} false e l k =
     by-test (isAltAddress w)
-    (λ t. rw (l .is) (replaced-line (l .is-front) (l .is-path) (rw (← e) tt) (l .is-tail) (rw (value-short l) at t)))
+    (λ t. rw (l .is) (replaced-line (l .is-front) (l .is-path) (rw (← e) tt) (l .is-tail) t))
     (λ t. absurd (let q = rw (no-false (isAltAddress w) t) at k in let z : _≡_ {A = ℕ} 0 1 = cc in omega arith))
 
 -- what is written for a line without fault
@@ -399,4 +398,5 @@ line-written mail line f =
 pub written-exact : {mail : Bool} {line out : List ℕ} → Written mail line out → out ≡ writtenLine mail line
 unfolding writtenLine
 written-exact (Written.copied {path = p} l h) = rw (line-read l .path-is, yes-true (all isAscii p) h)
-written-exact (Written.replaced f q h o x k y) = sym (replaced-by f q h o x y)
+written-exact (Written.replaced {front} {before} {v} {after} f q h o x a y) =
+    rw (xtext-read (a .xtext) .1) at (sym (replaced-by f q h o x y))

@@ -19,7 +19,7 @@ use Rattle.buffer.specs.Buffer.{Wrote, AppendedCapped, Reached, greatest}
 use Rattle.buffer.specs.BufferLaws.{reached-start, reached-then, reached-end, reached-within, length-reached, appended-of, wrote-from, overlay-front}
 use Rattle.address.specs.Address.{isAsciiAddress}
 use Rattle.address.specs.AddressLaws.{front-byte}
-use Rattle.xtext.specs.Xtext.{isXchar, isHexchar, unitLen, unitByte, Decoding, byteBefore, decodingAfter, decoding, isXtext, decoded, isAltAddress, altAddress}
+use Rattle.xtext.specs.Xtext.{isXchar, isHexchar, unitLen, unitByte, Decoding, byteBefore, decodingAfter, decoding, isXtext, decoded, isAltAddress}
 
 -- ---- a unit: an xchar or a hexchar
 
@@ -190,7 +190,3 @@ unfolding isAltAddress
 alt-address value h =
     let address = and-yes (leb (length value) 998 && isXtext value) (isAsciiAddress (decoded value)) h .1 in
     (address, ascii-address-bytes (decoded value) address)
-
-pub alt-some : (value : List ℕ) → T (isAltAddress value) → altAddress value ≡ some (decoded value)
-unfolding altAddress
-alt-some value h = cond-yes (isAltAddress value) (some (decoded value)) none h
