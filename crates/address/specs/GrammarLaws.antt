@@ -20,7 +20,7 @@ use Rattle.address.specs.declared.Scan.{Scan}
 use Rattle.address.specs.declared.Scan.the-variants.{To, Stop}
 use Rattle.address.specs.Address.{later, byteThen, scanThen, isAtext, isAtomByte, isQuotedByte, isLiteralByte, isHigh, dotAtomEnd, dotAtomFrom, dotAtomScan, quotedFrom, quotedScan, literalFrom, literalScan, domainScan, localScan, addressScan, takesAll, isAddress}
 use Rattle.address.specs.AddressLaws.{later-later, later-to, byte-within}
-use Rattle.address.specs.TakenLaws.{Taken, taken-quoted, taken-literal, utf8-front, utf8-through}
+use Rattle.address.specs.TakenLaws.{Taken, taken-quoted, taken-literal, taken-address, whole-taken, utf8-front, utf8-through}
 use Rattle.address.specs.Grammar.{Atom, DotAtom, Content, QuotedString, LocalPart, Domain, Address}
 
 no-to : {n m : ℕ} → Stop n ≡ To m → ⊥
@@ -351,6 +351,10 @@ whole-address s = go (addressScan s) refl
 
 pub address-whole : (s : List ℕ) → Address s → T (takesAll (addressScan s) s)
 address-whole s a = rw (rw append-nil at (address-complete a [] nothing-closed)) (yes-eqb {a = length s} {b = length s} refl)
+
+-- "CR, LF and TAB never stand inside."
+pub address-visible : {a : List ℕ} → Address a → T (all isQuotedByte a)
+address-visible {a} g = whole-taken a (addressScan a) (taken-address a) (address-whole a g) .1
 
 -- what a scan takes is an address by itself
 pub taken-whole : (s : List ℕ) (n : ℕ) → addressScan s ≡ To n → T (takesAll (addressScan (take n s)) (take n s))

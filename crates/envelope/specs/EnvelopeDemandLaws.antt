@@ -3,22 +3,23 @@ use mathlib.Core.Path.{_≡_, refl, ap, sym, _∙_}
 use mathlib.Core.Bool.{Bool, true, false, _&&_, and-false}
 use mathlib.Core.List.{List, [], _∷_, _++_, map, append-assoc}
 use Prim.Native.Nat.{ℕ, suc, pred, _+_, _≤_, _<_}
-use native.Mathlib.Numerals.{add-one}
 use native.Mathlib.Omega.{arith}
 use lib.Dec.{T, eqb, leb, eqb→eq}
-use lib.ListN.{length, take, drop, length-drop, length-take, length-map, take-append-drop}
-use mir.Facts.{and-yes, leb-yes, yes-leb}
+use lib.ListN.{length, take, drop, length-append, length-drop, length-take, length-map, take-append-drop}
+use lib.Seq.{take-append-seam, drop-append-add}
+use mir.Facts.{and-yes, yes-and, leb-yes, yes-leb}
+use borrow.Author.Tests.{not-true}
 use Rattle.lists.specs.Lists.{all, joined}
-use Rattle.lists.specs.ListsLaws.{true-yes}
+use Rattle.lists.specs.ListsLaws.{true-yes, yes-true}
 use Rattle.lists.specs.CutByLaws.{cut-all}
-use Rattle.line.specs.Line.{crlf, lineLen}
+use Rattle.line.specs.Line.{crlf, lineLen, notCr}
 use Rattle.line.specs.LineLaws.{line-front}
 use Rattle.envelope_line.specs.EnvelopeLine.{writtenLine}
-use Rattle.envelope_line.specs.LineGrammar.{Written}
-use Rattle.envelope_line.specs.LineGrammarLaws.{line-written}
+use Rattle.envelope_line.specs.LineGrammarLaws.{line-written, written-exact}
+use Rattle.envelope_line.specs.LineBytesLaws.{written-no-cr}
 use Rattle.envelope.specs.declared.Checked.the-variants.{Passed}
 use Rattle.envelope.specs.Envelope.{lines, lineText, endedFault, isFine, checkedFrom, checked, texts, writtenEnded, writtenOf, written}
-use Rattle.envelope.specs.LinesLaws.{lines-joined}
+use Rattle.envelope.specs.LinesLaws.{lines-joined, texts-end, texts-at}
 use Rattle.envelope.specs.CheckLaws.{ended, ended-fine}
 use Rattle.envelope.specs.PassedLaws.{passed-line, passed-count, RcptsFine, LinesFine, passed-fine}
 use Rattle.envelope.specs.EnvelopeDemand.{eachEnded, RcptsWritten, EnvelopeWritten}
@@ -99,3 +100,43 @@ lines-written m (mail ∷ rcpts) p f k =
 pub envelope-written : (e : List ℕ) (m : ℕ) → checked e ≡ Passed m → EnvelopeWritten e (written e)
 unfolding checked written texts
 envelope-written e m p = rw (lines-joined e) at (lines-written m (lines e) p (passed-fine e m p) (lines-end e))
+
+-- ---- nothing else is written
+
+no-crlf : (l rest : List ℕ) → T (all notCr l) → lineLen (l ++ (13 ∷ 10 ∷ rest)) ≡ length l
+unfolding lineLen crlf
+no-crlf [] rest h = refl
+no-crlf (b ∷ l) rest h =
+    let p = and-yes (notCr b) (all notCr l) h in
+    rw (not-true (eqb b 13) (yes-true (notCr b) (p .0)), no-crlf l rest (p .1))
+
+-- lines without CR are found again
+texts-found : (ls : List (List ℕ)) → T (all (all notCr) ls) → texts (eachEnded ls) ≡ ls
+unfolding lineText
+texts-found [] h = texts-end [] 0 (omega arith)
+texts-found (l ∷ ls) h =
+    let p = and-yes (all notCr l) (all (all notCr) ls) h in
+    let s : List ℕ = l ++ (13 ∷ 10 ∷ eachEnded ls) in
+    let some : 0 < length s = omega (arith, length-append l (13 ∷ 10 ∷ eachEnded ls)) in
+    texts-at s 0 (lineLen s) (omega arith) some
+    ∙ rw (no-crlf l (eachEnded ls) (p .0), take-append-seam l (13 ∷ 10 ∷ eachEnded ls), drop-append-add l (13 ∷ 10 ∷ eachEnded ls) 2, texts-found ls (p .1))
+
+rcpts-no-cr : {rcpts outs : List (List ℕ)} → RcptsWritten rcpts outs → T (all (all notCr) rcpts)
+rcpts-no-cr RcptsWritten.end = tt
+rcpts-no-cr (RcptsWritten.then {line} {more} w ws) = yes-and (all notCr line) (all (all notCr) more) (written-no-cr w) (rcpts-no-cr ws)
+
+rcpts-exact : {rcpts outs : List (List ℕ)} → RcptsWritten rcpts outs → outs ≡ map (writtenLine false) rcpts
+rcpts-exact RcptsWritten.end = refl
+rcpts-exact (RcptsWritten.then {out} w ws) = rw (rcpts-exact ws, written-exact w)
+
+pub envelope-exact : {e out : List ℕ} → EnvelopeWritten e out → out ≡ written e
+unfolding written writtenOf writtenEnded
+envelope-exact {e} {out} w =
+    let mail = w .mail in
+    let rcpts = w .rcpts in
+    let new = writtenLine true mail in
+    let found : texts e ≡ mail ∷ rcpts =
+    ap texts (w .incoming) ∙ texts-found (mail ∷ rcpts) (yes-and (all notCr mail) (all (all notCr) rcpts) (written-no-cr (w .first)) (rcpts-no-cr (w .others))) in
+    let same : new ++ (13 ∷ 10 ∷ []) ++ joined (map (writtenEnded false) rcpts) ≡ eachEnded (w .new-mail ∷ w .new-rcpts) =
+    rw (written-exact (w .first), rcpts-exact (w .others), rcpts-out rcpts) (line-before new (new ++ (13 ∷ 10 ∷ [])) (eachEnded (map (writtenLine false) rcpts)) refl) in
+    w .outgoing ∙ sym (rw found same)

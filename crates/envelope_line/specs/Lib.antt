@@ -2,6 +2,7 @@ pub mod EnvelopeLine
 pub mod LineGrammar
 pub mod TailGrammarLaws
 pub mod LineGrammarLaws
+pub mod LineBytesLaws
 pub mod PathLaws
 pub mod FaultLaws
 pub mod WriteLaws

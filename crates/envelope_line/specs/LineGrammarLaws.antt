@@ -1,38 +1,37 @@
 -- The fault of a line, and what is written for it, are those of the grammar. Assumes nothing.
-use mathlib.Core.Path.{_≡_, refl, ap, sym, subst, _∙_}
+use mathlib.Core.Path.{_≡_, refl, ap, sym, _∙_}
 use mathlib.Core.Bool.{Bool, true, false, not, cond, _&&_}
-use mathlib.Core.List.{List, [], _∷_, _++_, append-assoc}
+use mathlib.Core.List.{List, [], _∷_, _++_}
 use mathlib.Core.Option.{Option, none, some}
 use Prim.Native.Nat.{ℕ, suc, _+_, _≤_, _<_}
 use native.Mathlib.Numerals.{add-one}
 use native.Mathlib.Omega.{arith}
 use lib.Dec.{T, eqb, leb, eqb→eq}
 use lib.ListN.{length, take, drop, getD, take-append-drop, length-append}
-use lib.Seq.{drop-cons, drop-drop, take-take, take-at, drop-at, append-snoc, take-append-seam, drop-append-seam, take-append-add, getD-append-seam, getD-drop}
+use lib.Seq.{drop-cons, drop-drop, take-take, take-at, drop-at, append-snoc, take-append-seam, drop-append-seam, take-append-add, getD-drop}
 use native.Mathlib.Nat.{not-suc-le-zero}
 use mir.Facts.{T-not, not-T, and-yes, yes-and, leb-yes, yes-leb}
-use borrow.Author.Tests.{ne-eqb, eq-eqb, le-leb}
-use Rattle.lists.specs.ListsLaws.{by-test, cond-has, yes-true, no-false, all-append}
+use borrow.Author.Tests.{ne-eqb, eq-eqb}
+use Rattle.lists.specs.ListsLaws.{by-test, cond-has, yes-true, no-false}
 use Rattle.lists.specs.Lists.{all, nonempty}
 use Rattle.lists.specs.Byte.{within, isAscii}
-use Rattle.lists.specs.ByteLaws.{within-high}
 use Rattle.utf8.specs.Utf8.{utf8}
 use Rattle.letter_case.specs.LetterCase.{bytes, lower, sameAnyCase}
 use Rattle.address.specs.declared.Scan.{Scan}
 use Rattle.address.specs.declared.Scan.the-variants.{To, Stop}
-use Rattle.address.specs.Address.{isAtext, isAtomByte, scanThen, dotAtomFrom, dotAtomScan, localScan, addressScan, isAsciiAddress}
-use Rattle.address.specs.Grammar.{Atom, DotAtom, LocalPart, Address}
+use Rattle.address.specs.Address.{isAtext, isAtomByte, scanThen, dotAtomFrom, dotAtomScan, localScan, addressScan}
+use Rattle.address.specs.Grammar.{DotAtom, LocalPart}
 use Rattle.address.specs.AddressLaws.{byte-within}
 use Rattle.address.specs.GrammarLaws.{Closed, address-sound, address-complete, local-alone}
-use Rattle.xtext.specs.Xtext.{decoded, isXtext, isAltAddress}
+use Rattle.xtext.specs.Xtext.{decoded, isAltAddress}
 use Rattle.xtext.specs.GrammarLaws.{xtext-read, read-alt-address, alt-address-read}
-use Rattle.parameter.specs.Parameter.{params, spaced, value, isParam, alts, altsOk, alt}
+use Rattle.parameter.specs.Parameter.{params, spaced, isParam, alts, altsOk}
 use Rattle.envelope_line.specs.declared.Fault.{Fault}
 use Rattle.envelope_line.specs.declared.Fault.the-variants.{Fine, Malformed, NoAlternative, BadAlternative}
-use Rattle.envelope_line.specs.EnvelopeLine.{verb, verbLen, hasVerb, pathScan, scanEnd, isTo, pathLen, path, hasPath, tail, wellFormed, altFault, lineFault, newPath, withoutAlt, writtenLine}
+use Rattle.envelope_line.specs.EnvelopeLine.{verb, verbLen, hasVerb, pathScan, scanEnd, isTo, pathLen, path, hasPath, tail, wellFormed, altFault, lineFault, newPath, writtenLine}
 use Rattle.envelope_line.specs.FaultLaws.{Formed, formed-of, closed-of, well-formed}
 use Rattle.envelope_line.specs.LineGrammar.{Verb, Path, Others, Alt, Tail, Line, Answer, Written}
-use Rattle.envelope_line.specs.TailGrammarLaws.{altValue, read-tail, ReadsTail, tail-reads, alt-value, alt-gone, value-le}
+use Rattle.envelope_line.specs.TailGrammarLaws.{altValue, read-tail, tail-reads, alt-value, alt-gone, value-le}
 
 -- ---- texts that are the same in any case
 
@@ -77,11 +76,11 @@ same-more (x ∷ xs) (y ∷ ys) b t =
     let p = and-yes (eqb (lower x) (lower y)) (sameAnyCase xs ys) t in
     yes-and (eqb (lower x) (lower y)) (sameAnyCase (xs ++ (b ∷ [])) (ys ++ (b ∷ []))) (p .0) (same-more xs ys b (p .1))
 
--- a `>` is not a letter
-lower-mark : (y : ℕ) → 62 ≡ lower y → y ≡ 62
+-- a byte below the small letters that is no capital one
+pub lower-mark : (b y : ℕ) → b < 97 → b ≡ lower y → y ≡ b
 unfolding lower
-lower-mark y =
-    cond-has (λ n. 62 ≡ n → y ≡ 62) (within 65 90 y) (y + 32) y
+lower-mark b y k =
+    cond-has (λ n. b ≡ n → y ≡ b) (within 65 90 y) (y + 32) y
     (λ t e. absurd (omega (arith, e, leb-yes {a = 65} {b = y} (and-yes (leb 65 y) (leb y 90) t .0))))
     (λ t e. sym e)
 
@@ -94,7 +93,7 @@ letter-atom y =
     let wide : T (within 94 126 y) = yes-and (leb 94 y) (leb y 126) (yes-leb {a = 94} {b = y} (omega (arith, leb-yes {a = 97} {b = y} (b .0)))) (yes-leb {a = y} {b = 126} (omega (arith, leb-yes {a = y} {b = 122} (b .1)))) in
     rw (no-false (within 65 90 y) t, yes-true (within 94 126 y) wide) tt)
 
-letters-atoms : (xs ys : List ℕ) → T (sameAnyCase xs ys) → T (all (λ x. within 97 122 (lower x)) xs) → T (all isAtomByte ys)
+pub letters-atoms : (xs ys : List ℕ) → T (sameAnyCase xs ys) → T (all (λ x. within 97 122 (lower x)) xs) → T (all isAtomByte ys)
 unfolding sameAnyCase
 letters-atoms [] [] t h = tt
 letters-atoms [] (y ∷ ys) t h = absurd t
@@ -133,7 +132,7 @@ module _ (s : List ℕ) (t : T (sameAnyCase (bytes "Postmaster>") (take 11 s))) 
   word-then : word .front ++ (62 ∷ drop 11 s) ≡ s
   unfolding lower
   word-then =
-      let mark : word .last ≡ 62 = lower-mark (word .last) (word .same-last) in
+      let mark : word .last ≡ 62 = lower-mark 62 (word .last) (omega arith) (word .same-last) in
       let whole : take 11 s ++ drop 11 s ≡ s = take-append-drop 11 s in
       rw (word .is, mark, append-snoc (word .front) 62 (drop 11 s)) at whole
 

@@ -1,24 +1,21 @@
 -- What follows a path is well-formed exactly if the grammar makes it. Assumes nothing.
-use mathlib.Core.Path.{_≡_, refl, ap, sym, subst, _∙_}
+use mathlib.Core.Path.{_≡_, refl, sym, subst, _∙_}
 use mathlib.Core.Bool.{Bool, true, false, not, _&&_, _||_}
 use mathlib.Core.List.{List, [], _∷_, _++_, map, append-assoc, append-nil}
 use mathlib.Core.Option.{Option, none, some}
-use mathlib.Core.Logic.{⊎-elim}
 use Prim.Native.Nat.{ℕ, zero, suc, pred, _+_, _≤_, _<_, zero-le, suc-le-suc}
 use native.Mathlib.Nat.{add-zero}
 use native.Mathlib.Numerals.{add-one}
 use native.Mathlib.Omega.{arith}
-use lib.Dec.{T, eqb, leb, ltb, eqb→eq}
-use lib.ListN.{length, take, drop, getD, take-append-drop, length-append, drop-of-length-le}
-use lib.Seq.{drop-cons, take-all, take-append-seam, drop-append-seam, take-append-add, drop-append-add, getD-append-seam}
-use mir.Facts.{and-yes, yes-and, or-yes, ltb-yes, ltb-no, leb-yes, T-not, yes-eqb, eqb-yes, no-eqb, eqb-no}
-use borrow.Author.Tests.{not-false, eqb-true, ne-eqb, lt-ltb, le-ltb}
-use Rattle.lists.specs.ListsLaws.{by-test, yes-true, true-yes, no-false, all-append, all-weaken}
+use lib.Dec.{T, eqb, eqb→eq}
+use lib.ListN.{length, take, drop, getD, take-append-drop, length-append}
+use lib.Seq.{drop-cons, take-all, take-append-seam, drop-append-seam, drop-append-add, getD-append-seam}
+use mir.Facts.{and-yes, yes-and, ltb-yes, ltb-no, no-eqb, eqb-no}
+use borrow.Author.Tests.{not-false, eqb-true, lt-ltb, le-ltb}
+use Rattle.lists.specs.ListsLaws.{by-test, yes-true, no-false, all-append, all-weaken}
 use Rattle.lists.specs.Lists.{all, nonempty}
-use Rattle.lists.specs.Byte.{within}
-use Rattle.lists.specs.ByteLaws.{within-high}
 use Rattle.lists.specs.Run.{run}
-use Rattle.lists.specs.RunLaws.{run-le, run-all, run-after, run-past}
+use Rattle.lists.specs.RunLaws.{run-all, run-after, run-past}
 use Rattle.lists.specs.CutBy.{cutBy, cutAfter}
 use Rattle.lists.specs.CutByLaws.{cut-nil, cut-front}
 use Rattle.letter_case.specs.LetterCase.{bytes, sameAnyCase}

@@ -1,9 +1,9 @@
 -- What is read as xtext is what the grammar makes. Assumes nothing.
-use mathlib.Core.Path.{_≡_, refl, ap, subst}
-use mathlib.Core.Bool.{Bool, true, false, not, cond, _&&_}
+use mathlib.Core.Path.{_≡_, refl, ap}
+use mathlib.Core.Bool.{true, false, _&&_}
 use mathlib.Core.List.{List, [], _∷_}
-use Prim.Native.Nat.{ℕ, zero, suc, pred, _+_, _*_, _≤_}
-use lib.Dec.{T, eqb, leb, ltb, eqb→eq}
+use Prim.Native.Nat.{ℕ, zero, suc, _+_, _*_, _≤_}
+use lib.Dec.{T, eqb, leb, eqb→eq}
 use lib.ListN.{length, drop, getD}
 use mir.Facts.{and-yes, yes-and, yes-leb}
 use Rattle.lists.specs.Lists.{all}

@@ -6,13 +6,12 @@ use mathlib.Core.List.{List, [], _∷_, _++_}
 use Prim.Native.Nat.{ℕ, zero, suc, pred, _+_, _*_, _-_, _≤_, _<_}
 use native.Mathlib.Omega.{arith}
 use lib.Dec.{T, eqb, ltb, leb}
-use mathlib.Core.Option.{none, some}
 use Rattle.address.specs.TakenLaws.{ascii-address-bytes}
 use lib.ListN.{length, take, drop, getD, length-drop, drop-of-length-le, List·getD-eq-default}
 use lib.Seq.{drop-drop, getD-drop}
 use mir.Facts.{and-yes}
 use Rattle.lists.specs.Lists.{all}
-use Rattle.lists.specs.ListsLaws.{cond-yes, cond-has}
+use Rattle.lists.specs.ListsLaws.{cond-has}
 use Rattle.lists.specs.Byte.{within}
 use Rattle.hex.specs.Hex.{isHexDigit, hexValue}
 use Rattle.buffer.specs.Buffer.{Wrote, AppendedCapped, Reached, greatest}
