@@ -1,22 +1,28 @@
--- No line of the grammar has a CR inside. Assumes nothing.
+-- The bytes of a line of the grammar: no CR stands inside; past the path only an ORCPT carries non-ASCII. Assumes nothing.
 use mathlib.Core.Path.{_≡_, refl, sym}
-use mathlib.Core.Bool.{Bool, true, false, not, _&&_}
-use mathlib.Core.List.{List, [], _∷_, _++_}
-use mathlib.Core.Option.{none}
-use Prim.Native.Nat.{ℕ}
+use mathlib.Core.Bool.{Bool, true, false, not, or-true}
+use mathlib.Core.List.{List, [], _∷_, _++_, map}
+use mathlib.Core.Option.{Option, none}
+use Prim.Native.Nat.{ℕ, _+_}
 use native.Mathlib.Omega.{arith}
 use lib.Dec.{T, eqb, eqb→eq}
-use mir.Facts.{and-yes, yes-and, no-eqb, eqb-no}
-use Rattle.lists.specs.ListsLaws.{all-append, all-weaken}
+use lib.ListN.{take, drop, take-append-drop}
+use mir.Facts.{T-not, not-T, and-yes, yes-and, no-eqb, eqb-no}
+use Rattle.lists.specs.ListsLaws.{by-test, yes-true, no-false, all-append, all-right, all-weaken, all-joined}
 use Rattle.lists.specs.Lists.{all}
+use Rattle.lists.specs.Byte.{isAscii}
+use Rattle.lists.specs.CutBy.{cutBy}
+use Rattle.lists.specs.CutByLaws.{cut-joined}
 use Rattle.letter_case.specs.LetterCase.{bytes, lower, sameAnyCase}
 use Rattle.line.specs.Line.{notCr}
-use Rattle.address.specs.Address.{isAtext, isAtomByte, isQuotedByte}
+use Rattle.address.specs.Address.{isQuotedByte}
 use Rattle.address.specs.GrammarLaws.{address-visible}
-use Rattle.parameter.specs.Parameter.{isKeywordByte, isValueByte}
-use Rattle.envelope_line.specs.EnvelopeLine.{verb}
+use Rattle.parameter.specs.Parameter.{spacedLen, params, isKeywordByte, isValueByte, keywordLen, value, isOrcpt, orcptClean}
+use Rattle.parameter.specs.AsciiLaws.{tail-ascii}
+use Rattle.envelope_line.specs.EnvelopeLine.{verb, tail, orcptFault}
 use Rattle.envelope_line.specs.LineGrammar.{Verb, Path, Keyword, Value, Parameter, Others, Alt, Tail, Line, Written}
-use Rattle.envelope_line.specs.LineGrammarLaws.{lower-mark, letters-atoms}
+use Rattle.envelope_line.specs.LineGrammarLaws.{lower-mark, line-tail}
+use Rattle.envelope_line.specs.TailGrammarLaws.{tail-reads}
 
 -- bytes of a class that CR is not in
 class-no-cr : (f : ℕ → Bool) → f 13 ≡ false → (s : List ℕ) → T (all f s) → T (all notCr s)
@@ -80,3 +86,34 @@ plain-no-cr (Tail.plain o) = others-no-cr o
 pub written-no-cr : {mail : Bool} {line out : List ℕ} → Written mail line out → T (all notCr line)
 written-no-cr (Written.copied l h) = rw (l .is) (parts-no-cr (l .is-front) (l .is-path) (l .tail) (plain-no-cr (l .is-tail)))
 written-no-cr (Written.replaced {before} {p} {after} f q h o x a y) = parts-no-cr f q (before ++ (32 ∷ (p ++ after))) (with-alt-no-cr o x y)
+
+-- ---- ORCPT
+
+drop-each : (parts : List (List ℕ)) → T (all (all isAscii) parts) → T (all (all isAscii) (map (drop 1) parts))
+drop-each [] h = tt
+drop-each (x ∷ parts) h =
+    let p = and-yes (all isAscii x) (all (all isAscii) parts) h in
+    yes-and (all isAscii (drop 1 x)) (all (all isAscii) (map (drop 1) parts)) (all-right isAscii (take 1 x) (drop 1 x) (rw take-append-drop (p .0))) (drop-each parts (p .1))
+
+params-ascii : (t : List ℕ) → T (all isAscii t) → T (all (all isAscii) (params t))
+unfolding params
+params-ascii t h = drop-each (cutBy spacedLen t) (all-joined isAscii (cutBy spacedLen t) (rw (cut-joined spacedLen t) h))
+
+ascii-clean : (p : List ℕ) → T (all isAscii p) → T (orcptClean p)
+unfolding orcptClean value
+ascii-clean p h =
+    let n = keywordLen p + 1 in
+    let v = all-right isAscii (take n p) (drop n p) (rw take-append-drop h) in
+    rw (yes-true (all isAscii (drop n p)) v, or-true (not (isOrcpt p))) tt
+
+-- 6: "an ORCPT carries non-ASCII". Nothing else that follows a path may.
+pub orcpt-exact : {mail : Bool} {p : List ℕ} {v : Option (List ℕ)} {line : List ℕ} (l : Line mail p v line) → orcptFault mail line ≡ not (all isAscii (l .tail))
+unfolding orcptFault
+orcpt-exact {mail} {p} {v} {line} l =
+    let t = l .tail in
+    let r = tail-reads (l .is-tail) in
+    let same : tail mail line ≡ t = line-tail l in
+    rw same
+    (by-test (all isAscii t)
+    (λ h. rw (yes-true (all isAscii t) h, yes-true (all orcptClean (params t)) (all-weaken (all isAscii) orcptClean ascii-clean (params t) (params-ascii t h))))
+    (λ h. rw (no-false (all isAscii t) h, no-false (all orcptClean (params t)) (not-T (all orcptClean (params t)) (λ c. T-not (all isAscii t) (tail-ascii t (r .is-spaced) (r .each) c) h)))))

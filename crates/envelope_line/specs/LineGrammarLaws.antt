@@ -93,7 +93,7 @@ letter-atom y =
     let wide : T (within 94 126 y) = yes-and (leb 94 y) (leb y 126) (yes-leb {a = 94} {b = y} (omega (arith, leb-yes {a = 97} {b = y} (b .0)))) (yes-leb {a = y} {b = 126} (omega (arith, leb-yes {a = y} {b = 122} (b .1)))) in
     rw (no-false (within 65 90 y) t, yes-true (within 94 126 y) wide) tt)
 
-pub letters-atoms : (xs ys : List ℕ) → T (sameAnyCase xs ys) → T (all (λ x. within 97 122 (lower x)) xs) → T (all isAtomByte ys)
+letters-atoms : (xs ys : List ℕ) → T (sameAnyCase xs ys) → T (all (λ x. within 97 122 (lower x)) xs) → T (all isAtomByte ys)
 unfolding sameAnyCase
 letters-atoms [] [] t h = tt
 letters-atoms [] (y ∷ ys) t h = absurd t
@@ -321,6 +321,9 @@ unfolding lineFault
 line-fault {mail} {p} {v} {line} l =
     let r = line-read l in
     rw (yes-true (wellFormed mail line) (r .well), r .path-is) (alt-fault-by (all isAscii p) (alts (params (tail mail line))) ∙ ap (faultBy (all isAscii p)) (r .value-is))
+
+pub line-tail : {mail : Bool} {p : List ℕ} {v : Option (List ℕ)} {line : List ℕ} (l : Line mail p v line) → tail mail line ≡ l .tail
+line-tail {mail} l = ap (tail mail) (l .is) ∙ made-tail (l .is-front) (l .is-path) (l .tail)
 
 -- ---- the answers
 
