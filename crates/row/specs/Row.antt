@@ -7,15 +7,7 @@ use lib.ListN.{length}
 use Rattle.lists.specs.Lists.{joined}
 use Rattle.utf8.specs.Utf8.{chars}
 use Rattle.cut.specs.Cut.{cut}
-use Rattle.word_spelling.specs.Spelling.{spell, cost}
-
--- `=?UTF-8?Q?`
-abbrev pub opening : List ℕ
-opening = 61 ∷ 63 ∷ 85 ∷ 84 ∷ 70 ∷ 45 ∷ 56 ∷ 63 ∷ 81 ∷ 63 ∷ []
-
--- `?=`
-abbrev pub closing : List ℕ
-closing = 63 ∷ 61 ∷ []
+use Rattle.word_spelling.specs.Spelling.{opening, closing, spell, cost}
 
 -- whether a word with this room holds these characters; every word has the same room, so k is not used
 abbrev pub fitsRoom : ℕ → ℕ → List (List ℕ) → Bool

@@ -8,6 +8,14 @@ use lib.ListN.{length}
 use Rattle.lists.specs.Byte.{within}
 use Rattle.hex.specs.Hex.{hexDigit}
 
+-- `=?UTF-8?Q?`, which opens a word
+abbrev pub opening : List ℕ
+opening = 61 ∷ 63 ∷ 85 ∷ 84 ∷ 70 ∷ 45 ∷ 56 ∷ 63 ∷ 81 ∷ 63 ∷ []
+
+-- `?=`, which closes it
+abbrev pub closing : List ℕ
+closing = 63 ∷ 61 ∷ []
+
 -- the bytes that stand for themselves: letters, digits and !*+-/
 unfoldable pub bare : ℕ → Bool
 bare b = within 65 90 b || within 97 122 b || within 48 57 b || eqb b 33 || eqb b 42 || eqb b 43 || eqb b 45 || eqb b 47
