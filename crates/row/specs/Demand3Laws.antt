@@ -145,7 +145,7 @@ demand-3-in room text h u = record {
 
 -- Demand 3.
 pub demand-3 : (text : List ℕ) → T (utf8 text) → Demand3 text (row text)
-demand-3 text u = demand-3-in 63 text (lit≤ tt) u
+demand-3 text u = demand-3-in _ text (lit≤ tt) u
 
 -- ---- the length of a word, and of its line
 

@@ -9,3 +9,4 @@ pub mod ReadingLaws
 pub mod ReadingCases
 pub mod Demand3
 pub mod Demand3Laws
+pub mod CounterexampleLaws
