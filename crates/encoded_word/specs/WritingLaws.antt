@@ -12,7 +12,8 @@ use Rattle.utf8.specs.Utf8.{charLen}
 use Rattle.hex.specs.Hex.{hexDigit}
 use Rattle.buffer.specs.Buffer.{Wrote, Appended, AppendedCapped, Reached, greatest}
 use Rattle.buffer.specs.BufferLaws.{overlay-front, wrote-from, appended-from, appended-of, appended-then, length-appended, reached-then, reached-last}
-use Rattle.word_spelling.specs.Spelling.{closing, escape, spell, cost}
+use Rattle.word_spelling.specs.Spelling.{closing, escape, spell}
+use Rattle.word_spelling.specs.Cost.{cost}
 use Rattle.word_spelling.specs.SpellingLaws.{length-spell, spell-high, escapes, alone-ascii}
 use Rattle.word_spelling.specs.FirstChars.{firstChar, firstChars}
 use Rattle.word_spelling.specs.FirstCharsLaws.{spelt-alone, cost-alone, from-at, first-in}

@@ -1,4 +1,6 @@
--- Rows of which demand 3 does not hold, one for each part of it: without that part it would hold. Assumes nothing.
+-- Rows of which demand 3 does not hold. For each part of it, if that part were left out, it would hold of one of these rows: of
+-- `row-with-fault` without `laid`, `row-empty` without `reads`, `lower-case-hex` without `spelt`, `word-of-76` without `short`,
+-- `character-cut` without `whole`, `word-too-many` without `fewest`. Assumes nothing.
 use mathlib.Core.Path.{_≡_, refl, sym, ap, _∙_}
 use mathlib.Core.List.{List, [], _∷_, _++_, append-nil, nil≢cons}
 use mathlib.Core.Bool.{true}

@@ -11,8 +11,7 @@ use Rattle.lists.specs.ListsLaws.{all-append, all-joined, all-mem, joined-appen
 use Rattle.lists.specs.Byte.{isByte}
 use Rattle.utf8.specs.Utf8.{isChar, chars, utf8}
 use Rattle.utf8.specs.Utf8Laws.{chars-joined, chars-of, utf8-of, utf8-bytes, char-length}
-use Rattle.cut.specs.Cut.{AllFit}
-use Rattle.cut.specs.CutLaws.{cut-joined, cut-fits, cut-some, fewest}
+use Rattle.cut.specs.CutLaws.{AllFit, cut-joined, cut-fits, cut-some, fewest}
 use Rattle.word_spelling.specs.Spelling.{opening, closing, spellByte, spell}
 use Rattle.word_spelling.specs.SpellingLaws.{spell-byte-some, length-spell, length-spell-append, length-spell-joined}
 use Rattle.row.specs.Row.{fitsRoom, runs, word, rowIn, row}

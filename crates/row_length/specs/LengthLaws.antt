@@ -8,7 +8,8 @@ use lib.ListN.{length, take, drop, getD, length-append}
 use lib.Dec.{ltb}
 use borrow.Author.Tests.{ltb-true}
 use Rattle.utf8.specs.Utf8.{charLen}
-use Rattle.word_spelling.specs.Spelling.{spell, byteCost, cost}
+use Rattle.word_spelling.specs.Spelling.{spell}
+use Rattle.word_spelling.specs.Cost.{byteCost, cost}
 use Rattle.word_spelling.specs.HighChar.{HighChar}
 use Rattle.word_spelling.specs.HighCharLaws.{both, whole-end, whole-take, whole-cost}
 use Rattle.word_spelling.specs.FirstChars.{firstChars, costIn}
