@@ -1,6 +1,6 @@
 -- Demand 3 for one text of UTF-8 and its row: "Every row of encoded words reads back, by RFC 2047, as exactly its text; each word is at
 -- most 75 characters and holds whole characters; no other row in our spelling that reads back as the same text has fewer words."
--- CounterexampleLaws.antt has rows of which it does not hold, one for each part. Assumes nothing.
+-- CounterexampleLaws.antt has rows of which it does not hold, for each part of it. Assumes nothing.
 use mathlib.Core.Path.{_≡_}
 use mathlib.Core.List.{List, [], _∷_}
 use Prim.Native.Nat.{ℕ, _≤_}
@@ -12,7 +12,8 @@ use Rattle.row.specs.Layout.{Word, wordBytes, Laid, textOf}
 
 -- one word of at most so many characters
 pub record Proper (limit : ℕ) (w : Word) : Type 0 where
-  -- "A word is in our spelling when each byte it adds stands there as Encoded words writes that byte."
+  -- "A word is in our spelling when each byte it adds stands there as Encoded words writes that byte.": so what stands there is what it
+  -- adds, written so (`spelt-bytes` and `bytes-spelt` in LayoutLaws.antt).
   pub spelt : w .standing ≡ spell (w .added)
   pub short : length (wordBytes w) ≤ limit
   -- "It holds whole characters when the bytes it adds are UTF-8 by themselves."
