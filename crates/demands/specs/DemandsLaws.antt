@@ -16,7 +16,7 @@ use Rattle.buffer.specs.BufferLaws.{length-overlay, overlay-front, overlay-past
 use Rattle.row.specs.Row.{row}
 use Rattle.encoded_word.specs.Segments.{Segment, rendered, sound}
 use Rattle.encoded_word.specs.SegmentsLaws.{rendered-append, rendered-ascii, words-demand-3, labelled-demand-3}
-use Rattle.encoded_word.specs.Demand3.{Demand3}
+use Rattle.row.specs.Demand3.{Demand3}
 use Rattle.letter_case.specs.LetterCase.{bytes}
 use Rattle.envelope_line.specs.declared.Fault.{Fault}
 use Rattle.envelope_line.specs.declared.Fault.the-variants.{Fine, Malformed, NoAlternative, BadAlternative}

@@ -21,7 +21,7 @@ pub fn write(out: &mut [u8], text: &[u8]) -> usize
     ensures { λ r. ⌜ Wrote (row (bounded (now (text .entry)))) (now (out .entry)) (now (out .exit)) r ⌝ }
 {
     if out.len() == 0 {
-        return row::len(text);
+        return row_length::len(text);
     }
     if text.len() == 0 {
         return 0;
@@ -43,7 +43,7 @@ pub fn write(out: &mut [u8], text: &[u8]) -> usize
 pub fn len(text: &[u8]) -> usize
     ensures { λ r. ⌜ r ≡ length (row (bounded (now (text .entry)))) ⌝ }
 {
-    row::len(text)
+    row_length::len(text)
 }
 
 // Writes a text's row from a place on, as far as it fits; answers the place after it.

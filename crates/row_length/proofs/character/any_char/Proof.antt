@@ -1,12 +1,12 @@
 use Prim.Native.Nat.{_-_}
-use Rattle.row.specs.LengthLaws.{measured}
+use Rattle.row_length.specs.LengthLaws.{measured}
 use Rattle.word_spelling.specs.HighCharLaws.{char-cost}
 use Rattle.word_spelling.specs.FirstCharsLaws.{costs-in}
 use native.Mathlib.Omega.{arith}
 use mathlib.Core.Path.{refl, _∙_}
 use borrow.Author.Needs.{needs}
-use Rattle.row.proofs.character.any_char.Statement.{statement}
-use Rattle.row.proofs.character.any_char.Tie as tie
+use Rattle.row_length.proofs.character.any_char.Statement.{statement}
+use Rattle.row_length.proofs.character.any_char.Tie as tie
 
 char-cost-requires : tie.Need-char-cost-requires
 char-cost-requires c κs = search needs

@@ -1,9 +1,9 @@
 use mathlib.Core.Path.{refl, sym}
 use native.Mathlib.Omega.{arith}
 use Rattle.row.specs.StreamLaws.{length-gap-here, length-gap-next, left-here, left-next}
 use borrow.Author.Needs.{needs}
-use Rattle.row.proofs.character.with_cost.Statement.{statement}
-use Rattle.row.proofs.character.with_cost.Tie as tie
+use Rattle.row_length.proofs.character.with_cost.Statement.{statement}
+use Rattle.row_length.proofs.character.with_cost.Tie as tie
 
 add-t7 : tie.Need-add-t7
 add-t7 c = search needs

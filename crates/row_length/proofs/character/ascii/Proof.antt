@@ -4,10 +4,10 @@ use native.Mathlib.Omega.{arith}
 use Rattle.word_spelling.specs.SpellingLaws.{cost-one}
 use Rattle.word_spelling.specs.FirstCharsLaws.{cost-in}
 use Rattle.word_spelling.specs.HighCharLaws.{one-byte, ascii-len}
-use Rattle.row.specs.LengthLaws.{measured, measured-four}
+use Rattle.row_length.specs.LengthLaws.{measured, measured-four}
 use borrow.Author.Needs.{needs}
-use Rattle.row.proofs.character.ascii.Statement.{statement}
-use Rattle.row.proofs.character.ascii.Tie as tie
+use Rattle.row_length.proofs.character.ascii.Statement.{statement}
+use Rattle.row_length.proofs.character.ascii.Tie as tie
 
 shared-slice-read-byte-cost : tie.Need-shared-slice-read-byte-cost
 shared-slice-read-byte-cost c = search needs

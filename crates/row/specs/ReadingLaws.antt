@@ -1,5 +1,6 @@
--- A row reads as some words exactly when it is laid out so. Assumes nothing.
-use mathlib.Core.Path.{_≡_, refl, sym, _∙_}
+-- The grammar of rows and the reading byte by byte say the same: a row is laid out as some words exactly if it reads as them, so in
+-- one way at most; it reads back as a text exactly if it is laid out as words that add it. Assumes nothing.
+use mathlib.Core.Path.{_≡_, refl, sym, ap, subst, _∙_}
 use mathlib.Core.Bool.{Bool, true, false, not, cond, _&&_}
 use mathlib.Core.List.{List, [], _∷_, _++_, append-assoc, append-nil}
 use mathlib.Core.Option.{Option, none, some}
@@ -11,12 +12,12 @@ use mir.Facts.{and-yes, no-eqb, eqb-no}
 use Rattle.lists.specs.ListsLaws.{cond-yes, cond-no}
 use Rattle.lists.specs.Byte.{within}
 use Rattle.lists.specs.ByteLaws.{within-low, within-high, to-within}
-use Rattle.encoded_word.specs.Reading.{Word, standing, wordBytes, State, role, anyCaseValue, stepBetween, stepOpens, stepInWord, stepDigit, stepSecond, step, reading, finish, wordsRead}
-use Rattle.row.specs.Row.{opening, closing}
-use Rattle.encoded_word.specs.Reading.State.{fault, between, afterCr, opens, inWord, afterEquals, afterDigit, closes}
-use Rattle.encoded_word.specs.Reading.Role.{itself}
-use Rattle.encoded_word.specs.Layout.{Adds, AllAdd, LaidAfter, Laid}
-use Rattle.encoded_word.specs.Layout.LaidAfter.{empty, space, crlf, word}
+use Rattle.word_spelling.specs.Spelling.{opening, closing}
+use Rattle.row.specs.Layout.{anyCaseValue, Adds, Word, wordBytes, LaidAfter, Laid, textOf}
+use Rattle.row.specs.Layout.LaidAfter.{empty, space, crlf, word}
+use Rattle.row.specs.Reading.{State, opened, extended, role, stepBetween, stepOpens, stepInWord, stepDigit, stepSecond, step, reading, finish, wordsRead, readsAs}
+use Rattle.row.specs.Reading.State.{fault, between, afterCr, opens, inWord, afterEquals, afterDigit, closes}
+use Rattle.row.specs.Reading.Role.{itself}
 
 -- ---- from the layout to the reading
 
@@ -33,28 +34,27 @@ role-itself b low high q e u =
     ∙ cond-no (eqb b 63) _ _ (no-eqb {a = b} {b = 63} q)
     ∙ cond-yes (within 33 126 b) _ _ (to-within 33 126 b low high)
 
-read-addition : (ws : List Word) (w : Word) {s : List ℕ} {x : ℕ} → Adds s x → reading (inWord ws w) s ≡ inWord ws (w ++ ((s, x) ∷ []))
+extended-twice : (w : Word) (s t a b : List ℕ) → extended (extended w s t) a b ≡ extended w (s ++ a) (t ++ b)
+extended-twice w s t a b = simp append-assoc
+
+read-adds : (ws : List Word) (w : Word) {s t : List ℕ} → Adds s t → reading (inWord ws w) s ≡ inWord ws (extended w s t)
 unfolding reading step role
-read-addition ws w Adds.underscore = refl
-read-addition ws w (Adds.hex p q) = rw (p, q) refl
-read-addition ws w (Adds.itself {b} low high q e u) = rw (role-itself b low high q e u) refl
+read-adds ws w Adds.nothing = simp append-nil
+read-adds ws w (Adds.underscore {standing} {added} a) =
+    read-adds ws (extended w (95 ∷ []) (32 ∷ [])) a ∙ ap (inWord ws) (extended-twice w (95 ∷ []) (32 ∷ []) standing added)
+read-adds ws w (Adds.hex {first} {second} {high} {low} {standing} {added} p q a) =
+    rw (p, q) (
+    read-adds ws (extended w (61 ∷ first ∷ second ∷ []) ((high * 16 + low) ∷ [])) a
+    ∙ ap (inWord ws) (extended-twice w (61 ∷ first ∷ second ∷ []) ((high * 16 + low) ∷ []) standing added))
+read-adds ws w (Adds.itself {b} {standing} {added} low high q e u a) =
+    rw (role-itself b low high q e u) (
+    read-adds ws (extended w (b ∷ []) (b ∷ [])) a ∙ ap (inWord ws) (extended-twice w (b ∷ []) (b ∷ []) standing added))
 
-read-standing : (ws : List Word) (w v : Word) → AllAdd v → reading (inWord ws w) (standing v) ≡ inWord ws (w ++ v)
-unfolding reading
-read-standing ws w [] h = rw append-nil
-read-standing ws w (a ∷ v) h =
-    rw (
-      reading-append (inWord ws w) (a .0) (standing v),
-      read-addition ws w (h .0),
-      read-standing ws (w ++ (a ∷ [])) v (h .1),
-      append-assoc,
-    ) refl
-
-read-word : (ws : List Word) (w : Word) (row : List ℕ) → AllAdd w
+read-word : (ws : List Word) (w : Word) (row : List ℕ) → Adds (w .standing) (w .added)
     → reading (between false ws) (wordBytes w ++ row) ≡ reading (between true (ws ++ (w ∷ []))) row
 unfolding reading step role
 read-word ws w row h =
-    rw (append-assoc (standing w) closing row, reading-append (inWord ws []) (standing w) (closing ++ row), read-standing ws [] w h) refl
+    rw (append-assoc (w .standing) closing row, reading-append (inWord ws opened) (w .standing) (closing ++ row), read-adds ws opened h) refl
 
 laid-finish : {straight : Bool} {row : List ℕ} {ws : List Word} (vs : List Word) → LaidAfter straight row ws
     → finish (reading (between straight vs) row) ≡ some (vs ++ ws)
@@ -83,18 +83,18 @@ record Left (straight : Bool) (vs : List Word) (row : List ℕ) (ws : List Word)
   laid : LaidAfter straight row more
   are : ws ≡ vs ++ more
 
--- what is left in a word that has added `w`, from its next addition or its closing on
+-- what is left in a word that is `w` so far, from its next byte added or its closing on
 record LeftIn (vs : List Word) (w : Word) (row : List ℕ) (ws : List Word) : Type 0 where
   more : Word
-  add : AllAdd more
+  adds : Adds (more .standing) (more .added)
   rest : List ℕ
-  left : Left true (vs ++ ((w ++ more) ∷ [])) rest ws
-  is : row ≡ standing more ++ (closing ++ rest)
+  left : Left true (vs ++ (extended w (more .standing) (more .added) ∷ [])) rest ws
+  is : row ≡ more .standing ++ (closing ++ rest)
 
 -- what is left in an opening with the bytes `more` of it to come
 record LeftOpening (vs : List Word) (more row : List ℕ) (ws : List Word) : Type 0 where
   rest : List ℕ
-  left : LeftIn vs [] rest ws
+  left : LeftIn vs opened rest ws
   is : row ≡ more ++ rest
 
 -- what is left of a row that reads as `ws`, by the state
@@ -109,22 +109,24 @@ Rest (afterDigit vs w first high) row ws = anyCaseValue first ≡ some high → 
 Rest (closes vs w) row ws = LeftIn vs w (63 ∷ row) ws
 
 module _ (row : List ℕ) (ws : List Word) where
-  -- an addition before what is left
-  back-adds : (vs : List Word) (w : Word) (s : List ℕ) (x : ℕ) → Adds s x → LeftIn vs (w ++ ((s, x) ∷ [])) row ws → LeftIn vs w (s ++ row) ws
-  back-adds vs w s x a l = record {
-    more = (s, x) ∷ l .more;
-    add = (a, l .add);
-    rest = l .rest;
-    left = rw append-assoc at (l .left);
-    is = rw (l .is) (sym (append-assoc s (standing (l .more)) (closing ++ l .rest)));
-  }
+  -- a byte added before what is left
+  back-adds : (vs : List Word) (w : Word) (s : List ℕ) (x : ℕ) → ((a b : List ℕ) → Adds a b → Adds (s ++ a) (x ∷ b))
+      → LeftIn vs (extended w s (x ∷ [])) row ws → LeftIn vs w (s ++ row) ws
+  back-adds vs w s x f l =
+      let more = l .more in record {
+        more = record { standing = s ++ more .standing; added = x ∷ more .added };
+        adds = f (more .standing) (more .added) (l .adds);
+        rest = l .rest;
+        left = subst (λ (v : Word). Left true (vs ++ (v ∷ [])) (l .rest) ws) (extended-twice w s (x ∷ []) (more .standing) (more .added)) (l .left);
+        is = rw (l .is) (sym (append-assoc s (more .standing) (closing ++ l .rest)));
+      }
 
   back-opening : (straight : Bool) (vs : List Word) → T (not straight) → LeftOpening vs (drop 1 opening) row ws → Left straight vs (61 ∷ row) ws
   back-opening true vs t o = absurd t
   back-opening false vs t o =
       let l = o .left in record {
         more = l .more ∷ l .left .more;
-        laid = rw (o .is, l .is, ← (append-assoc (standing (l .more)) closing (l .rest))) (word (l .add) (l .left .laid));
+        laid = rw (o .is, l .is, ← (append-assoc (l .more .standing) closing (l .rest))) (word {w = l .more} (l .adds) (l .left .laid));
         are = l .left .are ∙ append-assoc vs (l .more ∷ []) (l .left .more);
       }
 
@@ -148,12 +150,12 @@ module _ (row : List ℕ) (ws : List Word) where
   unfolding role
   back-in-word vs w b r =
       by-cond (λ k. Rest (stepInWord k vs w b) row ws) (eqb b 95) _ _ r
-      (λ t l. back-adds vs w (b ∷ []) 32 (rw (eqb→eq b 95 t) Adds.underscore) l)
+      (λ u l. back-adds vs w (b ∷ []) 32 (λ s t a. rw (eqb→eq b 95 u) (Adds.underscore a)) l)
       (λ t r. by-cond (λ k. Rest (stepInWord k vs w b) row ws) (eqb b 61) _ _ r (λ u l. rw (eqb→eq b 61 u) l)
       (λ u r. by-cond (λ k. Rest (stepInWord k vs w b) row ws) (eqb b 63) _ _ r (λ v l. rw (eqb→eq b 63 v) l)
       (λ v r. by-cond (λ k. Rest (stepInWord k vs w b) row ws) (within 33 126 b) _ _ r
       (λ z l. back-adds vs w (b ∷ []) b
-      (Adds.itself (within-low 33 126 b z) (within-high 33 126 b z) (eqb-no {a = b} {b = 63} v) (eqb-no {a = b} {b = 61} u) (eqb-no {a = b} {b = 95} t)) l)
+      (λ x y a. Adds.itself (within-low 33 126 b z) (within-high 33 126 b z) (eqb-no {a = b} {b = 63} v) (eqb-no {a = b} {b = 61} u) (eqb-no {a = b} {b = 95} t) a) l)
       (λ z n. absurd n))))
 
   back-first : (o : Option ℕ) (vs : List Word) (w : Word) (b : ℕ) → anyCaseValue b ≡ o → Rest (stepDigit o vs w b) row ws
@@ -165,7 +167,7 @@ module _ (row : List ℕ) (ws : List Word) where
       → Rest (stepSecond o vs w first high b) row ws → LeftIn vs w (61 ∷ first ∷ b ∷ row) ws
   back-second none vs w first high b e f r = absurd r
   back-second (some low) vs w first high b e f r =
-      back-adds vs w (61 ∷ first ∷ b ∷ []) (high * 16 + low) (Adds.hex f e) r
+      back-adds vs w (61 ∷ first ∷ b ∷ []) (high * 16 + low) (λ s t a. Adds.hex f e a) r
 
   -- from what is left after a byte to what is left before it
   back-step : (s : State) (b : ℕ) → Rest (step s b) row ws → Rest s (b ∷ row) ws
@@ -181,7 +183,16 @@ module _ (row : List ℕ) (ws : List Word) where
   back-step (afterDigit vs w first high) b r = λ f. back-second (anyCaseValue b) vs w first high b refl f r
   back-step (closes vs w) b r =
       by-cond (λ s. Rest s row ws) (eqb b 61) _ _ r
-      (λ t l. rw (eqb→eq b 61 t) (record { more = []; add = tt; rest = row; left = rw append-nil l; is = refl })) (λ t n. absurd n)
+      (λ t l. rw (eqb→eq b 61 t) (record {
+        more = opened;
+        adds = Adds.nothing;
+        rest = row;
+        left = subst (λ (v : Word). Left true (vs ++ (v ∷ [])) row ws) (whole w) l;
+        is = refl;
+      })) (λ t n. absurd n)
+    where
+      whole : (w : Word) → w ≡ extended w [] []
+      whole w = simp append-nil
 
 none≢some : {A : Type 0} {a : A} → none ≡ some a → ⊥
 none≢some e = let z : _≡_ {A = ℕ} 0 1 = cc in omega arith
@@ -205,3 +216,39 @@ back s (b ∷ row) ws e = back-step row ws s b (back (step s b) row ws e)
 pub laid-out : (row : List ℕ) (ws : List Word) → wordsRead row ≡ some ws → Laid row ws
 unfolding wordsRead
 laid-out row ws e = let l = back (between false []) row ws e in rw (l .are) (l .laid)
+
+-- ---- a row has one layout, and one text
+
+-- "A row is read from its bytes alone": in one way
+pub laid-once : {row : List ℕ} {vs ws : List Word} → Laid row vs → Laid row ws → vs ≡ ws
+laid-once a b = let p = laid-reads a in let q = laid-reads b in cc
+
+-- what a row laid out so reads back as
+pub laid-text : {row : List ℕ} {ws : List Word} → Laid row ws → readsAs row ≡ some (textOf ws)
+unfolding readsAs
+laid-text l = rw (laid-reads l)
+
+-- a row with a fault is not laid out
+pub fault-not-laid : {row : List ℕ} {ws : List Word} → readsAs row ≡ none → Laid row ws → ⊥
+fault-not-laid e l = none≢some (sym e ∙ laid-text l)
+
+fault-text : (row : List ℕ) → wordsRead row ≡ none → readsAs row ≡ none
+unfolding readsAs
+fault-text row e = rw e
+
+-- words that a row is laid out as, and that add the text
+pub record LaidText (row text : List ℕ) : Type 0 where
+  pub words : List Word
+  pub laid : Laid row words
+  pub adds : textOf words ≡ text
+
+by-words : (row text : List ℕ) (o : Option (List Word)) → wordsRead row ≡ o → readsAs row ≡ some text → LaidText row text
+by-words row text none p r = absurd (none≢some (sym (fault-text row p) ∙ r))
+by-words row text (some ws) p r =
+    let l = laid-out row ws p in
+    let q = laid-text l in
+    record { words = ws; laid = l; adds = cc }
+
+-- a row that reads back as a text is laid out as words that add it
+pub text-laid : (row text : List ℕ) → readsAs row ≡ some text → LaidText row text
+text-laid row text e = by-words row text (wordsRead row) refl e

@@ -1,15 +1,15 @@
 use borrow.Author.Needs.{needs}
-use Rattle.row.specs.LengthLaws.{measured-on}
+use Rattle.row_length.specs.LengthLaws.{measured-on}
 use Rattle.row.specs.RowLaws.{row-none, row-long, length-row, bounded-short}
 use Rattle.row.specs.StreamLaws.{onwards-end}
 use Rattle.row.specs.Stream.{onwardsAt}
 use Rattle.row.specs.Row.{row}
 use native.Mathlib.Omega.{arith}
 use Prim.Native.Nat.{_+_, _-_, _*_, _≤_}
 use lib.ListN.{length}
 use mathlib.Core.Path.{_≡_, sym, ap}
-use Rattle.row.proofs.len.Statement.{statement}
-use Rattle.row.proofs.len.Tie as tie
+use Rattle.row_length.proofs.len.Statement.{statement}
+use Rattle.row_length.proofs.len.Tie as tie
 
 abbrev Inv-loop : tie.InvT-loop
 Inv-loop text first i₀ left₀ n₀ i left n = (i ≤ length text) × (left ≤ 63) × (n ≤ 13 + 18 * i) × (n + length (onwardsAt text i left) ≡ length (row text))

@@ -10,9 +10,10 @@ use Rattle.utf8.specs.Utf8.{leadingOnes, charLen, chars}
 use Rattle.lists.specs.CutBy.{cutAfter, cutBy}
 use Rattle.cut.specs.Cut.{cut}
 use Rattle.hex.specs.Hex.{hexDigit}
-use Rattle.word_spelling.specs.Spelling.{bare, spellByte, spell}
-use Rattle.row.specs.Row.{opening, closing, runs, word, lines, rowIn, row}
-use Rattle.encoded_word.specs.Reading.{role, anyCaseValue, step, reading, wordsRead, readsAs}
+use Rattle.word_spelling.specs.Spelling.{opening, closing, bare, spellByte, spell}
+use Rattle.row.specs.Row.{runs, word, lines, rowIn, row}
+use Rattle.row.specs.Layout.{anyCaseValue}
+use Rattle.row.specs.Reading.{role, step, reading, wordsRead, readsAs}
 
 -- a row, and the text that it reads back as, or none
 pub record Case : Type 0 where

@@ -1,25 +1,17 @@
--- "Reading a row back": "A row is read from its bytes alone, front to back. The reading starts between words, with nothing
--- added." Layout.antt says the same as a grammar, and LayoutLaws.antt proves that both say the same. Assumes nothing.
+-- A row read byte by byte, "from its bytes alone, front to back": what ReadingLaws.antt proves the grammar of Layout.antt equal to. No
+-- demand cites this file. Assumes nothing.
 use mathlib.Core.Bool.{Bool, true, false, not, cond, _&&_}
-use mathlib.Core.List.{List, [], _∷_, _++_, map}
+use mathlib.Core.List.{List, [], _∷_, _++_}
 use mathlib.Core.Option.{Option, none, some, Option·map}
-use Prim.Native.Nat.{ℕ, _+_, _-_, _*_}
+use Prim.Native.Nat.{ℕ, _+_, _*_}
 use lib.Dec.{eqb}
 use lib.ListN.{drop}
 use Rattle.lists.specs.Byte.{within}
-use Rattle.lists.specs.Lists.{joined}
-use Rattle.row.specs.Row.{opening, closing}
+use Rattle.word_spelling.specs.Spelling.{opening}
+use Rattle.row.specs.Layout.{anyCaseValue, Word, textOf}
 
--- the bytes that stand in a word for one byte that it adds, and that byte
-abbrev pub Addition : Type 0
-Addition = List ℕ × ℕ
-
--- what a word adds, in order
-abbrev pub Word : Type 0
-Word = List Addition
-
--- The state of the reading, with the words closed so far and, in a word, what it has added so far. A row without a fault
--- closes every word that it opens, so the words closed at its end are those that it opens.
+-- The state of the reading, with the words closed so far and, in a word, that word so far. A row without a fault closes every word
+-- that it opens, so the words closed at its end are those that it opens.
 pub data State : Type 0 where
   fault : State
   -- between words; true straight after the `?=` of a word
@@ -35,6 +27,14 @@ pub data State : Type 0 where
   -- in a word after `?`
   closes : List Word → Word → State
 
+-- a word with nothing in it so far
+abbrev pub opened : Word
+opened = record { standing = []; added = [] }
+
+-- a word with more standing in it, which adds more
+abbrev pub extended : Word → List ℕ → List ℕ → Word
+extended w standing added = record { standing = w .standing ++ standing; added = w .added ++ added }
+
 -- what a byte is in a word
 pub data Role : Type 0 where
   underscore equals question itself other : Role
@@ -42,10 +42,6 @@ pub data Role : Type 0 where
 -- 95 is `_`, 61 is `=`, 63 is `?`
 unfoldable pub role : ℕ → Role
 role b = cond (eqb b 95) underscore (cond (eqb b 61) equals (cond (eqb b 63) question (cond (within 33 126 b) itself other)))
-
--- the value of a hex digit in any case: 0 to 9, A to F, a to f
-unfoldable pub anyCaseValue : ℕ → Option ℕ
-anyCaseValue b = cond (within 48 57 b) (some (b - 48)) (cond (within 65 70 b) (some (b - 55)) (cond (within 97 102 b) (some (b - 87)) none))
 
 -- "Between words: CRLF and spaces add nothing. `=?UTF-8?Q?` opens a word; straight after the `?=` of another it is a fault."
 -- 32 is the space, 13 is CR, 61 is `=`.
@@ -58,16 +54,16 @@ stepBetween straight ws b =
 -- The next byte of `=?UTF-8?Q?`, and nothing else. `stepOpens []` is never reached: after the last byte the word is open.
 abbrev pub stepOpens : List ℕ → List Word → ℕ → State
 stepOpens [] ws b = fault
-stepOpens (x ∷ []) ws b = cond (eqb b x) (inWord ws []) fault
+stepOpens (x ∷ []) ws b = cond (eqb b x) (inWord ws opened) fault
 stepOpens (x ∷ y ∷ more) ws b = cond (eqb b x) (opens (y ∷ more) ws) fault
 
 -- "In a word: `_` adds byte 32. `=` with two hex digits in any case adds that byte. `?=` closes the word. Any other byte 33 to
 -- 126 except `?` and `=` adds itself."
 abbrev pub stepInWord : Role → List Word → Word → ℕ → State
-stepInWord underscore ws w b = inWord ws (w ++ ((b ∷ [], 32) ∷ []))
+stepInWord underscore ws w b = inWord ws (extended w (b ∷ []) (32 ∷ []))
 stepInWord equals ws w b = afterEquals ws w
 stepInWord question ws w b = closes ws w
-stepInWord itself ws w b = inWord ws (w ++ ((b ∷ [], b) ∷ []))
+stepInWord itself ws w b = inWord ws (extended w (b ∷ []) (b ∷ []))
 stepInWord other ws w b = fault
 
 -- after `=`: the first hex digit, with its value
@@ -78,7 +74,7 @@ stepDigit (some high) ws w b = afterDigit ws w b high
 -- after `=` (61) and a hex digit: the second, and the byte is added
 abbrev pub stepSecond : Option ℕ → List Word → Word → ℕ → ℕ → ℕ → State
 stepSecond none ws w first high b = fault
-stepSecond (some low) ws w first high b = inWord ws (w ++ ((61 ∷ first ∷ b ∷ [], high * 16 + low) ∷ []))
+stepSecond (some low) ws w first high b = inWord ws (extended w (61 ∷ first ∷ b ∷ []) ((high * 16 + low) ∷ []))
 
 -- One byte read. "Anything else is a fault": also a byte other than LF (10) after CR, and other than `=` (61) after the `?` of
 -- a word.
@@ -111,24 +107,6 @@ finish (closes ws w) = none
 -- the words of a row of bytes, or none where it has a fault
 unfoldable pub wordsRead : List ℕ → Option (List Word)
 wordsRead row = finish (reading (between false []) row)
-
--- the bytes that a word adds
-abbrev pub added : Word → List ℕ
-added [] = []
-added (a ∷ w) = a .1 ∷ added w
-
--- the bytes that stand in a word for those that it adds
-abbrev pub standing : Word → List ℕ
-standing [] = []
-standing (a ∷ w) = a .0 ++ standing w
-
--- a word's bytes in the row
-abbrev pub wordBytes : Word → List ℕ
-wordBytes w = opening ++ (standing w ++ closing)
-
--- what a row's words add, in order
-abbrev pub textOf : List Word → List ℕ
-textOf ws = joined (map added ws)
 
 -- "A row with a fault reads back as no text; any other reads back as the bytes added, in order."
 unfoldable pub readsAs : List ℕ → Option (List ℕ)

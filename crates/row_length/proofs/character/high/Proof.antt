@@ -1,8 +1,8 @@
 use lib.Dec.{lit≤}
-use Rattle.row.specs.LengthLaws.{measured-high}
+use Rattle.row_length.specs.LengthLaws.{measured-high}
 use borrow.Author.Needs.{needs}
-use Rattle.row.proofs.character.high.Statement.{statement}
-use Rattle.row.proofs.character.high.Tie as tie
+use Rattle.row_length.proofs.character.high.Statement.{statement}
+use Rattle.row_length.proofs.character.high.Tie as tie
 
 high-size-requires : tie.Need-high-size-requires
 high-size-requires c κs = search needs

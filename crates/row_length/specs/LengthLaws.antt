@@ -8,13 +8,14 @@ use lib.ListN.{length, take, drop, getD, length-append}
 use lib.Dec.{ltb}
 use borrow.Author.Tests.{ltb-true}
 use Rattle.utf8.specs.Utf8.{charLen}
-use Rattle.word_spelling.specs.Spelling.{spell, byteCost, cost}
+use Rattle.word_spelling.specs.Spelling.{spell}
+use Rattle.word_spelling.specs.Cost.{byteCost, cost}
 use Rattle.word_spelling.specs.HighChar.{HighChar}
 use Rattle.word_spelling.specs.HighCharLaws.{both, whole-end, whole-take, whole-cost}
 use Rattle.word_spelling.specs.FirstChars.{firstChars, costIn}
 use Rattle.word_spelling.specs.FirstCharsLaws.{cost-in}
 use Rattle.row.specs.Stream.{gap, leftAfter, onwardsAt, MeasuredTurn}
 use Rattle.row.specs.StreamLaws.{turn, turned-four}
 
 module _ (s : List ℕ) (i left n : ℕ) (h : i < length s) (hl : left ≤ 63) where
   -- a character `c` that takes m characters

@@ -1,7 +1,6 @@
 -- Demand 3 holds of every text of UTF-8 and its row. Proved once over the room of a word. Assumes nothing.
 use mathlib.Core.Path.{_≡_, refl, sym, ap, _∙_}
 use mathlib.Core.List.{List, [], _∷_, _++_, append-nil, map, nil≢cons, List·Memᴰ, List·Memᴰ·head, List·Memᴰ·tail}
-use mathlib.Core.Option.{some}
 use Prim.Native.Nat.{ℕ, suc, _+_, _≤_, _<_}
 use native.Mathlib.Omega.{arith}
 use lib.ListN.{length, length-append, length-map}
@@ -12,23 +11,17 @@ use Rattle.lists.specs.ListsLaws.{all-append, all-joined, all-mem, joined-appen
 use Rattle.lists.specs.Byte.{isByte}
 use Rattle.utf8.specs.Utf8.{isChar, chars, utf8}
 use Rattle.utf8.specs.Utf8Laws.{chars-joined, chars-of, utf8-of, utf8-bytes, char-length}
-use Rattle.cut.specs.Cut.{AllFit}
-use Rattle.cut.specs.CutLaws.{cut-joined, cut-fits, cut-some, fewest}
-use Rattle.word_spelling.specs.Spelling.{spellByte, spell}
+use Rattle.cut.specs.CutLaws.{AllFit, cut-joined, cut-fits, cut-some, fewest}
+use Rattle.word_spelling.specs.Spelling.{opening, closing, spellByte, spell}
 use Rattle.word_spelling.specs.SpellingLaws.{spell-byte-some, length-spell, length-spell-append, length-spell-joined}
-use Rattle.encoded_word.specs.Reading.{Word, added, standing, wordBytes, wordsRead, textOf}
-use Rattle.row.specs.Row.{opening, closing, fitsRoom, runs, word, rowIn, row}
-use Rattle.encoded_word.specs.ReadingLaws.{ours, ours-standing, words-of-lines, reads-as, words-text}
-use Rattle.encoded_word.specs.Demand3.{InSpelling, AllProper, Demand3In, Demand3}
+use Rattle.row.specs.Row.{fitsRoom, runs, word, rowIn, row}
+use Rattle.row.specs.Layout.{Word, wordBytes, Laid, textOf}
+use Rattle.row.specs.LayoutLaws.{ours, lines-laid}
+use Rattle.row.specs.Demand3.{AllProper, RowOf, Demand3In, Demand3}
 
 -- a word is its opening and closing, 12 characters, and what stands between
-length-word : (w : Word) → length (wordBytes w) ≡ length (standing w) + 12
-length-word w = rw (length-append opening (standing w ++ closing), length-append (standing w) closing) (omega arith)
-
-spelt-standing : (w : Word) → InSpelling w → standing w ≡ spell (added w)
-unfolding spell
-spelt-standing [] h = refl
-spelt-standing (a ∷ w) h = rw (h .0, spelt-standing w (h .1)) refl
+length-word : (w : Word) → length (wordBytes w) ≡ length (w .standing) + 12
+length-word w = rw (length-append opening (w .standing ++ closing), length-append (w .standing) closing) (omega arith)
 
 -- ---- the runs of characters that our words hold
 
@@ -71,25 +64,25 @@ runs-fewest room (c ∷ cs) (h ∷ hs) f e = fewest (fitsRoom room) (fits-part r
 -- the characters of each word
 abbrev runsOf : List Word → List (List (List ℕ))
 runsOf [] = []
-runsOf (w ∷ ws) = chars (added w) ∷ runsOf ws
+runsOf (w ∷ ws) = chars (w .added) ∷ runsOf ws
 
 module _ (room : ℕ) where
   runs-of-fit : (k : ℕ) (ws : List Word) → AllProper (room + 12) ws → AllFit (fitsRoom room) k (runsOf ws)
   runs-of-fit k [] h = tt
   runs-of-fit k (w ∷ ws) h = (
-    le→leb (length (spell (joined (chars (added w))))) room
-        (rw (chars-joined (added w), ← (spelt-standing w (h .0 .spelt))) (omega (arith, length-word w, h .0 .short))),
+    le→leb (length (spell (joined (chars (w .added))))) room
+        (rw (chars-joined (w .added), ← (h .0 .spelt)) (omega (arith, length-word w, h .0 .short))),
     runs-of-fit (suc k) ws (h .1),
   )
 
   runs-of-chars : (ws : List Word) → AllProper (room + 12) ws → T (all isChar (joined (runsOf ws)))
   unfolding utf8
   runs-of-chars [] h = tt
-  runs-of-chars (w ∷ ws) h = all-append isChar (chars (added w)) (joined (runsOf ws)) (h .0 .whole) (runs-of-chars ws (h .1))
+  runs-of-chars (w ∷ ws) h = all-append isChar (chars (w .added)) (joined (runsOf ws)) (h .0 .whole) (runs-of-chars ws (h .1))
 
 runs-of-text : (ws : List Word) → joined (joined (runsOf ws)) ≡ textOf ws
 runs-of-text [] = refl
-runs-of-text (w ∷ ws) = rw (joined-append (chars (added w)) (joined (runsOf ws)), chars-joined (added w), runs-of-text ws) refl
+runs-of-text (w ∷ ws) = rw (joined-append (chars (w .added)) (joined (runsOf ws)), chars-joined (w .added), runs-of-text ws) refl
 
 length-runs-of : (ws : List Word) → length (runsOf ws) ≡ length ws
 length-runs-of [] = refl
@@ -102,17 +95,9 @@ words-fewest room ws h =
 
 -- ---- our words
 
-ours-added : (bytes : List ℕ) → added (ours bytes) ≡ bytes
-ours-added [] = refl
-ours-added (b ∷ bytes) = ap (λ (x : List ℕ). b ∷ x) (ours-added bytes)
-
-ours-spelt : (bytes : List ℕ) → InSpelling (ours bytes)
-ours-spelt [] = tt
-ours-spelt (b ∷ bytes) = (refl, ours-spelt bytes)
-
 ours-text : (ls : List (List ℕ)) → textOf (map ours ls) ≡ joined ls
 ours-text [] = refl
-ours-text (l ∷ ls) = rw (ours-added l, ours-text ls) refl
+ours-text (l ∷ ls) = rw (ours-text ls) refl
 
 ours-proper : (room k : ℕ) (rs : List (List (List ℕ))) → AllFit (fitsRoom room) k rs → T (all (all isChar) rs)
     → AllProper (room + 12) (map ours (map joined rs))
@@ -120,9 +105,9 @@ ours-proper room k [] f h = tt
 ours-proper room k (r ∷ rs) f h =
     let both = and-yes (all isChar r) (all (all isChar) rs) h in (
       record {
-        spelt = ours-spelt (joined r);
-        short = omega (arith, length-word (ours (joined r)), ap length (ours-standing (joined r)), leb→le (length (spell (joined r))) room (f .0));
-        whole = rw (ours-added (joined r)) (utf8-of r (both .0));
+        spelt = refl;
+        short = omega (arith, length-word (ours (joined r)), leb→le (length (spell (joined r))) room (f .0));
+        whole = utf8-of r (both .0);
       },
       ours-proper room (suc k) rs (f .1) (both .1),
     )
@@ -131,26 +116,18 @@ ours-proper room k (r ∷ rs) f h =
 pub rowWords : ℕ → List ℕ → List Word
 rowWords room text = map ours (map joined (runs room (chars text)))
 
-pub row-reads : (room : ℕ) (text : List ℕ) → T (utf8 text) → wordsRead (rowIn room text) ≡ some (rowWords room text)
-unfolding rowIn rowWords
-row-reads room text h =
-    words-of-lines (map joined (runs room (chars text)))
-    (all-joined isByte (map joined (runs room (chars text)))
-    (rw (joined-map (runs room (chars text)), runs-joined room (chars text), chars-joined text) (utf8-bytes text h)))
+-- the row of a text, in any room that holds every character: a room of 12 does, 4 bytes of 3 characters each
+pub row-of : (room : ℕ) (text : List ℕ) → 12 ≤ room → T (utf8 text) → RowOf (room + 12) text (rowIn room text) (rowWords room text)
+unfolding rowIn rowWords utf8
+row-of room text h u =
+    let rs = runs room (chars text) in record {
+      laid = lines-laid (map joined rs)
+          (all-joined isByte (map joined rs) (rw (joined-map rs, runs-joined room (chars text), chars-joined text) (utf8-bytes text u)));
+      reads = ours-text (map joined rs) ∙ joined-map rs ∙ ap joined (runs-joined room (chars text)) ∙ chars-joined text;
+      proper = ours-proper room 0 rs (runs-fit room h (chars text) u) (all-joined isChar rs (rw (runs-joined room (chars text)) u));
+    }
 
-pub row-text : (room : ℕ) (text : List ℕ) → textOf (rowWords room text) ≡ text
-unfolding rowWords
-row-text room text =
-    ours-text (map joined (runs room (chars text)))
-    ∙ joined-map (runs room (chars text)) ∙ ap joined (runs-joined room (chars text)) ∙ chars-joined text
-
-pub row-proper : (room : ℕ) (text : List ℕ) → 12 ≤ room → T (utf8 text) → AllProper (room + 12) (rowWords room text)
-unfolding rowWords utf8
-row-proper room text h u =
-    ours-proper room 0 (runs room (chars text)) (runs-fit room h (chars text) u)
-    (all-joined isChar (runs room (chars text)) (rw (runs-joined room (chars text)) u))
-
-pub row-fewest : (room : ℕ) (text : List ℕ) (ws : List Word) → textOf ws ≡ text → AllProper (room + 12) ws
+row-fewest : (room : ℕ) (text : List ℕ) (ws : List Word) → textOf ws ≡ text → AllProper (room + 12) ws
     → length (rowWords room text) ≤ length ws
 unfolding rowWords
 row-fewest room text ws e h =
@@ -160,16 +137,14 @@ row-fewest room text ws e h =
 -- the closing of a word.
 pub demand-3-in : (room : ℕ) (text : List ℕ) → 12 ≤ room → T (utf8 text) → Demand3In (room + 12) text (rowIn room text)
 demand-3-in room text h u = record {
-  reads = reads-as (rowIn room text) (rowWords room text) (row-reads room text u) ∙ ap some (row-text room text);
   words = rowWords room text;
-  has = row-reads room text u;
-  proper = row-proper room text h u;
-  fewest = λ other ws r e p. row-fewest room text ws (words-text other ws text e r) p;
+  ours = row-of room text h u;
+  fewest = λ other ws r. row-fewest room text ws (r .reads) (r .proper);
 }
 
 -- Demand 3.
 pub demand-3 : (text : List ℕ) → T (utf8 text) → Demand3 text (row text)
-demand-3 text u = demand-3-in 63 text (lit≤ tt) u
+demand-3 text u = demand-3-in _ text (lit≤ tt) u
 
 -- ---- the length of a word, and of its line
 
