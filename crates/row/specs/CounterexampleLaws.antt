@@ -19,7 +19,7 @@ use Rattle.cut.specs.Cut.{cut}
 use Rattle.hex.specs.Hex.{hexDigit}
 use Rattle.word_spelling.specs.Spelling.{bare, spellByte, spell}
 use Rattle.row.specs.Row.{runs, word, lines, rowIn, row}
-use Rattle.row.specs.Layout.{anyCaseValue, Adds, Word, wordBytes, LaidAfter, Laid, textOf}
+use Rattle.row.specs.Layout.{anyCaseValue, Adds, Word, wordBytes, LaidAfter, Laid, addedText}
 use Rattle.row.specs.Layout.LaidAfter.{empty, space, crlf}
 use Rattle.row.specs.LayoutLaws.{ours, lines-laid}
 use Rattle.row.specs.Reading.{readsAs}
@@ -33,7 +33,7 @@ module _ {text row : List ℕ} {ws : List Word} (l : Laid row ws) (d : Demand3 t
   words-are : d .words ≡ ws
   words-are = laid-once (d .ours .laid) l
 
-  its-text : textOf ws ≡ text
+  its-text : addedText ws ≡ text
   its-text = rw words-are at (d .ours .reads)
 
   all-proper : AllProper 75 ws

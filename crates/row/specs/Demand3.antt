@@ -8,7 +8,7 @@ use lib.Dec.{T}
 use lib.ListN.{length}
 use Rattle.utf8.specs.Utf8.{utf8}
 use Rattle.word_spelling.specs.Spelling.{spell}
-use Rattle.row.specs.Layout.{Word, wordBytes, Laid, textOf}
+use Rattle.row.specs.Layout.{Word, wordBytes, Laid, addedText}
 
 -- one word of at most so many characters
 pub record Proper (limit : ℕ) (w : Word) : Type 0 where
@@ -27,7 +27,7 @@ AllProper limit (w ∷ ws) = Proper limit w × AllProper limit ws
 -- a row of these words, which reads back as the text, and whose words are proper
 pub record RowOf (limit : ℕ) (text row : List ℕ) (words : List Word) : Type 0 where
   pub laid : Laid row words
-  pub reads : textOf words ≡ text
+  pub reads : addedText words ≡ text
   pub proper : AllProper limit words
 
 -- Demand 3, with at most `limit` characters in a word: "Demand 3 sets our row against all rows of such words, however made, and

@@ -15,7 +15,7 @@ use Rattle.cut.specs.CutLaws.{AllFit, cut-joined, cut-fits, cut-some, fewest}
 use Rattle.word_spelling.specs.Spelling.{opening, closing, spellByte, spell}
 use Rattle.word_spelling.specs.SpellingLaws.{spell-byte-some, length-spell, length-spell-append, length-spell-joined}
 use Rattle.row.specs.Row.{fitsRoom, runs, word, rowIn, row}
-use Rattle.row.specs.Layout.{Word, wordBytes, Laid, textOf}
+use Rattle.row.specs.Layout.{Word, wordBytes, Laid, addedText}
 use Rattle.row.specs.LayoutLaws.{ours, lines-laid}
 use Rattle.row.specs.Demand3.{AllProper, RowOf, Demand3In, Demand3}
 
@@ -80,7 +80,7 @@ module _ (room : ℕ) where
   runs-of-chars [] h = tt
   runs-of-chars (w ∷ ws) h = all-append isChar (chars (w .added)) (joined (runsOf ws)) (h .0 .whole) (runs-of-chars ws (h .1))
 
-runs-of-text : (ws : List Word) → joined (joined (runsOf ws)) ≡ textOf ws
+runs-of-text : (ws : List Word) → joined (joined (runsOf ws)) ≡ addedText ws
 runs-of-text [] = refl
 runs-of-text (w ∷ ws) = rw (joined-append (chars (w .added)) (joined (runsOf ws)), chars-joined (w .added), runs-of-text ws) refl
 
@@ -88,14 +88,14 @@ length-runs-of : (ws : List Word) → length (runsOf ws) ≡ length ws
 length-runs-of [] = refl
 length-runs-of (w ∷ ws) = ap suc (length-runs-of ws)
 
-words-fewest : (room : ℕ) (ws : List Word) → AllProper (room + 12) ws → length (runs room (chars (textOf ws))) ≤ length ws
+words-fewest : (room : ℕ) (ws : List Word) → AllProper (room + 12) ws → length (runs room (chars (addedText ws))) ≤ length ws
 words-fewest room ws h =
-    let same : chars (textOf ws) ≡ joined (runsOf ws) = ap chars (sym (runs-of-text ws)) ∙ chars-of (joined (runsOf ws)) (runs-of-chars room ws h) in
+    let same : chars (addedText ws) ≡ joined (runsOf ws) = ap chars (sym (runs-of-text ws)) ∙ chars-of (joined (runsOf ws)) (runs-of-chars room ws h) in
     rw (same, ← (length-runs-of ws)) (runs-fewest room (joined (runsOf ws)) (runsOf ws) (runs-of-fit room 0 ws h) refl)
 
 -- ---- our words
 
-ours-text : (ls : List (List ℕ)) → textOf (map ours ls) ≡ joined ls
+ours-text : (ls : List (List ℕ)) → addedText (map ours ls) ≡ joined ls
 ours-text [] = refl
 ours-text (l ∷ ls) = rw (ours-text ls) refl
 
@@ -127,7 +127,7 @@ row-of room text h u =
       proper = ours-proper room 0 rs (runs-fit room h (chars text) u) (all-joined isChar rs (rw (runs-joined room (chars text)) u));
     }
 
-row-fewest : (room : ℕ) (text : List ℕ) (ws : List Word) → textOf ws ≡ text → AllProper (room + 12) ws
+row-fewest : (room : ℕ) (text : List ℕ) (ws : List Word) → addedText ws ≡ text → AllProper (room + 12) ws
     → length (rowWords room text) ≤ length ws
 unfolding rowWords
 row-fewest room text ws e h =

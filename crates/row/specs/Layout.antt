@@ -49,6 +49,6 @@ abbrev pub Laid : List ℕ → List Word → Type 0
 Laid row ws = LaidAfter false row ws
 
 -- what a row of these words reads back as: "the bytes added, in order"
-abbrev pub textOf : List Word → List ℕ
-textOf [] = []
-textOf (w ∷ ws) = w .added ++ textOf ws
+abbrev pub addedText : List Word → List ℕ
+addedText [] = []
+addedText (w ∷ ws) = w .added ++ addedText ws

@@ -8,7 +8,7 @@ use lib.Dec.{eqb}
 use lib.ListN.{drop}
 use Rattle.lists.specs.Byte.{within}
 use Rattle.word_spelling.specs.Spelling.{opening}
-use Rattle.row.specs.Layout.{anyCaseValue, Word, textOf}
+use Rattle.row.specs.Layout.{anyCaseValue, Word, addedText}
 
 -- The state of the reading, with the words closed so far and, in a word, that word so far. A row without a fault closes every word
 -- that it opens, so the words closed at its end are those that it opens.
@@ -110,4 +110,4 @@ wordsRead row = finish (reading (between false []) row)
 
 -- "A row with a fault reads back as no text; any other reads back as the bytes added, in order."
 unfoldable pub readsAs : List ℕ → Option (List ℕ)
-readsAs row = Option·map textOf (wordsRead row)
+readsAs row = Option·map addedText (wordsRead row)

@@ -13,7 +13,7 @@ use Rattle.lists.specs.ListsLaws.{cond-yes, cond-no}
 use Rattle.lists.specs.Byte.{within}
 use Rattle.lists.specs.ByteLaws.{within-low, within-high, to-within}
 use Rattle.word_spelling.specs.Spelling.{opening, closing}
-use Rattle.row.specs.Layout.{anyCaseValue, Adds, Word, wordBytes, LaidAfter, Laid, textOf}
+use Rattle.row.specs.Layout.{anyCaseValue, Adds, Word, wordBytes, LaidAfter, Laid, addedText}
 use Rattle.row.specs.Layout.LaidAfter.{empty, space, crlf, word}
 use Rattle.row.specs.Reading.{State, opened, extended, role, stepBetween, stepOpens, stepInWord, stepDigit, stepSecond, step, reading, finish, wordsRead, readsAs}
 use Rattle.row.specs.Reading.State.{fault, between, afterCr, opens, inWord, afterEquals, afterDigit, closes}
@@ -224,7 +224,7 @@ pub laid-once : {row : List ℕ} {vs ws : List Word} → Laid row vs → Laid ro
 laid-once a b = let p = laid-reads a in let q = laid-reads b in cc
 
 -- what a row laid out so reads back as
-pub laid-text : {row : List ℕ} {ws : List Word} → Laid row ws → readsAs row ≡ some (textOf ws)
+pub laid-text : {row : List ℕ} {ws : List Word} → Laid row ws → readsAs row ≡ some (addedText ws)
 unfolding readsAs
 laid-text l = rw (laid-reads l)
 
@@ -240,7 +240,7 @@ fault-text row e = rw e
 pub record LaidText (row text : List ℕ) : Type 0 where
   pub words : List Word
   pub laid : Laid row words
-  pub adds : textOf words ≡ text
+  pub adds : addedText words ≡ text
 
 by-words : (row text : List ℕ) (o : Option (List Word)) → wordsRead row ≡ o → readsAs row ≡ some text → LaidText row text
 by-words row text none p r = absurd (none≢some (sym (fault-text row p) ∙ r))
