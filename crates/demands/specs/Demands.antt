@@ -15,6 +15,7 @@ use Rattle.envelope_line.specs.declared.Fault.the-variants.{Malformed, NoAltern
 use Rattle.envelope.specs.declared.Checked.the-variants.{Passed, Refused}
 use Rattle.envelope.specs.declared.Orcpt.the-variants.{Clean, At}
 use Rattle.envelope.specs.Envelope.{checked, orcptLine, written}
+use Rattle.envelope.specs.EnvelopeDemand.{EnvelopeWritten}
 use Rattle.header_line.specs.declared.LineCheck.the-variants.{WellFormed, Malformed as MalformedLine}
 use Rattle.outgoing_field.specs.declared.HeldField.the-variants.{Absent, At as HeldAt}
 use Rattle.header_line.specs.Lines.{checkedLines}
@@ -103,6 +104,8 @@ pub record Demand2 (e h : List ℕ) (o : Outcome) : Type 0 where
   pub header : take (o .headerLen) (o .headerBuffer) ≡ outgoingHeader e h
   pub envelope-len : o .envelopeLen ≡ length (written e)
   pub header-len : o .headerLen ≡ length (outgoingHeader e h)
+  -- the envelope line by line, in order: a line is copied, or its path is replaced and its ALT-ADDRESS gone, nothing else changed
+  pub envelope-lines : EnvelopeWritten e (take (o .envelopeLen) (o .envelopeBuffer))
   -- all ASCII
   pub envelope-ascii : T (all isAscii (written e))
   pub header-ascii : T (all isAscii (outgoingHeader e h))

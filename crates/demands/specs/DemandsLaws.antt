@@ -27,6 +27,7 @@ use Rattle.envelope.specs.declared.Orcpt.the-variants.{Clean, At}
 use Rattle.envelope.specs.Envelope.{checked, faultNumber, orcptLine, written, mailReplacement, rcptReplacement}
 use Rattle.envelope.specs.PassedLaws.{checked-not-fine}
 use Rattle.envelope.specs.AsciiLaws.{written-ascii}
+use Rattle.envelope.specs.EnvelopeDemandLaws.{envelope-written}
 use Rattle.envelope.specs.ReplacementLaws.{mail-replacement-utf8, rcpt-replacement-utf8}
 use Rattle.header_line.specs.declared.LineCheck.{LineCheck}
 use Rattle.header_line.specs.declared.LineCheck.the-variants.{WellFormed, Malformed as MalformedLine}
@@ -261,6 +262,7 @@ module _ (e h : List ℕ) (p : Passes e h) where
           header = overlay-front (outgoingHeader e h) c (t .header-fits);
           envelope-len = refl;
           header-len = refl;
+          envelope-lines = rw (overlay-front (written e) b (t .envelope-fits)) (envelope-written e (p .orcpt .header .envelope .recipients) (p .orcpt .header .envelope .lines));
           envelope-ascii = written-ascii e (p .orcpt .header .envelope .recipients) (p .orcpt .header .envelope .lines) (p .orcpt .orcpt);
           header-ascii = written-out-ascii;
           fields = field-after-field;
