@@ -241,22 +241,22 @@ continued-follow line h t (Follow.starts f) = Follow.continues line [] h (alone 
 
 -- ---- line after line
 
-pub well-piece : (first : Bool) (line : List ℕ) → T (wellFormed first line) → T (piece line)
+-- what a well-formed line is made of, and how it starts
+well-parts : (first : Bool) (line : List ℕ) → T (wellFormed first line) → T (piece line) × T (continuation first line || named line)
 unfolding wellFormed piece
-well-piece first line t =
+well-parts first line t =
     let size = within 1 998 (length line) in
     let c = and-yes (size && all lineByte line && utf8 line) (continuation first line || named line) t in
     let b = and-yes (size && all lineByte line) (utf8 line) (c .0) in
-    yes-and (all lineByte line) (utf8 line) (and-yes size (all lineByte line) (b .0) .1) (b .1)
+    (yes-and (all lineByte line) (utf8 line) (and-yes size (all lineByte line) (b .0) .1) (b .1), c .1)
 
-well-start : (first : Bool) (line : List ℕ) → T (wellFormed first line) → T (continuation first line || named line)
-unfolding wellFormed
-well-start first line t = and-yes (within 1 998 (length line) && all lineByte line && utf8 line) (continuation first line || named line) t .1
+pub well-piece : (first : Bool) (line : List ℕ) → T (wellFormed first line) → T (piece line)
+well-piece first line t = well-parts first line t .0
 
 well-continued : (first : Bool) (line : List ℕ) → T (wellFormed first line) → T (not (named line)) → T (continued line)
 unfolding continued continuation
 well-continued first line t n =
-    let start : T (continuation first line || false) = rw (no-false (named line) n) at (well-start first line t) in
+    let start : T (continuation first line || false) = rw (no-false (named line) n) at (well-parts first line t .1) in
     yes-and (piece line) (blank (getD line 0 0)) (well-piece first line t) (left (blank (getD line 0 0)) (not first) start)
   where
     left : (a b : Bool) → T (a && b || false) → T a
@@ -327,7 +327,7 @@ follow (suc m) n at h k e =
 
 first-named : (line : List ℕ) → T (wellFormed true line) → T (named line)
 unfolding continuation
-first-named line t = rw and-false at (well-start true line t)
+first-named line t = rw and-false at (well-parts true line t .1)
 
 -- each field of a header without malformed lines is a name, a colon, a value and CRLF
 pub fields-shaped : (h : List ℕ) → checkedLines h ≡ WellFormed → Each Shaped (fieldsOf h)

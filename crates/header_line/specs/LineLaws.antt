@@ -270,7 +270,6 @@ line-ok first h =
     let line = take (lineLen h) h in
     regroup (crlf (drop (lineLen h) h)) (within 1 998 (length line)) (all lineByte line) (utf8 line) (continuation first line || named line)
 
--- a CRLF at a place lies in the list
 -- what code answers of the line at `at`: the place after it, or `at` where it is malformed
 pub record Lined (h : List ℕ) (at : ℕ) (first : Bool) (r : ℕ) : Type 0 where
   pub malformed : r ≡ at → lineOk first (drop at h) ≡ false
