@@ -54,7 +54,9 @@ pub record Passes (e h : List ℕ) : Type 0 where
   pub orcpt : OrcptPasses e h
   pub held : heldOf Spool h ≡ Absent
 
--- The table "Answers by number": a number and a place, and when they are given, by the order of the refusals.
+-- The table "Answers by number": a number and a place, and when they are given, by the order of the refusals. Which fault a line of the
+-- envelope has is defined by scans. The same in the paper's words is `Answer`, in envelope_line/specs/LineGrammar; `answers` and
+-- `answer-exact`, in LineGrammarLaws there, prove that just its answers are given.
 pub data Given (e h b c : List ℕ) : ℕ → ℕ → Type 0 where
   envelope-over : 16384 < length e → Given e h b c 1 0
   header-over : length e ≤ 16384 → 32768 < length h → Given e h b c 1 1

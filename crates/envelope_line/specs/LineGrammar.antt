@@ -86,7 +86,7 @@ pub data Answer (mail : Bool) (line : List ℕ) : Fault → Type 0 where
   to-replace : {path v new : List ℕ} → Line mail path (some v) line → T (not (all isAscii path)) → AltAddress v new → Answer mail line Fine
 
 -- A line and what is written for it: "A non-ASCII path is replaced by the decoded ALT-ADDRESS, and that parameter goes with the space
--- before it. .. Nothing else changes."
+-- before it. .. Nothing else changes." A line that is written has passed the check; what is said of it here is what fixes the output.
 pub data Written (mail : Bool) : List ℕ → List ℕ → Type 0 where
   copied : {line path : List ℕ} → Line mail path none line → T (all isAscii path) → Written mail line line
   replaced : {front path before p v new after : List ℕ} → Verb mail front → Path mail path → T (not (all isAscii path))
