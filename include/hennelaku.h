@@ -73,10 +73,9 @@ enum hennelaku_number {
     /* A header line is malformed. place is the line of the header. */
     HENNELAKU_HEADER_LINE = 5,
     /* An ORCPT value holds non-ASCII: place is the line of the envelope. Or no
-     * ORCPT does, and a held header field (Received, Date, Message-ID, ..;
-     * README.md, Limits) does: place is
-     * the first line of that field in the header. Which of the two it is shows
-     * in the envelope: its lines hold non-ASCII after the path only in an
+     * ORCPT does, and a held header field (see hennelaku_downgrade) does: place
+     * is the first line of that field in the header. Which of the two it is
+     * shows in the envelope: its lines hold non-ASCII after the path only in an
      * ORCPT value. */
     HENNELAKU_HELD = 6,
     /* The outgoing envelope is longer than its buffer. place is the length
@@ -121,6 +120,19 @@ hennelaku_answer hennelaku_downgrade_slices(
  * header_len bytes of header_buffer (lengths as answered) are the outgoing
  * envelope and header: all ASCII, in the same form as the inputs. No byte past
  * these lengths is touched.
+ *
+ * What becomes of a header field goes by its name, in any letter case, where its
+ * value is not ASCII; one whose value is ASCII is copied byte for byte.
+ *
+ *     address     From Sender Reply-To To Cc Bcc, the same six after Resent-,
+ *                 Return-Path Disposition-Notification-To: addresses replaced
+ *                 or removed; the original text in a Downgraded- field after it
+ *     plain text  Subject Comments Content-Description: text in encoded words
+ *     held        Received Date Resent-Date Message-ID Resent-Message-ID
+ *                 In-Reply-To References MIME-Version Content-Type Content-ID
+ *                 Content-Disposition Content-Transfer-Encoding
+ *                 Original-Recipient Final-Recipient Keywords: refused by 6
+ *     any other   Downgraded- before the name, text in encoded words
  *
  * After any other number no byte of either buffer has changed, and both
  * lengths are 0.

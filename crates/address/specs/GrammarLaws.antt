@@ -20,7 +20,7 @@ use Rattle.address.specs.declared.Scan.{Scan}
 use Rattle.address.specs.declared.Scan.the-variants.{To, Stop}
 use Rattle.address.specs.Address.{later, byteThen, scanThen, isAtext, isAtomByte, isQuotedByte, isLiteralByte, isHigh, dotAtomEnd, dotAtomFrom, dotAtomScan, quotedFrom, quotedScan, literalFrom, literalScan, domainScan, localScan, addressScan, takesAll, isAddress}
 use Rattle.address.specs.AddressLaws.{later-later, later-to, byte-within}
-use Rattle.address.specs.TakenLaws.{Taken, taken-quoted, taken-literal, utf8-front, utf8-through}
+use Rattle.address.specs.TakenLaws.{Taken, taken-quoted, taken-literal, taken-address, whole-taken, utf8-front, utf8-through}
 use Rattle.address.specs.Grammar.{Atom, DotAtom, Content, QuotedString, LocalPart, Domain, Address}
 
 no-to : {n m : ℕ} → Stop n ≡ To m → ⊥
@@ -329,6 +329,13 @@ address-complete (Address.address {local} {domain} l d) rest c =
     rw (append-assoc local (64 ∷ domain) rest, local-complete l tail (sign-closed (domain ++ rest)), drop-append-seam local tail, after)
     (later-more (length local) (1 + length domain) (length (local ++ (64 ∷ domain))) (omega (arith, length-append local (64 ∷ domain))))
 
+-- a local part before a byte other than `@` is no address
+pub local-alone : {l : List ℕ} → LocalPart l → (b : ℕ) (rest : List ℕ) → Closed (b ∷ rest) → (b ≡ 64 → ⊥) → addressScan (l ++ (b ∷ rest)) ≡ Stop (length l)
+unfolding addressScan scanThen byteThen later
+local-alone {l} p b rest c n =
+    let z : length l + 0 ≡ length l = omega arith in
+    rw (local-complete p (b ∷ rest) c, drop-append-seam l (b ∷ rest), ne-eqb b 64 n, z)
+
 -- ---- a whole text
 
 pub nothing-closed : Closed []
@@ -344,6 +351,10 @@ whole-address s = go (addressScan s) refl
 
 pub address-whole : (s : List ℕ) → Address s → T (takesAll (addressScan s) s)
 address-whole s a = rw (rw append-nil at (address-complete a [] nothing-closed)) (yes-eqb {a = length s} {b = length s} refl)
+
+-- "CR, LF and TAB never stand inside."
+pub address-visible : {a : List ℕ} → Address a → T (all isQuotedByte a)
+address-visible {a} g = whole-taken a (addressScan a) (taken-address a) (address-whole a g) .1
 
 -- what a scan takes is an address by itself
 pub taken-whole : (s : List ℕ) (n : ℕ) → addressScan s ≡ To n → T (takesAll (addressScan (take n s)) (take n s))

@@ -5,3 +5,4 @@ pub mod Grammar
 pub mod GrammarLaws
 pub mod BeginningLaws
 pub mod AtomBits
+pub mod AtextTable

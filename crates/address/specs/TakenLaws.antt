@@ -254,7 +254,7 @@ utf8-through s n h l k =
 -- ---- a whole address
 
 -- a text that is taken whole is taken
-whole-taken : {least : ℕ} (s : List ℕ) (r : Scan) → Taken least s r → T (takesAll r s) → (least ≤ length s) × T (all isQuotedByte s)
+pub whole-taken : {least : ℕ} (s : List ℕ) (r : Scan) → Taken least s r → T (takesAll r s) → (least ≤ length s) × T (all isQuotedByte s)
 whole-taken s (To n) t h =
     let size : n ≡ length s = eqb→eq n (length s) h in
     (omega (arith, t .some), rw (size, take-length) at (t .covers .bytes))

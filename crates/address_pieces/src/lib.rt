@@ -82,7 +82,8 @@ fn fitting_len(room: usize, n: usize) -> usize
 }
 
 // Writes what an address field becomes by the rules from a place on, as far as it fits; answers the place after it. The scratch is
-// where the text of a phrase is made: at least twice as long as the field's text.
+// where the text of a phrase is made: where it is shorter than twice the text, or the text longer than 32,768 bytes, the text counts
+// as empty.
 pub fn add_field(
     out: &mut [u8],
     at: usize,

@@ -91,6 +91,28 @@ first-accepted [] b k = refl
 first-accepted (Accept ∷ a) b k = first-accepted a b k
 first-accepted (Refuse r ∷ a) b k = absurd (let z : _≡_ {A = ℕ} 0 1 = cc in omega arith)
 
+-- 1 to 6: the refusals that the buffers do not decide
+abbrev pub ofInput : List ℕ → List ℕ → List Verdict
+ofInput e h =
+    over 16384 (length e) EnvelopeOver
+    ∷ over 32768 (length h) HeaderOver
+    ∷ ofEnvelope (checked e)
+    ∷ ofLines (checkedLines h)
+    ∷ ofOrcpt (orcptLine e)
+    ∷ ofHeld (heldOf Spool h)
+    ∷ []
+
+pub both-fit : (e h : List ℕ) (room₁ room₂ : ℕ) → firstOf (ofInput e h) ≡ Accept → length (written e) ≤ room₁ → length (outgoingHeader e h) ≤ room₂
+    → verdict e h room₁ room₂ ≡ Accept
+unfolding verdict firstOf
+both-fit e h room₁ room₂ q k l =
+    first-accepted (ofInput e h)
+    (over room₁ (length (written e)) (EnvelopeNeeds (length (written e)))
+    ∷ over room₂ (length (outgoingHeader e h)) (HeaderNeeds (length (outgoingHeader e h)))
+    ∷ [])
+    q
+    ∙ rw (over-no room₁ (length (written e)) (EnvelopeNeeds (length (written e))) k, over-no room₂ (length (outgoingHeader e h)) (HeaderNeeds (length (outgoingHeader e h))) l)
+
 -- no header line is malformed, and no ORCPT and no held field carries non-ASCII
 pub record Accepted (e h : List ℕ) : Type 0 where
   pub content : firstOf (ofLines (checkedLines h) ∷ ofOrcpt (orcptLine e) ∷ ofHeld (heldOf Spool h) ∷ []) ≡ Accept

@@ -9,7 +9,7 @@ use Rattle.lists.specs.Lists.{all}
 use Rattle.lists.specs.Run.{run}
 use Rattle.hex.specs.Hex.{hexValue}
 
--- a line that is neither empty nor starts with `#` (35)
+-- a line that is not empty and starts with neither `#` (35) nor NUL
 abbrev pub isCase : List ℕ → Bool
 isCase s = not (eqb (getD s 0 0) 0) && not (eqb (getD s 0 0) 35)
 

@@ -1,7 +1,10 @@
 -- The checked examples that the paper marks P, as one table under one theorem about the definitions. Assumes nothing.
 use mathlib.Core.Path.{_≡_, refl}
 use mathlib.Core.List.{List, [], _∷_, _++_, map}
-use Prim.Native.Nat.{ℕ}
+use Prim.Native.Nat.{ℕ, _≤_}
+use native.Mathlib.Omega.{arith}
+use lib.Dec.{T, leb}
+use mir.Facts.{leb-yes}
 use lib.Count.{leadingZeros}
 use lib.ListN.{length, replicate}
 use Rattle.lists.specs.Lists.{joined}
@@ -12,44 +15,44 @@ use Rattle.letter_case.specs.LetterCase.{bytes, lower, sameAnyCase}
 use Rattle.cut.specs.Cut.{cut}
 use Rattle.word_spelling.specs.Spelling.{bare, spellByte, spell}
 use Rattle.row.specs.Row.{runs, word, lines, rowIn, row}
-use Rattle.envelope_line.specs.declared.Fault.{Fault}
-use Rattle.envelope.specs.declared.Checked.{Checked}
-use Rattle.envelope.specs.declared.Checked.the-variants.{Passed, Refused}
-use Rattle.envelope.specs.Envelope.{lines as envelopeLines, lineText, endedFault, faultOf, faultNumber, isFine, checkedFrom, checked}
-use Rattle.header_line.specs.Lines.{lineAnswer, checkedLines, lineByte, nameByte, nameLen, named, continuation, wellFormed, lineOk, linesFrom}
+use Rattle.envelope.specs.Envelope.{lines as envelopeLines, lineText, endedFault, faultOf, faultNumber, isFine, checkedFrom, checked, texts, orcptFrom, orcptLine, writtenEnded, writtenOf, written, mailOf, mailReplacement, onlyRcptOf, rcptReplacement}
+use Rattle.header_line.specs.Lines.{checkedLines, lineByte, nameByte, nameLen, named, continuation, wellFormed, lineOk, linesOf, linesFrom}
 use Rattle.line.specs.Line.{blank, crlf, lineLen}
 use Rattle.address.specs.Address.{later, byteThen, scanThen, isAtext, isAtomByte, isQuotedByte, isLiteralByte, dotAtomFrom, dotAtomScan, quotedFrom, quotedScan, literalFrom, literalScan, domainScan, localScan, addressScan, isAddress, isAsciiAddress}
 use Rattle.xtext.specs.Xtext.{isXchar, isHexchar, unitLen, unitByte, decodingAfter, decoding, isXtext, decoded, isAltAddress}
 use Rattle.hex.specs.Hex.{hexDigit, isHexDigit, hexValue}
-use Rattle.envelope_line.specs.EnvelopeLine.{verb, hasVerb, pathScan, pathLen, path, hasPath, tail, wellFormed as wellFormedLine, altFault, lineFault}
+use Rattle.envelope_line.specs.EnvelopeLine.{verb, hasVerb, pathScan, pathLen, path, hasPath, tail, wellFormed as wellFormedLine, altFault, lineFault, orcptFault, writtenLine, replacement}
+use Rattle.header.specs.Fields.{fold, fieldLen, fieldsOf, valueOf}
+use Rattle.outgoing_field.specs.Fate.{fateOf, segmentsOf, fieldSegments, headerSegments, isHeld, heldFrom, heldOf}
+use Rattle.encoded_word.specs.Segments.{rendered}
+use Rattle.call.specs.declared.Verdict.the-variants.{Accept}
+use Rattle.call.specs.OutgoingHeader.{newField, newFields, outgoingSegments, outgoingHeader}
+use Rattle.call.specs.Outcome.{numberOf, placeOf, over, ofEnvelope, ofLines, ofOrcpt, ofHeld, firstOf, verdict, Outcome, outcomeOf, outcome}
+use Rattle.call.specs.OutputLaws.{ofInput, both-fit}
 use Rattle.parameter.specs.Parameter.{params, spaced, isKeywordByte, keywordLen, keyword, hasValue, value, isOrcpt, isAlt, isValueByte, isParam, alts, altsOk}
 
 -- a case and its answer
 pub data Case : Type 0 where
   -- a text; for each of its words, how many characters it holds, and its length between opening and closing
   cutsTo : List ℕ → List (ℕ × ℕ) → Case
-  -- a text and its row
-  hasRow : List ℕ → List ℕ → Case
-  -- an envelope, its number and its place
-  answers : List ℕ → ℕ → ℕ → Case
-  -- a header, the number and the place of its first malformed line; 0 at 0 where there is none
-  lined : List ℕ → ℕ → ℕ → Case
+  -- an envelope and a header that the call refuses, whatever the buffers: the number and the place
+  refused : List ℕ → List ℕ → ℕ → ℕ → Case
+  -- an envelope and a header that it takes, where each buffer has 1,000 bytes or more
+  taken : List ℕ → List ℕ → Case
 
 -- how many characters each word of a text's row holds, and its length between opening and closing
 abbrev pub wordSizes : List ℕ → List (ℕ × ℕ)
 wordSizes text = map (λ (run : List (List ℕ)). (length run, length (spell (joined run)))) (runs 63 (chars text))
 
--- the number and the place of an envelope's answer
-abbrev answerOf : Checked → ℕ × ℕ
-answerOf (Passed count) = (0, 0)
-answerOf (Refused fault line) = (faultNumber fault, line)
+-- the number and the place of a call's outcome
+abbrev pub answer : Outcome → ℕ × ℕ
+answer o = (o .number, o .place)
 
 -- what a case says
 abbrev pub Right : Case → Type 0
 Right (cutsTo text sizes) = wordSizes text ≡ sizes
-Right (hasRow text bytes) = row text ≡ bytes
-Right (answers envelope number place) = answerOf (checked envelope) ≡ (number, place)
-Right (lined header number place) = lineAnswer (checkedLines header) ≡ (number, place)
+Right (refused e h number place) = (b c : List ℕ) → answer (outcome e h b c) ≡ (number, place)
+Right (taken e h) = (b c : List ℕ) → 1000 ≤ length b → 1000 ≤ length c → answer (outcome e h b c) ≡ (0, 0)
 
 -- each of these cases is right
 abbrev pub AllRight : List Case → Type 0
@@ -68,24 +71,6 @@ four = 240 ∷ 159 ∷ 146 ∷ 169 ∷ []
 abbrev times : ℕ → List ℕ → List ℕ
 times n c = joined (replicate n c)
 
--- `<é@example.org <e+x@example.org>>`
-abbrev oldNew : List ℕ
-oldNew =
-    60 ∷ 195 ∷ 169 ∷ 64 ∷ 101 ∷ 120 ∷ 97 ∷ 109 ∷ 112 ∷ 108 ∷ 101 ∷ 46 ∷ 111 ∷ 114 ∷ 103 ∷ 32 ∷ 60 ∷ 101 ∷ 43 ∷ 120 ∷ 64
-    ∷ 101 ∷ 120 ∷ 97 ∷ 109 ∷ 112 ∷ 108 ∷ 101 ∷ 46 ∷ 111 ∷ 114 ∷ 103 ∷ 62 ∷ 62 ∷ []
-
--- ` =?UTF-8?Q?=3C=C3=A9=40example=2Eorg_=3Ce+x=40example=2Eorg=3E=3E?=` after CRLF
-abbrev oldNewRow : List ℕ
-oldNewRow =
-    13 ∷ 10 ∷ 32 ∷ 61 ∷ 63 ∷ 85 ∷ 84 ∷ 70 ∷ 45 ∷ 56 ∷ 63 ∷ 81 ∷ 63 ∷ 61 ∷ 51 ∷ 67 ∷ 61 ∷ 67 ∷ 51 ∷ 61 ∷ 65 ∷ 57 ∷ 61 ∷ 52
-    ∷ 48 ∷ 101 ∷ 120 ∷ 97 ∷ 109 ∷ 112 ∷ 108 ∷ 101 ∷ 61 ∷ 50 ∷ 69 ∷ 111 ∷ 114 ∷ 103 ∷ 95 ∷ 61 ∷ 51 ∷ 67 ∷ 101 ∷ 43 ∷ 120
-    ∷ 61 ∷ 52 ∷ 48 ∷ 101 ∷ 120 ∷ 97 ∷ 109 ∷ 112 ∷ 108 ∷ 101 ∷ 61 ∷ 50 ∷ 69 ∷ 111 ∷ 114 ∷ 103 ∷ 61 ∷ 51 ∷ 69 ∷ 61 ∷ 51 ∷ 69
-    ∷ 63 ∷ 61 ∷ []
-
--- ` =?UTF-8?Q?=C3=A9?=` after CRLF
-abbrev éRow : List ℕ
-éRow = 13 ∷ 10 ∷ 32 ∷ 61 ∷ 63 ∷ 85 ∷ 84 ∷ 70 ∷ 45 ∷ 56 ∷ 63 ∷ 81 ∷ 63 ∷ 61 ∷ 67 ∷ 51 ∷ 61 ∷ 65 ∷ 57 ∷ 63 ∷ 61 ∷ []
-
 -- CRLF
 abbrev end : List ℕ
 end = 13 ∷ 10 ∷ []
@@ -98,7 +83,7 @@ mailed path tail = bytes "MAIL FROM:<" ++ (path ++ (62 ∷ (tail ++ (end ++ (byt
 abbrev headerNamed : ℕ → List ℕ
 headerNamed n = replicate n 97 ++ (58 ∷ end)
 
--- the cases marked P, and the rows of the whole case
+-- the cases marked P
 abbrev pub cases : List Case
 cases =
     -- "ten `é` then `abc`: 63 characters, one word."
@@ -109,29 +94,66 @@ cases =
     ∷ Case.cutsTo (bytes "abcd" ++ times 10 é) ((13, 58) ∷ (1, 6) ∷ [])
     -- "six four-byte characters: five, then one."
     ∷ Case.cutsTo (times 6 four) ((5, 60) ∷ (1, 12) ∷ [])
-    -- the rows of Downgraded-Mail-From and Subject in the whole case
-    ∷ Case.hasRow oldNew oldNewRow
-    ∷ Case.hasRow é éRow
     -- "ALT-ADDRESS `a+0D+0Ab@x`: 4."
-    ∷ Case.answers (mailed (é ++ bytes "@x") (bytes " ALT-ADDRESS=a+0D+0Ab@x")) 4 0
-    -- "`+2b`: 4."
-    ∷ Case.answers (mailed (é ++ bytes "@x") (bytes " ALT-ADDRESS=+2b")) 4 0
-    -- the same digits in an address that uppercase ones would make ASCII
-    ∷ Case.answers (mailed (é ++ bytes "@x") (bytes " ALT-ADDRESS=a+2bb@x")) 4 0
-    ∷ Case.answers (mailed (é ++ bytes "@x") (bytes " ALT-ADDRESS=a+2Bb@x")) 0 0
+    ∷ Case.refused (mailed (é ++ bytes "@x") (bytes " ALT-ADDRESS=a+0D+0Ab@x")) [] 4 0
+    -- "`+2b`: 4.", by itself and in an address that uppercase digits would make ASCII
+    ∷ Case.refused (mailed (é ++ bytes "@x") (bytes " ALT-ADDRESS=+2b")) [] 4 0
+    ∷ Case.refused (mailed (é ++ bytes "@x") (bytes " ALT-ADDRESS=a+2bb@x")) [] 4 0
     -- "ALT-ADDRESS beside an ASCII path: 4."
-    ∷ Case.answers (mailed (bytes "a@x") (bytes " ALT-ADDRESS=b@x")) 4 0
+    ∷ Case.refused (mailed (bytes "a@x") (bytes " ALT-ADDRESS=b@x")) [] 4 0
     -- "non-ASCII path alone: 3."
-    ∷ Case.answers (mailed (é ++ bytes "@x") []) 3 0
+    ∷ Case.refused (mailed (é ++ bytes "@x") []) [] 3 0
     -- "empty envelope: 2 at 0."
-    ∷ Case.answers [] 2 0
+    ∷ Case.refused [] [] 2 0
     -- "MAIL with no RCPT: 2 at 1."
-    ∷ Case.answers (bytes "MAIL FROM:<a@x>" ++ end) 2 1
+    ∷ Case.refused (bytes "MAIL FROM:<a@x>" ++ end) [] 2 1
     -- "name of 76 bytes taken; 77 is 5."
-    ∷ Case.lined (headerNamed 76) 0 0
-    ∷ Case.lined (headerNamed 77) 5 0
+    ∷ Case.taken (mailed (bytes "a@x") []) (headerNamed 76)
+    ∷ Case.refused (mailed (bytes "a@x") []) (headerNamed 77) 5 0
     ∷ []
 
+-- an input that no number from 1 to 6 refuses is taken where both outputs fit
+taken-by : (e h : List ℕ) → firstOf (ofInput e h) ≡ Accept → T (leb (length (written e)) 1000) → T (leb (length (outgoingHeader e h)) 1000)
+    → (b c : List ℕ) → 1000 ≤ length b → 1000 ≤ length c → answer (outcome e h b c) ≡ (0, 0)
+unfolding outcome outcomeOf
+taken-by e h q n m b c k l =
+    let n′ : length (written e) ≤ 1000 = leb-yes n in
+    let m′ : length (outgoingHeader e h) ≤ 1000 = leb-yes m in
+    rw (both-fit e h (length b) (length c) q (omega arith) (omega arith))
+
 pub cases-right : AllRight cases
-unfolding rowIn runs cut lines word spell spellByte bare hexDigit bytes lower sameAnyCase crlf lineLen later byteThen scanThen isAtext isAtomByte isQuotedByte isLiteralByte dotAtomFrom dotAtomScan quotedFrom quotedScan literalFrom literalScan domainScan localScan addressScan isAddress isAsciiAddress run utf8 chars cutBy cutAfter charLen leadingOnes leadingZeros isChar secondLow secondHigh isXchar isHexDigit hexValue isHexchar unitLen unitByte decodingAfter decoding isXtext decoded isAltAddress verb hasVerb pathScan pathLen path hasPath tail params spaced isKeywordByte keywordLen keyword hasValue value isOrcpt isAlt isValueByte isParam alts altsOk wellFormed altFault lineFault envelopeLines lineText endedFault faultOf faultNumber isFine checkedFrom checked lineByte blank nameByte nameLen named continuation lineOk linesFrom checkedLines lineAnswer wellFormedLine
-cases-right = (refl, (refl, (refl, (refl, (refl, (refl, (refl, (refl, (refl, (refl, (refl, (refl, (refl, (refl, (refl, (refl, tt))))))))))))))))
+unfolding rowIn runs cut lines word spell spellByte bare hexDigit bytes lower sameAnyCase crlf lineLen later byteThen scanThen isAtext isAtomByte isQuotedByte isLiteralByte dotAtomFrom dotAtomScan quotedFrom quotedScan literalFrom literalScan domainScan localScan addressScan isAddress isAsciiAddress run utf8 chars cutBy cutAfter charLen leadingOnes leadingZeros isChar secondLow secondHigh isXchar isHexDigit hexValue isHexchar unitLen unitByte decodingAfter decoding isXtext decoded isAltAddress verb hasVerb pathScan pathLen path hasPath tail params spaced isKeywordByte keywordLen keyword hasValue value isOrcpt isAlt isValueByte isParam alts altsOk wellFormed altFault lineFault envelopeLines lineText endedFault faultOf faultNumber isFine checkedFrom checked lineByte blank nameByte nameLen named continuation lineOk linesOf linesFrom checkedLines wellFormedLine numberOf placeOf over ofEnvelope ofLines ofOrcpt ofHeld firstOf verdict outcomeOf outcome texts orcptFrom orcptLine orcptFault writtenEnded writtenOf written writtenLine heldFrom heldOf isHeld fateOf fold fieldLen fieldsOf valueOf newField newFields outgoingSegments outgoingHeader mailOf mailReplacement onlyRcptOf rcptReplacement replacement segmentsOf fieldSegments headerSegments rendered
+cases-right = (
+  refl,
+  (
+    refl,
+    (
+      refl,
+      (
+        refl,
+        (
+          λ b c. refl,
+          (
+            λ b c. refl,
+            (
+              λ b c. refl,
+              (
+                λ b c. refl,
+                (
+                  λ b c. refl,
+                  (
+                    λ b c. refl,
+                    (
+                      λ b c. refl,
+                      (taken-by (mailed (bytes "a@x") []) (headerNamed 76) refl tt tt, (λ b c. refl, tt)),
+                    ),
+                  ),
+                ),
+              ),
+            ),
+          ),
+        ),
+      ),
+    ),
+  ),
+)

@@ -2,7 +2,6 @@
 use mathlib.Core.Bool.{Bool, cond}
 use mathlib.Core.List.{List, [], _∷_, _++_}
 use Prim.Native.Nat.{ℕ, suc}
-use lib.Dec.{T}
 
 module _ {A : Type 0} where
   -- Lines are counted from 0, and `fits k run` says whether line k can hold run. Line k holds `run` so far, and `cs` is to
@@ -13,8 +12,3 @@ module _ {A : Type 0} where
       let more = cut fits k (run ++ (c ∷ [])) cs in
       let next = run ∷ cut fits (suc k) (c ∷ []) cs in
       cond (fits k (run ++ (c ∷ []))) more next
-
-  -- each line holds its run, the lines counted from k
-  abbrev pub AllFit : (ℕ → List A → Bool) → ℕ → List (List A) → Type 0
-  AllFit fits k [] = Unit {0}
-  AllFit fits k (run ∷ runs) = T (fits k run) × AllFit fits (suc k) runs

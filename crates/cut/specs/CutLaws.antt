@@ -10,9 +10,14 @@ use lib.Dec.{T, T-not}
 use mir.Facts.{and-yes, yes-and}
 use Rattle.lists.specs.Lists.{all, nonempty, joined}
 use Rattle.lists.specs.ListsLaws.{by-test, cond-yes, cond-no}
-use Rattle.cut.specs.Cut.{cut, AllFit}
+use Rattle.cut.specs.Cut.{cut}
 
 module _ {A : Type 0} where
+  -- each line holds its run, the lines counted from k
+  abbrev pub AllFit : (ℕ → List A → Bool) → ℕ → List (List A) → Type 0
+  AllFit fits k [] = Unit {0}
+  AllFit fits k (run ∷ runs) = T (fits k run) × AllFit fits (suc k) runs
+
   some-snoc : (run : List A) (c : A) → T (nonempty (run ++ (c ∷ [])))
   some-snoc [] c = tt
   some-snoc (x ∷ run) c = tt

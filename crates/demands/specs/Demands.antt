@@ -8,13 +8,14 @@ use lib.Dec.{T}
 use lib.ListN.{length, take, drop}
 use Rattle.lists.specs.Byte.{isAscii}
 use Rattle.lists.specs.Lists.{all, joined}
-use Rattle.encoded_word.specs.Demand3.{Demand3}
+use Rattle.row.specs.Demand3.{Demand3}
 use Rattle.encoded_word.specs.Segments.{Segment, rendered}
 use Rattle.encoded_word.specs.Segments.Segment.{words, labelled}
 use Rattle.envelope_line.specs.declared.Fault.the-variants.{Malformed, NoAlternative, BadAlternative}
 use Rattle.envelope.specs.declared.Checked.the-variants.{Passed, Refused}
 use Rattle.envelope.specs.declared.Orcpt.the-variants.{Clean, At}
 use Rattle.envelope.specs.Envelope.{checked, orcptLine, written}
+use Rattle.envelope.specs.EnvelopeDemand.{EnvelopeWritten}
 use Rattle.header_line.specs.declared.LineCheck.the-variants.{WellFormed, Malformed as MalformedLine}
 use Rattle.outgoing_field.specs.declared.HeldField.the-variants.{Absent, At as HeldAt}
 use Rattle.header_line.specs.Lines.{checkedLines}
@@ -53,7 +54,9 @@ pub record Passes (e h : List ℕ) : Type 0 where
   pub orcpt : OrcptPasses e h
   pub held : heldOf Spool h ≡ Absent
 
--- The table "Answers by number": a number and a place, and when they are given, by the order of the refusals.
+-- The table "Answers by number": a number and a place, and when they are given, by the order of the refusals. Which fault a line of the
+-- envelope has is defined by scans. The same in the paper's words is `Answer`, in envelope_line/specs/LineGrammar; `answers` and
+-- `answer-exact`, in LineGrammarLaws there, prove that just its answers are given.
 pub data Given (e h b c : List ℕ) : ℕ → ℕ → Type 0 where
   envelope-over : 16384 < length e → Given e h b c 1 0
   header-over : length e ≤ 16384 → 32768 < length h → Given e h b c 1 1
@@ -90,6 +93,8 @@ pub record Demand1 (e h b c : List ℕ) (o : Outcome) : Type 0 where
 
 -- ---- demand 2: "The outgoing envelope and header are those that RFC 5504 asks for, as the paper spells it out: all ASCII, each
 -- field that was ASCII copied byte for byte."
+-- Which text of an address field fits is defined by a table over its parts. The same in the paper's words is `AddressList`, in
+-- address_grammar/specs/PartGrammar; `fitting-text` and `listed-fits`, in FittingLaws there, prove that just its texts fit.
 
 -- what becomes of a field of the header
 abbrev pub became : List ℕ → List ℕ
@@ -101,6 +106,8 @@ pub record Demand2 (e h : List ℕ) (o : Outcome) : Type 0 where
   pub header : take (o .headerLen) (o .headerBuffer) ≡ outgoingHeader e h
   pub envelope-len : o .envelopeLen ≡ length (written e)
   pub header-len : o .headerLen ≡ length (outgoingHeader e h)
+  -- the envelope line by line, in order: a line is copied, or its path is replaced and its ALT-ADDRESS gone, nothing else changed
+  pub envelope-lines : EnvelopeWritten e (take (o .envelopeLen) (o .envelopeBuffer))
   -- all ASCII
   pub envelope-ascii : T (all isAscii (written e))
   pub header-ascii : T (all isAscii (outgoingHeader e h))

@@ -16,7 +16,7 @@ use Rattle.buffer.specs.BufferLaws.{length-overlay, overlay-front, overlay-past
 use Rattle.row.specs.Row.{row}
 use Rattle.encoded_word.specs.Segments.{Segment, rendered, sound}
 use Rattle.encoded_word.specs.SegmentsLaws.{rendered-append, rendered-ascii, words-demand-3, labelled-demand-3}
-use Rattle.encoded_word.specs.Demand3.{Demand3}
+use Rattle.row.specs.Demand3.{Demand3}
 use Rattle.letter_case.specs.LetterCase.{bytes}
 use Rattle.envelope_line.specs.declared.Fault.{Fault}
 use Rattle.envelope_line.specs.declared.Fault.the-variants.{Fine, Malformed, NoAlternative, BadAlternative}
@@ -27,6 +27,7 @@ use Rattle.envelope.specs.declared.Orcpt.the-variants.{Clean, At}
 use Rattle.envelope.specs.Envelope.{checked, faultNumber, orcptLine, written, mailReplacement, rcptReplacement}
 use Rattle.envelope.specs.PassedLaws.{checked-not-fine}
 use Rattle.envelope.specs.AsciiLaws.{written-ascii}
+use Rattle.envelope.specs.EnvelopeDemandLaws.{envelope-written}
 use Rattle.envelope.specs.ReplacementLaws.{mail-replacement-utf8, rcpt-replacement-utf8}
 use Rattle.header_line.specs.declared.LineCheck.{LineCheck}
 use Rattle.header_line.specs.declared.LineCheck.the-variants.{WellFormed, Malformed as MalformedLine}
@@ -261,6 +262,7 @@ module _ (e h : List ℕ) (p : Passes e h) where
           header = overlay-front (outgoingHeader e h) c (t .header-fits);
           envelope-len = refl;
           header-len = refl;
+          envelope-lines = rw (overlay-front (written e) b (t .envelope-fits)) (envelope-written e (p .orcpt .header .envelope .recipients) (p .orcpt .header .envelope .lines));
           envelope-ascii = written-ascii e (p .orcpt .header .envelope .recipients) (p .orcpt .header .envelope .lines) (p .orcpt .orcpt);
           header-ascii = written-out-ascii;
           fields = field-after-field;
@@ -285,3 +287,7 @@ demands e h b c = record {
   where
     after-zero : outcome e h b c .number ≡ 0 → Taken e h b c
     after-zero z = taken e h b c (outcome e h b c .number) (outcome e h b c .place) (given-answered e h b c) z
+
+-- what equals the outcome meets them
+pub met : {e h b c : List ℕ} {o : Outcome} → o ≡ outcome e h b c → Demands e h b c o
+met {e} {h} {b} {c} q = rw q (demands e h b c)

@@ -2,3 +2,4 @@ pub mod Demands
 pub mod DemandsLaws
 pub mod DeterminedLaws
 pub mod RoomLaws
+pub mod EnvelopeRoomLaws

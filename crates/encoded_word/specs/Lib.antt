@@ -1,10 +1,3 @@
-pub mod Reading
-pub mod ReadingLaws
-pub mod Layout
-pub mod LayoutLaws
-pub mod ReadingCases
-pub mod Demand3
-pub mod Demand3Laws
 pub mod Segments
 pub mod SegmentsLaws
 pub mod Writing

@@ -11,10 +11,10 @@ use Rattle.lists.specs.ListsLaws.{all-append, all-joined, all-mem, joined-map}
 use Rattle.utf8.specs.Utf8.{chars, utf8}
 use Rattle.utf8.specs.Utf8Laws.{chars-joined, utf8-bytes}
 use Rattle.hex.specs.Hex.{hexDigit}
-use Rattle.word_spelling.specs.Spelling.{bare, spellByte, spell}
-use Rattle.row.specs.Row.{closing, runs, word, lines, rowIn, row}
-use Rattle.encoded_word.specs.Demand3.{Demand3}
-use Rattle.encoded_word.specs.Demand3Laws.{runs-joined, demand-3}
+use Rattle.word_spelling.specs.Spelling.{closing, bare, spellByte, spell}
+use Rattle.row.specs.Row.{runs, word, lines, rowIn, row}
+use Rattle.row.specs.Demand3.{Demand3}
+use Rattle.row.specs.Demand3Laws.{runs-joined, demand-3}
 use Rattle.encoded_word.specs.Segments.{Segment, bytesOf, rendered, sound}
 use Rattle.encoded_word.specs.Segments.Segment.{raw, words, labelled}
 

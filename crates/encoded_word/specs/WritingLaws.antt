@@ -12,13 +12,14 @@ use Rattle.utf8.specs.Utf8.{charLen}
 use Rattle.hex.specs.Hex.{hexDigit}
 use Rattle.buffer.specs.Buffer.{Wrote, Appended, AppendedCapped, Reached, greatest}
 use Rattle.buffer.specs.BufferLaws.{overlay-front, wrote-from, appended-from, appended-of, appended-then, length-appended, reached-then, reached-last}
-use Rattle.word_spelling.specs.Spelling.{escape, spell, cost}
+use Rattle.word_spelling.specs.Spelling.{closing, escape, spell}
+use Rattle.word_spelling.specs.Cost.{cost}
 use Rattle.word_spelling.specs.SpellingLaws.{length-spell, spell-high, escapes, alone-ascii}
 use Rattle.word_spelling.specs.FirstChars.{firstChar, firstChars}
 use Rattle.word_spelling.specs.FirstCharsLaws.{spelt-alone, cost-alone, from-at, first-in}
 use Rattle.word_spelling.specs.HighChar.{HighChar}
 use Rattle.word_spelling.specs.HighCharLaws.{both, char-size, escapes-next, whole-end, whole-take, whole-cost}
-use Rattle.row.specs.Row.{closing, rowIn}
+use Rattle.row.specs.Row.{rowIn}
 use Rattle.row.specs.Stream.{start, gap, leftAfter, onwardsAt}
 use Rattle.row.specs.StreamLaws.{length-gap, turn, turned-four, onwards-end}
 use Rattle.row.specs.RowLaws.{row-start}

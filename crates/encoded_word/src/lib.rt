@@ -16,12 +16,13 @@ const LIMIT: usize = 4294967296;
 // The hex digits.
 const HEX_DIGITS: [u8; 16] = *b"0123456789ABCDEF";
 
-// Writes a text's row to the front of out, as far as it fits; answers the length of the whole row.
+// Writes a text's row to the front of out, as far as it fits; answers the length of the whole row. A text of more than 4 GiB counts as
+// empty.
 pub fn write(out: &mut [u8], text: &[u8]) -> usize
     ensures { λ r. ⌜ Wrote (row (bounded (now (text .entry)))) (now (out .entry)) (now (out .exit)) r ⌝ }
 {
     if out.len() == 0 {
-        return row::len(text);
+        return row_length::len(text);
     }
     if text.len() == 0 {
         return 0;
@@ -43,10 +44,10 @@ pub fn write(out: &mut [u8], text: &[u8]) -> usize
 pub fn len(text: &[u8]) -> usize
     ensures { λ r. ⌜ r ≡ length (row (bounded (now (text .entry)))) ⌝ }
 {
-    row::len(text)
+    row_length::len(text)
 }
 
-// Writes a text's row from a place on, as far as it fits; answers the place after it.
+// Writes a text's row from a place on, as far as it fits; answers the place after it, at most the greatest usize.
 pub fn add(out: &mut [u8], at: usize, text: &[u8]) -> usize
     ensures { λ r. ⌜ AppendedCapped (row (bounded (now (text .entry)))) at (now (out .entry)) (now (out .exit)) r ⌝ }
 {

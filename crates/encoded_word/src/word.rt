@@ -3,7 +3,7 @@ ghost use mathlib.Core.Path.{_≡_};
 ghost use Prim.Native.Nat.{_+_, _≤_};
 ghost use lib.ListN.{length};
 ghost use Rattle.buffer.specs.Buffer.{Appended};
-ghost use Rattle.row.specs.Row.{closing};
+ghost use Rattle.word_spelling.specs.Spelling.{closing};
 ghost use Rattle.row.specs.Stream.{start, gap, leftAfter};
 
 // A place in the output, and the room that is left in the open word.

@@ -64,7 +64,7 @@ fine-is NoAlternative e = absurd (true-yes false e)
 fine-is BadAlternative e = absurd (true-yes false e)
 
 module _ (mail : Bool) (line : List ℕ) (f : isFine (endedFault mail line) ≡ true) where
-  ended : crlf (drop (lineLen line) line) ≡ true
+  pub ended : crlf (drop (lineLen line) line) ≡ true
   unfolding endedFault isFine faultNumber
   ended =
       by-test (crlf (drop (lineLen line) line)) (yes-true (crlf (drop (lineLen line) line)))

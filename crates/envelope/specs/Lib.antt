@@ -8,4 +8,6 @@ pub mod WrittenLaws
 pub mod LengthLaws
 pub mod AsciiLaws
 pub mod ReplacementLaws
+pub mod EnvelopeDemand
+pub mod EnvelopeDemandLaws
 pub mod EnvelopeCases

@@ -6,6 +6,7 @@ use Prim.Native.Nat.{ℕ, suc, _+_, _≤_}
 use native.Mathlib.Omega.{arith}
 use lib.Dec.{ltb, eqb·suc-zero}
 use lib.ListN.{length}
+use mir.Facts.{ltb-no}
 use Rattle.lists.specs.ListsLaws.{by-test, yes-true, no-false}
 use Rattle.envelope_line.specs.declared.Fault.the-variants.{Fine}
 use Rattle.envelope.specs.declared.Checked.the-variants.{Passed, Refused}
@@ -24,18 +25,19 @@ passed-line n m line more p =
 
 -- the number of RCPT lines, after n of them
 pub passed-count : (n at m : ℕ) (rcpts : List (List ℕ)) → n ≤ 100 → checkedFrom (suc n) rcpts ≡ Passed m
-    → (n + length (startsFrom (suc n) at rcpts) ≡ m) × (m ≤ 100)
+    → (n + length (startsFrom (suc n) at rcpts) ≡ m) × (m ≤ 100) × (n + length rcpts ≡ m) × (1 ≤ m)
 unfolding checkedFrom startsFrom
 passed-count n at m [] few p =
     by-test (ltb (suc n) 2)
     (λ t. absurd (let q = rw (yes-true (ltb (suc n) 2) t) at p in let z : _≡_ {A = ℕ} 0 1 = cc in omega arith))
     (λ t. let q : Passed n ≡ Passed m = rw (no-false (ltb (suc n) 2) t) at p in
     let same : n ≡ m = cc in
-    (omega arith, omega arith))
+    let some : 2 ≤ suc n = ltb-no {a = suc n} {b = 2} t in
+    (omega arith, omega arith, omega arith, omega arith))
 passed-count n at m (line ∷ more) few p =
     let f = passed-line (suc n) m line more p in
     let k = passed-count (suc n) (at + length line) m more (fine-few (suc n) line (f .0)) (f .1) in
-    (rw (f .0) (omega (arith, k .0)), k .1)
+    (rw (f .0) (omega (arith, k .0)), k .1, omega (arith, k .2), k .3)
 
 -- RCPT lines without fault
 abbrev pub RcptsFine : List (List ℕ) → Type 0

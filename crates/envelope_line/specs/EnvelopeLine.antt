@@ -8,7 +8,7 @@ use Prim.Native.Nat.{ℕ, suc, _+_}
 use lib.Dec.{eqb, leb}
 use lib.ListN.{length, take, drop, getD}
 use Rattle.lists.specs.Lists.{all}
-use Rattle.lists.specs.Byte.{within, isAscii}
+use Rattle.lists.specs.Byte.{isAscii}
 use Rattle.utf8.specs.Utf8.{utf8}
 use Rattle.letter_case.specs.LetterCase.{bytes, sameAnyCase}
 use Rattle.address.specs.declared.Scan.{Scan}

@@ -125,7 +125,7 @@ module _ (mail : Bool) (line : List ℕ) where
               let m : n - verbLen mail ≡ pathLen mail line = omega arith in
               q ∙ rw (le-leb (length line) 998 l, u, v, path-is-to e, ← k, eq-eqb (getD line n 0) 62 o, b, d, m)
 
--- ---- a line without fault
+-- ---- a line that is well-formed
 
 pub record Formed (mail : Bool) (line : List ℕ) : Type 0 where
   pub short : length line ≤ 998
@@ -134,27 +134,19 @@ pub record Formed (mail : Bool) (line : List ℕ) : Type 0 where
   pub has-path : T (hasPath mail line)
   pub is-spaced : T (spaced (tail mail line))
   pub are-params : T (all isParam (params (tail mail line)))
+  pub alts-ok : T (altsOk (alts (params (tail mail line))))
 
-module _ (mail : Bool) (line : List ℕ) (f : lineFault mail line ≡ Fine) where
-  well-formed : T (wellFormed mail line)
-  unfolding lineFault
-  well-formed = by-test (wellFormed mail line) (λ t. t) (λ t. absurd (
-      let q = rw (no-false (wellFormed mail line) t) at f in let z : _≡_ {A = ℕ} 0 1 = cc in omega arith))
-
-  pub alt-fine : altFault (all isAscii (path mail line)) (alts (params (tail mail line))) ≡ Fine
-  unfolding lineFault
-  alt-fine = rw (yes-true (wellFormed mail line) well-formed) at f
-
-  pub formed : Formed mail line
+module _ (mail : Bool) (line : List ℕ) where
+  pub formed-of : T (wellFormed mail line) → Formed mail line
   unfolding wellFormed
-  formed =
+  formed-of w =
       let l = leb (length line) 998 in
       let u = utf8 line in
       let v = hasVerb mail line in
       let p = hasPath mail line in
       let s = spaced (tail mail line) in
       let q = all isParam (params (tail mail line)) in
-      let a = and-yes (l && u && v && p && s && q) (altsOk (alts (params (tail mail line)))) well-formed in
+      let a = and-yes (l && u && v && p && s && q) (altsOk (alts (params (tail mail line)))) w in
       let b = and-yes (l && u && v && p && s) q (a .0) in
       let d = and-yes (l && u && v && p) s (b .0) in
       let e = and-yes (l && u && v) p (d .0) in
@@ -167,11 +159,30 @@ module _ (mail : Bool) (line : List ℕ) (f : lineFault mail line ≡ Fine) wher
         has-path = e .1;
         is-spaced = d .1;
         are-params = b .1;
+        alts-ok = a .1;
       }
 
   -- the `>` after its path
-  pub closed : getD line (verbLen mail + pathLen mail line) 0 ≡ 62
+  pub closed-of : Formed mail line → getD line (verbLen mail + pathLen mail line) 0 ≡ 62
   unfolding hasPath
-  closed =
+  closed-of k =
       let n = verbLen mail + pathLen mail line in
-      eqb→eq (getD line n 0) 62 (and-yes (isTo (pathScan mail (drop (verbLen mail) line))) (eqb (getD line n 0) 62) (formed .has-path) .1)
+      eqb→eq (getD line n 0) 62 (and-yes (isTo (pathScan mail (drop (verbLen mail) line))) (eqb (getD line n 0) 62) (k .has-path) .1)
+
+-- ---- a line without fault
+
+module _ (mail : Bool) (line : List ℕ) (f : lineFault mail line ≡ Fine) where
+  pub well-formed : T (wellFormed mail line)
+  unfolding lineFault
+  well-formed = by-test (wellFormed mail line) (λ t. t) (λ t. absurd (
+      let q = rw (no-false (wellFormed mail line) t) at f in let z : _≡_ {A = ℕ} 0 1 = cc in omega arith))
+
+  pub alt-fine : altFault (all isAscii (path mail line)) (alts (params (tail mail line))) ≡ Fine
+  unfolding lineFault
+  alt-fine = rw (yes-true (wellFormed mail line) well-formed) at f
+
+  pub formed : Formed mail line
+  formed = formed-of mail line well-formed
+
+  pub closed : getD line (verbLen mail + pathLen mail line) 0 ≡ 62
+  closed = closed-of mail line formed

@@ -1,4 +1,8 @@
 pub mod EnvelopeLine
+pub mod LineGrammar
+pub mod TailGrammarLaws
+pub mod LineGrammarLaws
+pub mod LineBytesLaws
 pub mod PathLaws
 pub mod FaultLaws
 pub mod WriteLaws

@@ -65,7 +65,7 @@ fn add_text(out: &mut [u8], at: usize, line: &[u8], mail: bool) -> usize
     add_without_alt(out, c, line, rest)
 }
 
-// The same with CRLF.
+// Writes a line, its path replaced where that is not ASCII, and CRLF from a place on, as far as they fit; answers the place after.
 pub fn add_line(out: &mut [u8], at: usize, line: &[u8], mail: bool) -> usize
     ensures { λ r. ⌜ AppendedCapped (writtenLine mail (now (line .entry)) ++ (13 ∷ 10 ∷ [])) at (now (out .entry)) (now (out .exit)) r ⌝ }
 {

@@ -1,18 +1,17 @@
--- Fields that are wholly ASCII, one after another. Assumes nothing.
-use mathlib.Core.Path.{_≡_}
-use mathlib.Core.List.{List, _++_}
-use Prim.Native.Nat.{ℕ, _-_, _≤_}
-use lib.Dec.{T}
-use lib.ListN.{length, take, drop}
+-- Fields that are wholly ASCII, one after another: code passes over them together. Assumes nothing.
+use mathlib.Core.Bool.{cond}
+use mathlib.Core.List.{List, [], _∷_}
+use Prim.Native.Nat.{ℕ, _+_}
+use lib.ListN.{length, drop}
 use Rattle.lists.specs.Lists.{all, joined}
 use Rattle.lists.specs.Byte.{isAscii}
 use Rattle.header.specs.Fields.{fieldsOf}
 
--- From `at` up to r stand fields that are wholly ASCII, perhaps none.
-pub record AsciiFields (h : List ℕ) (at r : ℕ) : Type 0 where
-  pub passed : List (List ℕ)
-  pub up : at ≤ r
-  pub inside : at ≤ length h → r ≤ length h
-  pub fields : fieldsOf (drop at h) ≡ passed ++ fieldsOf (drop r h)
-  pub bytes : joined passed ≡ take (r - at) (drop at h)
-  pub ascii : T (all (all isAscii) passed)
+-- the fields at the front of these that are wholly ASCII, up to the first that is not
+unfoldable pub asciiFields : List (List ℕ) → List (List ℕ)
+asciiFields [] = []
+asciiFields (field ∷ fields) = let more = asciiFields fields in cond (all isAscii field) (field ∷ more) []
+
+-- the place after them, for the fields from the byte `at` of a header on
+unfoldable pub asciiFieldsEnd : List ℕ → ℕ → ℕ
+asciiFieldsEnd h at = at + length (joined (asciiFields (fieldsOf (drop at h))))

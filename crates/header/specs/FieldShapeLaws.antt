@@ -17,9 +17,9 @@ use Rattle.lists.specs.Run.{run}
 use Rattle.lists.specs.RunLaws.{run-all, run-past}
 use Rattle.utf8.specs.Utf8.{utf8}
 use Rattle.utf8.specs.Utf8Laws.{utf8-right, utf8-append, utf8-ascii, utf8-cut}
-use Rattle.header_line.specs.Lines.{lineByte, nameByte, nameLen, named, continuation, wellFormed, lineOk, linesFrom, checkedLines}
+use Rattle.header_line.specs.Lines.{lineByte, nameByte, nameLen, named, continuation, wellFormed, lineOk, checkedLines}
 use Rattle.line.specs.Line.{blank, crlf, lineLen, notCr}
-use Rattle.header_line.specs.LineLaws.{front-good, front-bad}
+use Rattle.header_line.specs.LineLaws.{linesAt, front-good, front-bad}
 use Rattle.line.specs.LineLaws.{crlf-inside}
 use Rattle.header.specs.Fields.{fold, fieldLen, fieldsOf, nameOf, valueOf, unfoldedAfter, trimmed, textOf}
 use Rattle.header.specs.FieldLaws.{ends, len-cons, len-past, fields-nil, fields-front}
@@ -241,22 +241,22 @@ continued-follow line h t (Follow.starts f) = Follow.continues line [] h (alone 
 
 -- ---- line after line
 
-pub well-piece : (first : Bool) (line : List ℕ) → T (wellFormed first line) → T (piece line)
+-- what a well-formed line is made of, and how it starts
+well-parts : (first : Bool) (line : List ℕ) → T (wellFormed first line) → T (piece line) × T (continuation first line || named line)
 unfolding wellFormed piece
-well-piece first line t =
+well-parts first line t =
     let size = within 1 998 (length line) in
     let c = and-yes (size && all lineByte line && utf8 line) (continuation first line || named line) t in
     let b = and-yes (size && all lineByte line) (utf8 line) (c .0) in
-    yes-and (all lineByte line) (utf8 line) (and-yes size (all lineByte line) (b .0) .1) (b .1)
+    (yes-and (all lineByte line) (utf8 line) (and-yes size (all lineByte line) (b .0) .1) (b .1), c .1)
 
-well-start : (first : Bool) (line : List ℕ) → T (wellFormed first line) → T (continuation first line || named line)
-unfolding wellFormed
-well-start first line t = and-yes (within 1 998 (length line) && all lineByte line && utf8 line) (continuation first line || named line) t .1
+pub well-piece : (first : Bool) (line : List ℕ) → T (wellFormed first line) → T (piece line)
+well-piece first line t = well-parts first line t .0
 
 well-continued : (first : Bool) (line : List ℕ) → T (wellFormed first line) → T (not (named line)) → T (continued line)
 unfolding continued continuation
 well-continued first line t n =
-    let start : T (continuation first line || false) = rw (no-false (named line) n) at (well-start first line t) in
+    let start : T (continuation first line || false) = rw (no-false (named line) n) at (well-parts first line t .1) in
     yes-and (piece line) (blank (getD line 0 0)) (well-piece first line t) (left (blank (getD line 0 0)) (not first) start)
   where
     left : (a b : Bool) → T (a && b || false) → T a
@@ -280,7 +280,7 @@ pub record Cut (n at : ℕ) (h : List ℕ) : Type 0 where
   pub next : ℕ
   pub is : h ≡ line ++ (13 ∷ 10 ∷ others)
   pub well : T (wellFormed (eqb n 0) line)
-  pub left : linesFrom 0 n at h ≡ linesFrom 0 (n + 1) next others
+  pub left : linesAt n at h ≡ linesAt (n + 1) next others
   pub after : next ≡ at + (length line + 2)
   pub shorter : length others < length h
 
@@ -306,7 +306,7 @@ different : {n at : ℕ} → Malformed n at ≡ WellFormed → ⊥
 different e = let z : _≡_ {A = ℕ} 0 1 = cc in omega arith
 
 -- where the lines are well formed, the first one is
-first-well : (n at : ℕ) (h : List ℕ) → 0 < length h → linesFrom 0 n at h ≡ WellFormed → T (lineOk (eqb n 0) h)
+first-well : (n at : ℕ) (h : List ℕ) → 0 < length h → linesAt n at h ≡ WellFormed → T (lineOk (eqb n 0) h)
 first-well n at h k e =
     by-test (lineOk (eqb n 0) h) (λ t. t) (λ t. absurd (different (sym (front-bad n at h k (no-false (lineOk (eqb n 0) h) t)) ∙ e)))
 
@@ -315,7 +315,7 @@ follow-none [] k = Follow.starts fresh-nil
 follow-none (b ∷ rest) k = absurd (omega arith)
 
 -- by the number of bytes
-follow : (m n at : ℕ) (h : List ℕ) → length h ≤ m → linesFrom 0 n at h ≡ WellFormed → Follow h
+follow : (m n at : ℕ) (h : List ℕ) → length h ≤ m → linesAt n at h ≡ WellFormed → Follow h
 follow zero n at h k e = follow-none h k
 follow (suc m) n at h k e =
     by-test (leb 1 (length h))
@@ -327,7 +327,7 @@ follow (suc m) n at h k e =
 
 first-named : (line : List ℕ) → T (wellFormed true line) → T (named line)
 unfolding continuation
-first-named line t = rw and-false at (well-start true line t)
+first-named line t = rw and-false at (well-parts true line t .1)
 
 -- each field of a header without malformed lines is a name, a colon, a value and CRLF
 pub fields-shaped : (h : List ℕ) → checkedLines h ≡ WellFormed → Each Shaped (fieldsOf h)

@@ -2,7 +2,6 @@ pub mod Fields
 pub mod FieldLaws
 pub mod FieldShape
 pub mod FieldShapeLaws
-pub mod HeaderCases
 pub mod AsciiFields
 pub mod AsciiFieldsLaws
 pub mod LineNumberLaws

@@ -10,9 +10,9 @@ use lib.Seq.{take-append-add}
 use mir.Facts.{and-yes, leb-yes, leb-no}
 use Rattle.lists.specs.Lists.{all}
 use Rattle.lists.specs.ListsLaws.{by-test, no-false}
-use Rattle.header_line.specs.Lines.{lineByte, lineOk, linesFrom, checkedLines}
+use Rattle.header_line.specs.Lines.{lineByte, lineOk, checkedLines}
 use Rattle.line.specs.Line.{crlf}
-use Rattle.header_line.specs.LineLaws.{front-bad}
+use Rattle.header_line.specs.LineLaws.{linesAt, lines-none, front-bad}
 use Rattle.header.specs.Fields.{lineCount}
 use Rattle.header.specs.FieldShapeLaws.{Cut, cut-line, well-piece, piece-bytes, line-not-cr}
 use Rattle.header_line.specs.declared.LineCheck.the-variants.{WellFormed, Malformed}
@@ -47,9 +47,8 @@ here n at m to h e =
     let none : to - at ≡ 0 = omega (arith, same-place e) in
     record { up = omega (arith, same-place e); count = rw (none, add-zero) (same-line e) }
 
-none-left : (n at m to : ℕ) (h : List ℕ) → length h ≤ 0 → linesFrom 0 n at h ≡ Malformed m to → Numbered n at m to h
-unfolding linesFrom
-none-left n at m to [] k e = absurd (never e)
+none-left : (n at m to : ℕ) (h : List ℕ) → length h ≤ 0 → linesAt n at h ≡ Malformed m to → Numbered n at m to h
+none-left n at m to [] k e = absurd (never (sym (lines-none n at) ∙ e))
 none-left n at m to (b ∷ rest) k e = absurd (omega arith)
 
 past-line : (n at m to : ℕ) (h : List ℕ) (c : Cut n at h) → Numbered (n + 1) (c .next) m to (c .others) → Numbered n at m to h
@@ -67,7 +66,7 @@ past-line n at m to h c r =
     take-two j rest = let e : 2 + j ≡ suc (suc j) = omega arith in rw e
 
 -- by the number of bytes
-numbered : (k n at m to : ℕ) (h : List ℕ) → length h ≤ k → linesFrom 0 n at h ≡ Malformed m to → Numbered n at m to h
+numbered : (k n at m to : ℕ) (h : List ℕ) → length h ≤ k → linesAt n at h ≡ Malformed m to → Numbered n at m to h
 numbered zero n at m to h l e = none-left n at m to h l e
 numbered (suc k) n at m to h l e =
     by-test (leb 1 (length h))

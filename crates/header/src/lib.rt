@@ -6,8 +6,8 @@ ghost use Rattle.lists.specs.Lists.{all};
 ghost use Rattle.lists.specs.Byte.{isAscii};
 ghost use Rattle.header.specs.Fields.{fieldLen, valueOf, lineCount};
 ghost use Rattle.header.specs.FieldLaws.{ends};
-ghost use Rattle.header.specs.AsciiFields.{AsciiFields};
-ghost use Rattle.header.specs.AsciiFieldsLaws.{Boundary};
+ghost use Rattle.header.specs.AsciiFields.{asciiFieldsEnd};
+ghost use Rattle.header.specs.AsciiFieldsLaws.{LastEnd};
 use header_line::name_len;
 use line::is_blank;
 
@@ -39,7 +39,7 @@ pub fn field_end(h: &[u8], at: usize) -> usize
 // The last place from `at` up to `to` where a field ends; `at` where there is none. From the end, since it is mostly near.
 fn last_field_end(h: &[u8], at: usize, to: usize) -> usize
     requires { ⌜ (at ≤ to) × (to ≤ length (now h)) ⌝ }
-    ensures { λ r. ⌜ (at ≤ r) × (r ≤ to) × Boundary (now (h .entry)) at r ⌝ }
+    ensures { λ r. ⌜ LastEnd (now (h .entry)) at to r ⌝ }
 {
     let mut i = to;
     while 2 <= i - at {
@@ -54,7 +54,7 @@ fn last_field_end(h: &[u8], at: usize, to: usize) -> usize
 // The place after the fields from `at` on that are wholly ASCII, up to the first one that is not. They are passed over without a
 // look at their names or values.
 pub fn ascii_fields_end(h: &[u8], at: usize) -> usize
-    ensures { λ r. ⌜ AsciiFields (now (h .entry)) at r ⌝ }
+    ensures { λ r. ⌜ r ≡ asciiFieldsEnd (now (h .entry)) at ⌝ }
 {
     let high = utf8::ascii_end(h, at);
     if h.len() <= high {

@@ -19,9 +19,11 @@ use Rattle.lists.specs.RunLaws.{run-le, run-all, run-step}
 use Rattle.utf8.specs.Utf8.{charLen, isChar, charAt, utf8}
 use Rattle.utf8.specs.Utf8Laws.{char-len-some, char-high, utf8-right, utf8-ascii, utf8-char, utf8-of}
 use Rattle.utf8.specs.Utf8AtLaws.{whole-char, char-at-some, char-at-within, utf8-stop}
-use Rattle.header_line.specs.Lines.{lineByte, nameByte, nameLen, named, continuation, wellFormed, lineOk, linesFrom, checkedLines}
+use Rattle.header_line.specs.Lines.{lineByte, nameByte, nameLen, named, continuation, wellFormed, lineOk, linesOf, linesFrom, checkedLines}
 use Rattle.line.specs.Line.{blank, crlf, lineLen}
-use Rattle.line.specs.LineLaws.{crlf-inside}
+use Rattle.lists.specs.CutByLaws.{cut-nil, cut-front}
+use Rattle.line.specs.LineLaws.{crlf-inside, line-front, crlf-front}
+use Rattle.header_line.specs.declared.LineCheck.{LineCheck}
 use Rattle.header_line.specs.declared.LineCheck.the-variants.{WellFormed, Malformed}
 
 -- ---- the text of a line
@@ -268,7 +270,6 @@ line-ok first h =
     let line = take (lineLen h) h in
     regroup (crlf (drop (lineLen h) h)) (within 1 998 (length line)) (all lineByte line) (utf8 line) (continuation first line || named line)
 
--- a CRLF at a place lies in the list
 -- what code answers of the line at `at`: the place after it, or `at` where it is malformed
 pub record Lined (h : List ℕ) (at : ℕ) (first : Bool) (r : ℕ) : Type 0 where
   pub malformed : r ≡ at → lineOk first (drop at h) ≡ false
@@ -341,40 +342,52 @@ module _ (first : Bool) (line : List ℕ) where
 
 -- ---- line after line
 
-lines-skip : (k n at : ℕ) (xs : List ℕ) → linesFrom k n at xs ≡ linesFrom 0 n (at + k) (drop k xs)
-unfolding linesFrom
-lines-skip zero n at [] = refl
-lines-skip zero n at (b ∷ rest) = rw add-zero
-lines-skip (suc k) n at [] = refl
-lines-skip (suc k) n at (b ∷ rest) = let e : at + suc k ≡ suc at + k = omega arith in rw e (lines-skip k n (suc at) rest)
+-- the lines of what is left of a header, where line n starts at the byte `at`
+abbrev pub linesAt : ℕ → ℕ → List ℕ → LineCheck
+linesAt n at h = linesFrom n at (linesOf h)
+
+pub lines-none : (n at : ℕ) → linesAt n at [] ≡ WellFormed
+unfolding linesOf linesFrom
+lines-none n at = rw (cut-nil (λ rest. lineLen rest + 2))
+
+-- a line is cut off with its CRLF
+ok-front : (first : Bool) (h : List ℕ) → lineOk first (take (lineLen h + 2) h) ≡ lineOk first h
+unfolding lineOk
+ok-front first h = rw (line-front h, crlf-front h, take-take (lineLen h) (lineLen h + 2) h (omega arith))
+
+lines-front : (n at : ℕ) (xs : List ℕ) → 0 < length xs
+    → linesAt n at xs ≡ linesFrom n at (take (lineLen xs + 2) xs ∷ linesOf (drop (lineLen xs + 2) xs))
+unfolding linesOf
+lines-front n at xs h = ap (linesFrom n at) (cut-front (λ rest. lineLen rest + 2) xs h (omega arith))
+
+ended : (first : Bool) (h : List ℕ) → lineOk first h ≡ true → lineLen h + 2 ≤ length h
+unfolding lineOk
+ended first h e =
+    let m = lineLen h in
+    crlf-inside h m (yes-true (crlf (drop m h)) (and-yes (crlf (drop m h)) (wellFormed first (take m h)) (true-yes (lineOk first h) e) .0))
 
 pub front-good : (n at : ℕ) (xs : List ℕ) → 0 < length xs → lineOk (eqb n 0) xs ≡ true
-    → linesFrom 0 n at xs ≡ linesFrom 0 (n + 1) (at + (lineLen xs + 2)) (drop (lineLen xs + 2) xs)
+    → linesAt n at xs ≡ linesAt (n + 1) (at + (lineLen xs + 2)) (drop (lineLen xs + 2) xs)
 unfolding linesFrom
-front-good n at [] h e = absurd (not-suc-le-zero h)
-front-good n at (b ∷ rest) h e =
-    let m = lineLen (b ∷ rest) in
-    let q : m + 2 ≡ suc (suc m) = omega arith in
-    let p : at + suc (suc m) ≡ suc at + suc m = omega arith in
-    rw (e, q, p, add-one) (lines-skip (suc m) (suc n) (suc at) rest)
+front-good n at xs h e =
+    lines-front n at xs h
+    ∙ rw (ok-front (eqb n 0) xs, e, length-take-le (lineLen xs + 2) xs (ended (eqb n 0) xs e), add-one)
 
-pub front-bad : (n at : ℕ) (xs : List ℕ) → 0 < length xs → lineOk (eqb n 0) xs ≡ false → linesFrom 0 n at xs ≡ Malformed n at
+pub front-bad : (n at : ℕ) (xs : List ℕ) → 0 < length xs → lineOk (eqb n 0) xs ≡ false → linesAt n at xs ≡ Malformed n at
 unfolding linesFrom
-front-bad n at [] h e = absurd (not-suc-le-zero h)
-front-bad n at (b ∷ rest) h e = rw e
+front-bad n at xs h e = lines-front n at xs h ∙ rw (ok-front (eqb n 0) xs, e)
 
 -- what is left to check at `at`, where line n starts
 pub record Left (h : List ℕ) (n at : ℕ) : Type 0 where
   pub count : n ≤ at
-  pub same : checkedLines h ≡ linesFrom 0 n at (drop at h)
+  pub same : checkedLines h ≡ linesAt n at (drop at h)
 
 pub left-all : (h : List ℕ) → Left h 0 0
 unfolding checkedLines
 left-all h = record { count = omega arith; same = refl }
 
 pub left-end : {h : List ℕ} {n at : ℕ} → Left h n at → length h ≤ at → WellFormed ≡ checkedLines h
-unfolding linesFrom
-left-end {h} {n} {at} l k = sym (l .same ∙ rw (drop-of-length-le h {i = at} k))
+left-end {h} {n} {at} l k = sym (l .same ∙ rw (drop-of-length-le h {i = at} k) (lines-none n at))
 
 module _ {h : List ℕ} {n at r : ℕ} (l : Left h n at) where
   pub left-bad : at < length h → Lined h at (eqb n 0) r → r ≡ at → Malformed n at ≡ checkedLines h

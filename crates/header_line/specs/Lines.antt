@@ -1,12 +1,13 @@
 -- Header lines: what a well-formed line is, and the first malformed line of a header. Assumes nothing.
 use mathlib.Core.Bool.{Bool, cond, not, _&&_, _||_}
 use mathlib.Core.List.{List, [], _∷_}
-use Prim.Native.Nat.{ℕ, zero, suc}
+use Prim.Native.Nat.{ℕ, suc, _+_}
 use lib.Dec.{eqb}
 use lib.ListN.{length, take, drop, getD}
 use Rattle.lists.specs.Lists.{all}
 use Rattle.lists.specs.Byte.{within}
 use Rattle.lists.specs.Run.{run}
+use Rattle.lists.specs.CutBy.{cutBy}
 use Rattle.utf8.specs.Utf8.{utf8}
 use Rattle.line.specs.Line.{crlf, lineLen, blank}
 use Rattle.header_line.specs.declared.LineCheck.{LineCheck}
@@ -36,23 +37,21 @@ continuation first line = blank (getD line 0 0) && not first
 unfoldable pub wellFormed : Bool → List ℕ → Bool
 wellFormed first line = within 1 998 (length line) && all lineByte line && utf8 line && (continuation first line || named line)
 
--- the line at the front of what is left of a header: "Each line ends in CRLF", so what follows the last CRLF is malformed
-unfoldable pub lineOk : Bool → List ℕ → Bool
-lineOk first h = crlf (drop (lineLen h) h) && wellFormed first (take (lineLen h) h)
+-- ---- line after line
 
--- the lines of what is left of a header from the byte `at` on, after k bytes of the line before; the next line is number n. The
--- answer is the first malformed line, with the place where it starts.
-unfoldable pub linesFrom : ℕ → ℕ → ℕ → List ℕ → LineCheck
-linesFrom k n at [] = WellFormed
-linesFrom (suc k) n at (b ∷ rest) = linesFrom k n (suc at) rest
-linesFrom zero n at (b ∷ rest) =
-    cond (lineOk (eqb n 0) (b ∷ rest)) (linesFrom (suc (lineLen (b ∷ rest))) (suc n) (suc at) rest) (Malformed n at)
+-- the lines of a header, each with its CRLF; what follows the last CRLF is a line too
+unfoldable pub linesOf : List ℕ → List (List ℕ)
+linesOf h = cutBy (λ rest. lineLen rest + 2) h
+
+-- "Each line ends in CRLF"
+unfoldable pub lineOk : Bool → List ℕ → Bool
+lineOk first line = crlf (drop (lineLen line) line) && wellFormed first (take (lineLen line) line)
+
+-- the first malformed one of these lines, the first of which is line n and starts at the byte `at`
+unfoldable pub linesFrom : ℕ → ℕ → List (List ℕ) → LineCheck
+linesFrom n at [] = WellFormed
+linesFrom n at (line ∷ more) = let next = linesFrom (suc n) (at + length line) more in cond (lineOk (eqb n 0) line) next (Malformed n at)
 
 -- "A header may be empty." "Lines count from 0."
 unfoldable pub checkedLines : List ℕ → LineCheck
-checkedLines h = linesFrom 0 0 0 h
-
--- the paper's number and place: "5 | header line malformed | line"; 0 at 0 where there is none
-unfoldable pub lineAnswer : LineCheck → ℕ × ℕ
-lineAnswer WellFormed = (0, 0)
-lineAnswer (Malformed n at) = (5, n)
+checkedLines h = linesFrom 0 0 (linesOf h)

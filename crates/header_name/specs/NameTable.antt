@@ -7,7 +7,7 @@ use lib.ListN.{length}
 use Rattle.lists.specs.Lists.{joined}
 use Rattle.header_name.specs.declared.Kind.{Kind}
 use Rattle.header_name.specs.declared.Kind.the-variants.{Address, PlainText, Received, Commented, Parameterized, Held, Other}
-use Rattle.header_name.specs.Names.{Group, six, addressNames, plainTextNames, receivedNames, commentedNames, parameterizedNames, heldNames, groups}
+use Rattle.header_name.specs.Names.{six, addressNames, groups}
 use Rattle.letter_case.specs.LetterCase.{bytes, sameAnyCase}
 
 -- the letter that stands for a kind: A address, P plain text, R received, C commented, Q parameterized, H held, O other
@@ -38,9 +38,9 @@ pub record Entry : Type 0 where
 abbrev pub entry : ℕ → List ℕ → Entry
 entry kind name = record { name = name; kind = kind }
 
-unfoldable pub entriesOf : List Group → List Entry
+unfoldable pub entriesOf : List (Kind × List (List ℕ)) → List Entry
 entriesOf [] = []
-entriesOf (g ∷ gs) = map (entry (letter (g .kind))) (g .names) ++ entriesOf gs
+entriesOf ((kind, names) ∷ more) = map (entry (letter kind)) names ++ entriesOf more
 
 unfoldable pub entries : List Entry
 entries = entriesOf groups
@@ -56,13 +56,13 @@ startsFrom at [] = at ∷ []
 startsFrom at (e ∷ es) = at ∷ startsFrom (at + length (e .name)) es
 
 unfoldable pub starts : List ℕ
-unfolding startsFrom entries entriesOf letter six addressNames plainTextNames receivedNames commentedNames parameterizedNames heldNames groups bytes
+unfolding startsFrom entries entriesOf letter six addressNames groups bytes
 starts = startsFrom 0 entries
 
 unfoldable pub names : List ℕ
-unfolding entries entriesOf letter six addressNames plainTextNames receivedNames commentedNames parameterizedNames heldNames groups bytes
+unfolding entries entriesOf letter six addressNames groups bytes
 names = joined (map (λ (e : Entry). e .name) entries)
 
 unfoldable pub kinds : List ℕ
-unfolding entries entriesOf letter six addressNames plainTextNames receivedNames commentedNames parameterizedNames heldNames groups bytes
+unfolding entries entriesOf letter six addressNames groups bytes
 kinds = map (λ (e : Entry). e .kind) entries

@@ -13,7 +13,7 @@ use Rattle.lists.specs.ListsLaws.{by-test, yes-true, no-false}
 use Rattle.lists.specs.ByteLaws.{below}
 use Rattle.header_name.specs.declared.Kind.{Kind}
 use Rattle.header_name.specs.declared.Kind.the-variants.{Address, PlainText, Received, Commented, Parameterized, Held, Other}
-use Rattle.header_name.specs.Names.{Group, six, addressNames, plainTextNames, receivedNames, commentedNames, parameterizedNames, heldNames, groups, among, kindAmong, kindOf}
+use Rattle.header_name.specs.Names.{six, addressNames, groups, among, kindAmong, kindOf}
 use Rattle.letter_case.specs.LetterCase.{bytes, sameAnyCase}
 use Rattle.header_name.specs.NameTable.{Entry, entry, letter, lettered, entriesOf, entries, kindIn, startsFrom, starts, names, kinds}
 
@@ -36,10 +36,10 @@ letter-back Parameterized = refl
 letter-back Held = refl
 letter-back Other = refl
 
-kind-groups : (gs : List Group) (name : List ℕ) → kindAmong gs name ≡ kindIn (entriesOf gs) name
+kind-groups : (gs : List (Kind × List (List ℕ))) (name : List ℕ) → kindAmong gs name ≡ kindIn (entriesOf gs) name
 unfolding kindAmong entriesOf kindIn
 kind-groups [] name = refl
-kind-groups (g ∷ gs) name = sym (kind-part (letter (g .kind)) (g .names) (entriesOf gs) name ∙ rw (letter-back (g .kind), kind-groups gs name))
+kind-groups ((kind, names) ∷ more) name = sym (kind-part (letter kind) names (entriesOf more) name ∙ rw (letter-back kind, kind-groups more name))
 
 pub kind-table : (name : List ℕ) → kindOf name ≡ kindIn entries name
 unfolding kindOf entries
@@ -74,7 +74,7 @@ pub record Row (ns ss ks : List ℕ) (k : ℕ) : Type 0 where
   pub kind : getD ks k 0 ≡ getD entries k none .kind
 
 rowTest : ℕ → Bool
-unfolding startsFrom starts names kinds entries entriesOf letter six addressNames plainTextNames receivedNames commentedNames parameterizedNames heldNames groups bytes
+unfolding startsFrom starts names kinds entries entriesOf letter six addressNames groups bytes
 rowTest k =
     leb (k + 2) (length starts)
     && leb (k + 1) (length kinds)
@@ -117,7 +117,7 @@ row ns ss ks k n s t h = rw (n, s, t) (row-of k h)
 -- ---- the search
 
 count : length entries ≡ 32
-unfolding entries entriesOf six addressNames plainTextNames receivedNames commentedNames parameterizedNames heldNames groups
+unfolding entries entriesOf six addressNames groups
 count = refl
 
 -- what is left to search from entry k on

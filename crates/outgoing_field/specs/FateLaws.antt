@@ -23,8 +23,7 @@ use Rattle.rules.specs.declared.Rules.{Rules}
 use Rattle.header_line.specs.Lines.{nameLen}
 use Rattle.header.specs.Fields.{fieldLen, fieldsOf, nameOf, valueOf, textOf, lineCount}
 use Rattle.header.specs.FieldLaws.{field-le, fields-nil, fields-next, name-part}
-use Rattle.header.specs.AsciiFields.{AsciiFields}
-use Rattle.header.specs.AsciiFieldsLaws.{value-ascii}
+use Rattle.header.specs.AsciiFieldsLaws.{AsciiFields, value-ascii}
 use Rattle.field_text.specs.TextPlace.{textPlace}
 use Rattle.field_text.specs.TextLaws.{wrote-front, length-text, text-there}
 use Rattle.field_text.specs.declared.TextPlace.the-variants.{InPlace}

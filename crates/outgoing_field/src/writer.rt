@@ -150,7 +150,7 @@ fn limited_len(n: usize) -> usize
 }
 
 // Writes what becomes of a field from a place on, as far as it fits; answers the place after it. A field whose value is ASCII is
-// copied; names are looked up only where it is not.
+// copied; names are looked up only where it is not. A field of more than 32,768 bytes counts as empty.
 pub fn add_field(out: &mut [u8], at: usize, rules: Rules, field: &[u8]) -> usize
     ensures { λ r. ⌜ AppendedCapped (rendered (fieldSegments rules (limited (now (field .entry))))) at (now (out .entry)) (now (out .exit)) r ⌝ }
 {
@@ -178,7 +178,7 @@ fn add_all(out: &mut [u8], at: usize, rules: Rules, h: &[u8]) -> usize
 }
 
 // Writes what becomes of the fields of a header from a place on, as far as it fits; answers the place after all of it. Fields that
-// are wholly ASCII are copied together.
+// are wholly ASCII are copied together. A header of more than 32,768 bytes counts as empty.
 pub fn add_fields(out: &mut [u8], at: usize, rules: Rules, h: &[u8]) -> usize
     ensures { λ r. ⌜ AppendedCapped (rendered (headerSegments rules (limited (now (h .entry))))) at (now (out .entry)) (now (out .exit)) r ⌝ }
 {

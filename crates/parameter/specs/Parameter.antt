@@ -36,7 +36,7 @@ keywordLen p = run isKeywordByte p
 unfoldable pub keyword : List ℕ → List ℕ
 keyword p = take (keywordLen p) p
 
--- a value follows the keyword
+-- something follows the keyword: in a parameter `=` and a value
 unfoldable pub hasValue : List ℕ → Bool
 hasValue p = ltb (keywordLen p) (length p)
 
@@ -90,6 +90,6 @@ altPlace (p ∷ ps) = let more = altPlace ps in cond (isAlt p) 0 (suc (length p)
 
 -- ---- ORCPT
 
--- "an ORCPT carries non-ASCII"
+-- no ORCPT, or one that is ASCII: not "an ORCPT carries non-ASCII"
 unfoldable pub orcptClean : List ℕ → Bool
 orcptClean p = not (isOrcpt p) || all isAscii (value p)

@@ -2,4 +2,11 @@ pub mod Row
 pub mod Stream
 pub mod StreamLaws
 pub mod RowLaws
-pub mod LengthLaws
+pub mod Layout
+pub mod LayoutLaws
+pub mod Reading
+pub mod ReadingLaws
+pub mod ReadingCases
+pub mod Demand3
+pub mod Demand3Laws
+pub mod CounterexampleLaws

@@ -7,19 +7,11 @@ use lib.ListN.{length}
 use Rattle.lists.specs.Lists.{joined}
 use Rattle.utf8.specs.Utf8.{chars}
 use Rattle.cut.specs.Cut.{cut}
-use Rattle.word_spelling.specs.Spelling.{spell, cost}
-
--- `=?UTF-8?Q?`
-abbrev pub opening : List ℕ
-opening = 61 ∷ 63 ∷ 85 ∷ 84 ∷ 70 ∷ 45 ∷ 56 ∷ 63 ∷ 81 ∷ 63 ∷ []
-
--- `?=`
-abbrev pub closing : List ℕ
-closing = 63 ∷ 61 ∷ []
+use Rattle.word_spelling.specs.Spelling.{opening, closing, spell}
 
 -- whether a word with this room holds these characters; every word has the same room, so k is not used
 abbrev pub fitsRoom : ℕ → ℕ → List (List ℕ) → Bool
-fitsRoom room k run = leb (cost (joined run)) room
+fitsRoom room k run = leb (length (spell (joined run))) room
 
 -- "A word takes as many whole characters as fit." No character, no word.
 unfoldable pub runs : ℕ → List (List ℕ) → List (List (List ℕ))

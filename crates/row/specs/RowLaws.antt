@@ -12,7 +12,8 @@ use Rattle.lists.specs.Lists.{all, joined}
 use Rattle.lists.specs.ListsLaws.{by-test}
 use Rattle.utf8.specs.Utf8.{chars}
 use Rattle.utf8.specs.Utf8Laws.{chars-cons, chars-nil, chars-joined}
-use Rattle.word_spelling.specs.Spelling.{spell, cost}
+use Rattle.word_spelling.specs.Spelling.{spell}
+use Rattle.word_spelling.specs.Cost.{cost}
 use Rattle.word_spelling.specs.SpellingLaws.{length-spell}
 use Rattle.word_spelling.specs.HighCharLaws.{both}
 use Rattle.row.specs.Row.{runs, lines, rowIn, bounded}

@@ -6,8 +6,8 @@ use Prim.Native.Nat.{ℕ, _+_, _-_, _*_, _≤_, _<_}
 use lib.Dec.{leb}
 use lib.ListN.{length, drop}
 use Rattle.utf8.specs.Utf8.{chars}
-use Rattle.word_spelling.specs.Spelling.{spell, cost}
-use Rattle.row.specs.Row.{opening, closing}
+use Rattle.word_spelling.specs.Spelling.{opening, closing, spell}
+use Rattle.word_spelling.specs.Cost.{cost}
 
 -- the start of a word on a line of its own
 unfoldable pub start : List ℕ

@@ -15,10 +15,11 @@ use Rattle.utf8.specs.Utf8.{charLen, chars}
 use Rattle.utf8.specs.Utf8Laws.{chars-short, char-len-some, chars-at, chars-end}
 use Rattle.cut.specs.Cut.{cut}
 use Rattle.cut.specs.CutLaws.{cut-more, cut-next}
-use Rattle.word_spelling.specs.Spelling.{spellByte, spell, byteCost, cost}
+use Rattle.word_spelling.specs.Spelling.{closing, spellByte, spell}
+use Rattle.word_spelling.specs.Cost.{byteCost, cost}
 use Rattle.word_spelling.specs.SpellingLaws.{spell-append, spell-one, length-spell}
 use Rattle.word_spelling.specs.HighCharLaws.{ascii-len, char-cut, one-byte}
-use Rattle.row.specs.Row.{closing, fitsRoom, runs, word, lines}
+use Rattle.row.specs.Row.{fitsRoom, runs, word, lines}
 use Rattle.row.specs.Stream.{start, gap, leftAfter, onwards, onwardsAt, Turned}
 
 -- ---- the room in the open word

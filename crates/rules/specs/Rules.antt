@@ -1,4 +1,5 @@
--- What the rules for address fields allow, and the fixed words that they write. Assumes nothing.
+-- What the rules for address fields allow, and the fixed words that they write. The base knows the spool's; current messages are those of
+-- change request 13, mailboxes those of 12. Assumes nothing.
 use mathlib.Core.Bool.{Bool, true, false}
 use mathlib.Core.List.{List, [], _∷_}
 use Prim.Native.Nat.{ℕ}

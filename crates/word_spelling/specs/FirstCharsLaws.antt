@@ -10,7 +10,8 @@ use lib.ListN.{length, take, drop, getD, length-append, drop-of-length-le}
 use lib.Seq.{drop-cons}
 use mir.Facts.{eqb-no, ltb-yes, ltb-no}
 use Rattle.lists.specs.ListsLaws.{by-test, cond-yes, cond-no}
-use Rattle.word_spelling.specs.Spelling.{bare, escape, spellByte, spell, byteCost, cost}
+use Rattle.word_spelling.specs.Spelling.{bare, escape, spellByte, spell}
+use Rattle.word_spelling.specs.Cost.{byteCost, cost}
 use Rattle.word_spelling.specs.SpellingLaws.{spell-bare, spell-space, spell-hex}
 use Rattle.word_spelling.specs.FirstChars.{firstChar, from, firstChars, costIn, costsIn}
 

@@ -1,12 +1,17 @@
 -- A character of which no byte is ASCII: each of its bytes is spelt as an escape. Assumes nothing.
 use mathlib.Core.Path.{_≡_}
+use mathlib.Core.Bool.{Bool}
 use Prim.Native.Nat.{ℕ, _+_, _≤_, _<_}
 use mathlib.Core.List.{List}
 use lib.Dec.{T}
 use lib.ListN.{length, take, drop, getD}
+use Rattle.lists.specs.Byte.{within}
 use Rattle.lists.specs.Lists.{all}
 use Rattle.utf8.specs.Utf8.{charLen}
-use Rattle.word_spelling.specs.Spelling.{high}
+
+-- a byte that is not ASCII
+abbrev pub high : ℕ → Bool
+high b = within 128 255 b
 
 -- The character at place i is whole, has r bytes, 2 to 4, and none of them is ASCII; or r is 0.
 pub record HighChar (s : List ℕ) (i r : ℕ) : Type 0 where

@@ -16,9 +16,10 @@ use Rattle.lists.specs.ListsLaws.{by-test, cond-yes, all-append}
 use Rattle.lists.specs.ByteLaws.{to-within}
 use Rattle.utf8.specs.Utf8.{charLen}
 use Rattle.utf8.specs.Utf8Laws.{char-len-le}
-use Rattle.word_spelling.specs.Spelling.{high, escape, cost}
+use Rattle.word_spelling.specs.Spelling.{escape}
+use Rattle.word_spelling.specs.Cost.{cost}
 use Rattle.word_spelling.specs.SpellingLaws.{length-spell, high-cost, escapes, escapes-append}
-use Rattle.word_spelling.specs.HighChar.{HighChar}
+use Rattle.word_spelling.specs.HighChar.{high, HighChar}
 
 -- ---- what code tests
 

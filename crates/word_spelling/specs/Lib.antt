@@ -1,6 +1,7 @@
 pub mod Spelling
+pub mod Cost
+pub mod HighChar
 pub mod SpellingLaws
 pub mod FirstChars
 pub mod FirstCharsLaws
-pub mod HighChar
 pub mod HighCharLaws

@@ -1,20 +1,23 @@
--- How encoded words write a byte: "Letters, digits and `!*+-/` stand for themselves, space is `_`, each other byte is `=` and
--- two uppercase hex digits." Assumes nothing.
+-- How encoded words are written: "A word is `=?UTF-8?Q?`, 1 to 63 characters, `?=`. Letters, digits and `!*+-/` stand for themselves,
+-- space is `_`, each other byte is `=` and two uppercase hex digits." Assumes nothing.
 use mathlib.Core.Bool.{Bool, cond, _||_}
 use mathlib.Core.List.{List, [], _∷_, _++_}
 use Prim.Native.Nat.{ℕ, _/_, _%_}
 use lib.Dec.{eqb}
-use lib.ListN.{length}
 use Rattle.lists.specs.Byte.{within}
 use Rattle.hex.specs.Hex.{hexDigit}
+
+-- `=?UTF-8?Q?`, which opens a word
+abbrev pub opening : List ℕ
+opening = 61 ∷ 63 ∷ 85 ∷ 84 ∷ 70 ∷ 45 ∷ 56 ∷ 63 ∷ 81 ∷ 63 ∷ []
+
+-- `?=`, which closes it
+abbrev pub closing : List ℕ
+closing = 63 ∷ 61 ∷ []
 
 -- the bytes that stand for themselves: letters, digits and !*+-/
 unfoldable pub bare : ℕ → Bool
 bare b = within 65 90 b || within 97 122 b || within 48 57 b || eqb b 33 || eqb b 42 || eqb b 43 || eqb b 45 || eqb b 47
-
--- a byte that is not ASCII
-abbrev pub high : ℕ → Bool
-high b = within 128 255 b
 
 -- `=` (61) and two uppercase hex digits
 abbrev pub escape : ℕ → List ℕ
@@ -28,10 +31,3 @@ spellByte b = cond (bare b) (b ∷ []) (cond (eqb b 32) (95 ∷ []) (escape b))
 unfoldable pub spell : List ℕ → List ℕ
 spell [] = []
 spell (b ∷ bytes) = spellByte b ++ spell bytes
-
--- how many characters of a word a byte takes, and some bytes take
-abbrev pub byteCost : ℕ → ℕ
-byteCost b = length (spellByte b)
-
-abbrev pub cost : List ℕ → ℕ
-cost bytes = length (spell bytes)

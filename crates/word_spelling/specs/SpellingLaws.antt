@@ -12,7 +12,9 @@ use mir.Facts.{and-yes, yes-and, no-eqb, ltb-yes, ltb-no}
 use Rattle.lists.specs.Lists.{all, joined}
 use Rattle.lists.specs.ListsLaws.{by-test, cond-yes, cond-no, joined-append}
 use Rattle.lists.specs.ByteLaws.{within-low, within-high, to-within, below, implies}
-use Rattle.word_spelling.specs.Spelling.{bare, high, escape, spellByte, spell, byteCost, cost}
+use Rattle.word_spelling.specs.Spelling.{bare, escape, spellByte, spell}
+use Rattle.word_spelling.specs.Cost.{byteCost, cost}
+use Rattle.word_spelling.specs.HighChar.{high}
 
 pub spell-bare : (b : ℕ) → T (bare b) → spellByte b ≡ b ∷ []
 unfolding spellByte

@@ -64,7 +64,7 @@ pub struct Taken {
     pub cost: usize,
 }
 
-// The same of the character at a place, by the table of first characters.
+// Where the character at a place ends, and what it takes, by the table of first characters.
 pub fn char_cost(first: &[u8; 256], s: &[u8], i: usize) -> Taken
     ensures { λ r. ⌜ (r .end ≡ min (i + charLen (getD (now (s .entry)) i 0)) (length (now (s .entry)))) × (r .cost ≡ costsIn (now (first .entry)) (take (r .end - i) (drop i (now (s .entry))))) ⌝ }
 {
@@ -78,7 +78,8 @@ pub fn char_cost(first: &[u8; 256], s: &[u8], i: usize) -> Taken
     Taken { end, cost: n }
 }
 
-// The length of the character at a place, where the text holds it whole and none of its bytes is ASCII; else 0.
+// The length of the character at a place, where the text holds it whole and none of its bytes is ASCII; else 0. Callers rely on a length
+// that is not 0, and go the long way at 0.
 pub fn high_size(s: &[u8], i: usize) -> usize
     ensures { λ r. ⌜ HighChar (now (s .entry)) i r ⌝ }
 {

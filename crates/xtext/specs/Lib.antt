@@ -1,3 +1,4 @@
 pub mod Xtext
 pub mod XtextLaws
-pub mod AddressCases
+pub mod Grammar
+pub mod GrammarLaws

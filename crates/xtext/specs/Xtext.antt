@@ -1,7 +1,6 @@
 -- xtext (RFC 3461): "xtext is bytes 33 to 126 other than `+` and `=`, or `+` with two uppercase hex digits." Assumes nothing.
 use mathlib.Core.Bool.{Bool, true, false, not, cond, _&&_}
 use mathlib.Core.List.{List, [], _∷_}
-use mathlib.Core.Option.{Option, none, some}
 use Prim.Native.Nat.{ℕ, zero, suc, pred, _+_, _*_}
 use lib.Dec.{eqb, leb, ltb}
 use lib.ListN.{length, getD}
@@ -52,15 +51,7 @@ isXtext s = decoding s .whole
 unfoldable pub decoded : List ℕ → List ℕ
 decoded s = decoding s .bytes
 
--- what xtext decodes to
-unfoldable pub xtextDecode : List ℕ → Option (List ℕ)
-xtextDecode s = cond (isXtext s) (some (decoded s)) none
-
 -- "xtext of an ASCII address": the decoded bytes are the address. An envelope line has at most 998 bytes, so that a longer value is
 -- none.
 unfoldable pub isAltAddress : List ℕ → Bool
 isAltAddress s = leb (length s) 998 && isXtext s && isAsciiAddress (decoded s)
-
--- the address that an ALT-ADDRESS value stands for
-unfoldable pub altAddress : List ℕ → Option (List ℕ)
-altAddress s = cond (isAltAddress s) (some (decoded s)) none

@@ -6,20 +6,19 @@ use mathlib.Core.List.{List, [], _∷_, _++_}
 use Prim.Native.Nat.{ℕ, zero, suc, pred, _+_, _*_, _-_, _≤_, _<_}
 use native.Mathlib.Omega.{arith}
 use lib.Dec.{T, eqb, ltb, leb}
-use mathlib.Core.Option.{none, some}
 use Rattle.address.specs.TakenLaws.{ascii-address-bytes}
 use lib.ListN.{length, take, drop, getD, length-drop, drop-of-length-le, List·getD-eq-default}
 use lib.Seq.{drop-drop, getD-drop}
 use mir.Facts.{and-yes}
 use Rattle.lists.specs.Lists.{all}
-use Rattle.lists.specs.ListsLaws.{cond-yes, cond-has}
+use Rattle.lists.specs.ListsLaws.{cond-has}
 use Rattle.lists.specs.Byte.{within}
 use Rattle.hex.specs.Hex.{isHexDigit, hexValue}
 use Rattle.buffer.specs.Buffer.{Wrote, AppendedCapped, Reached, greatest}
 use Rattle.buffer.specs.BufferLaws.{reached-start, reached-then, reached-end, reached-within, length-reached, appended-of, wrote-from, overlay-front}
 use Rattle.address.specs.Address.{isAsciiAddress}
 use Rattle.address.specs.AddressLaws.{front-byte}
-use Rattle.xtext.specs.Xtext.{isXchar, isHexchar, unitLen, unitByte, Decoding, byteBefore, decodingAfter, decoding, isXtext, decoded, isAltAddress, altAddress}
+use Rattle.xtext.specs.Xtext.{isXchar, isHexchar, unitLen, unitByte, Decoding, byteBefore, decodingAfter, decoding, isXtext, decoded, isAltAddress}
 
 -- ---- a unit: an xchar or a hexchar
 
@@ -190,7 +189,3 @@ unfolding isAltAddress
 alt-address value h =
     let address = and-yes (leb (length value) 998 && isXtext value) (isAsciiAddress (decoded value)) h .1 in
     (address, ascii-address-bytes (decoded value) address)
-
-pub alt-some : (value : List ℕ) → T (isAltAddress value) → altAddress value ≡ some (decoded value)
-unfolding altAddress
-alt-some value h = cond-yes (isAltAddress value) (some (decoded value)) none h

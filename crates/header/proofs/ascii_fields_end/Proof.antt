@@ -1,5 +1,4 @@
 use Rattle.header.specs.AsciiFieldsLaws.{ascii-rest, ascii-up-to}
-use native.Mathlib.Omega.{arith}
 use borrow.Author.Needs.{needs}
 use Rattle.header.proofs.ascii_fields_end.Statement.{statement}
 use Rattle.header.proofs.ascii_fields_end.Tie as tie
@@ -14,7 +13,7 @@ last-field-end-requires : tie.Need-last-field-end-requires
 last-field-end-requires c κs = search needs
 
 returns-2 : tie.Need-returns-2
-returns-2 c = ascii-up-to _ _ _ (c .before .before .ascii-end .ensures) (c .last-field-end .ensures .0) (c .last-field-end .ensures .1) (omega (arith, c .last-field-end .ensures .1, c .before .if1 .left)) (c .last-field-end .ensures .2)
+returns-2 c = ascii-up-to _ _ _ (c .before .before .ascii-end .ensures) (c .before .if1 .left) _ (c .last-field-end .ensures)
 
 pub ascii-fields-end-spec : {M : Type 1} → statement M
 ascii-fields-end-spec =

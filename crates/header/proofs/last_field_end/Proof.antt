@@ -1,4 +1,4 @@
-use Rattle.header.specs.AsciiFieldsLaws.{boundary-none, boundary-at}
+use Rattle.header.specs.AsciiFieldsLaws.{NoEnd, no-end-none, no-end-more, last-found, last-none}
 use Prim.Native.Nat.{_≤_, _-_}
 use native.Mathlib.Omega.{arith}
 use mathlib.Core.Path.{sym, _∙_}
@@ -6,13 +6,13 @@ use Rattle.header.proofs.last_field_end.Statement.{statement}
 use Rattle.header.proofs.last_field_end.Tie as tie
 
 abbrev Inv-loop : tie.InvT-loop
-Inv-loop h at to i₀ i = (at ≤ i) × (i ≤ to)
+Inv-loop h at to i₀ i = (at ≤ i) × (i ≤ to) × NoEnd h at i to
 
 abbrev μ-loop : tie.MeasureT-loop
 μ-loop h at to i₀ i = i - at
 
 loop-holds : tie.Need-loop-holds Inv-loop μ-loop
-loop-holds c = (c .before .pre .0, omega arith)
+loop-holds c = (c .before .pre .0, omega arith, no-end-none _ _ _)
 
 sub-loop : tie.Need-sub-loop Inv-loop μ-loop
 sub-loop c = c .loop .inv .0
@@ -24,7 +24,7 @@ ends-at-requires : tie.Need-ends-at-requires Inv-loop μ-loop
 ends-at-requires c κs = omega (arith, c .loop-test .taken, c .before .loop .inv .1, c .before .before .before .pre .1)
 
 returns : tie.Need-returns Inv-loop μ-loop
-returns c = (c .before .before .before .loop .inv .0, c .before .before .before .loop .inv .1, boundary-at (c .before .before .before .before .before .args .h .now) (c .before .before .before .before .before .args .at) (c .before .before .before .loop .i - 2) (c .before .before .before .loop .i) (omega (arith, c .before .before .loop-test .taken)) (omega (arith, c .before .before .loop-test .taken)) (sym (c .before .ends-at .ensures) ∙ c .if1 .taken))
+returns c = last-found (c .before .before .before .loop .i - 2) (c .before .before .before .loop .inv .2) (omega (arith, c .before .before .loop-test .taken)) (omega (arith, c .before .before .loop-test .taken)) (c .before .before .before .loop .inv .1) (sym (c .before .ends-at .ensures) ∙ c .if1 .taken)
 
 sub-i : tie.Need-sub-i Inv-loop μ-loop
 sub-i c = omega (arith, c .before .before .loop-test .taken)
@@ -33,10 +33,10 @@ loop-less : tie.Need-loop-less Inv-loop μ-loop
 loop-less c = omega (arith, c .before .before .loop-test .taken)
 
 loop-again : tie.Need-loop-again Inv-loop μ-loop
-loop-again c = (omega (arith, c .before .before .loop-test .taken), omega (arith, c .before .before .before .loop .inv .1))
+loop-again c = (omega (arith, c .before .before .loop-test .taken), omega (arith, c .before .before .before .loop .inv .1), no-end-more _ (c .before .before .before .loop .inv .2) (omega (arith, c .before .before .loop-test .taken)) (omega (arith, c .before .before .loop-test .taken)) (sym (c .before .ends-at .ensures) ∙ c .if1 .left))
 
 returns-2 : tie.Need-returns-2 Inv-loop μ-loop
-returns-2 c = (omega arith, c .before .before .before .pre .0, boundary-none _ _)
+returns-2 c = last-none (c .before .loop .inv .2) (c .before .before .before .pre .0) (omega (arith, c .before .loop .inv .0, c .loop-test .left))
 
 pub last-field-end-spec : {M : Type 1} → statement M
 last-field-end-spec =

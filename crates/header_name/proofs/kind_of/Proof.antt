@@ -1,6 +1,6 @@
 use mathlib.Core.Path.{refl}
 use Rattle.header_name.specs.NameTable.{startsFrom, starts, names, kinds, entries}
-use Rattle.header_name.specs.Names.{six, addressNames, plainTextNames, heldNames}
+use Rattle.header_name.specs.Names.{six, addressNames}
 use Rattle.letter_case.specs.LetterCase.{bytes}
 use borrow.Author.Needs.{needs}
 use Rattle.header_name.proofs.kind_of.Statement.{statement}

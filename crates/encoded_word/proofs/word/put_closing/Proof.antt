@@ -1,10 +1,10 @@
 use Rattle.buffer.specs.BufferLaws.{stores, appended-stores}
-use Rattle.row.specs.Row.{closing}
 use lib.ListN.{length-set}
 use native.Mathlib.Omega.{arith}
 use borrow.Author.Needs.{needs}
 use Rattle.encoded_word.proofs.word.put_closing.Statement.{statement}
 use Rattle.encoded_word.proofs.word.put_closing.Tie as tie
+use Rattle.word_spelling.specs.Spelling.{closing}
 
 slice-write-out : tie.Need-slice-write-out
 slice-write-out c = search needs

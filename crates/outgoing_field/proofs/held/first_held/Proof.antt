@@ -1,3 +1,4 @@
+use Rattle.header.specs.AsciiFieldsLaws.{ascii-fields}
 use Rattle.outgoing_field.specs.FateLaws.{HeldLeft, held-all, held-end, held-here, held-next, held-skip}
 use Rattle.header.specs.FieldLaws.{field-after}
 use lib.ListN.{length}
@@ -21,7 +22,7 @@ ascii-fields-end-requires : tie.Need-ascii-fields-end-requires Inv-loop μ-loop
 ascii-fields-end-requires c κs = search needs
 
 returns : tie.Need-returns Inv-loop μ-loop
-returns c = held-end (held-skip (c .before .before .before .loop .inv) (omega arith) (c .before .ascii-fields-end .ensures)) (c .if1 .taken)
+returns c = held-end (held-skip (c .before .before .before .loop .inv) (omega arith) (ascii-fields (c .before .ascii-fields-end .ensures))) (c .if1 .taken)
 
 field-end-requires : tie.Need-field-end-requires Inv-loop μ-loop
 field-end-requires c κs = search needs
@@ -51,13 +52,13 @@ line-count-requires : tie.Need-line-count-requires Inv-loop μ-loop
 line-count-requires c κs = search needs
 
 returns-2 : tie.Need-returns-2 Inv-loop μ-loop
-returns-2 c = held-here (held-skip (c .before .before .before .before .before .before .before .before .before .loop .inv) (omega (arith, c .before .before .before .before .before .before .before .before .loop-test .taken)) (c .before .before .before .before .before .before .before .ascii-fields-end .ensures)) (c .before .before .before .before .before .before .if1 .left) (c .before .before .before .before .before .field-end .ensures) (sym (c .before .before .before .is-held .ensures) ∙ c .before .before .if2 .taken) _ (c .line-count .ensures)
+returns-2 c = held-here (held-skip (c .before .before .before .before .before .before .before .before .before .loop .inv) (omega (arith, c .before .before .before .before .before .before .before .before .loop-test .taken)) (ascii-fields (c .before .before .before .before .before .before .before .ascii-fields-end .ensures))) (c .before .before .before .before .before .before .if1 .left) (c .before .before .before .before .before .field-end .ensures) (sym (c .before .before .before .is-held .ensures) ∙ c .before .before .if2 .taken) _ (c .line-count .ensures)
 
 loop-less : tie.Need-loop-less Inv-loop μ-loop
-loop-less c = let a = field-after _ _ _ (c .before .before .before .before .if1 .left) (c .before .before .before .field-end .ensures) in omega (arith, a .0, a .1, c .before .before .before .before .before .ascii-fields-end .ensures .up, c .before .before .before .before .before .before .loop-test .taken)
+loop-less c = let a = field-after _ _ _ (c .before .before .before .before .if1 .left) (c .before .before .before .field-end .ensures) in omega (arith, a .0, a .1, ascii-fields (c .before .before .before .before .before .ascii-fields-end .ensures) .up, c .before .before .before .before .before .before .loop-test .taken)
 
 loop-again : tie.Need-loop-again Inv-loop μ-loop
-loop-again c = held-next (held-skip (c .before .before .before .before .before .before .before .loop .inv) (omega (arith, c .before .before .before .before .before .before .loop-test .taken)) (c .before .before .before .before .before .ascii-fields-end .ensures)) (c .before .before .before .before .if1 .left) (c .before .before .before .field-end .ensures) (sym (c .before .is-held .ensures) ∙ c .if2 .left)
+loop-again c = held-next (held-skip (c .before .before .before .before .before .before .before .loop .inv) (omega (arith, c .before .before .before .before .before .before .loop-test .taken)) (ascii-fields (c .before .before .before .before .before .ascii-fields-end .ensures))) (c .before .before .before .before .if1 .left) (c .before .before .before .field-end .ensures) (sym (c .before .is-held .ensures) ∙ c .if2 .left)
 
 returns-3 : tie.Need-returns-3 Inv-loop μ-loop
 returns-3 c = held-end (c .before .loop .inv) (c .loop-test .left)

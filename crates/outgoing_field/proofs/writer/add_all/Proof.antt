@@ -1,3 +1,4 @@
+use Rattle.header.specs.AsciiFieldsLaws.{ascii-fields}
 use borrow.Author.Needs.{needs}
 use Rattle.outgoing_field.specs.FateLaws.{Fielding, fielding-start, fielding-skip, fielding-next, fielding-end, length-fielding}
 use Rattle.header.specs.FieldLaws.{field-after}
@@ -29,15 +30,15 @@ ascii-fields-end-requires c κs = search needs
 
 -- src/writer.rt:169:45
 sub-add-slice : tie.Need-sub-add-slice Inv-loop μ-loop
-sub-add-slice c = omega (arith, c .before .ascii-fields-end .ensures .up)
+sub-add-slice c = omega (arith, ascii-fields (c .before .ascii-fields-end .ensures) .up)
 
 -- src/writer.rt:169:45
 part-add-slice-start : tie.Need-part-add-slice-start Inv-loop μ-loop
-part-add-slice-start c = omega (arith, c .before .ascii-fields-end .ensures .up)
+part-add-slice-start c = omega (arith, ascii-fields (c .before .ascii-fields-end .ensures) .up)
 
 -- src/writer.rt:169:45
 part-add-slice-end : tie.Need-part-add-slice-end Inv-loop μ-loop
-part-add-slice-end c = let k = c .before .ascii-fields-end .ensures .inside (omega (arith, c .before .before .loop-test .taken)) in omega (arith, k)
+part-add-slice-end c = let k = ascii-fields (c .before .ascii-fields-end .ensures) .inside (omega (arith, c .before .before .loop-test .taken)) in omega (arith, k)
 
 -- src/writer.rt:169:9
 add-slice-requires : tie.Need-add-slice-requires Inv-loop μ-loop
@@ -45,11 +46,11 @@ add-slice-requires c κs = search needs
 
 -- src/writer.rt:171:13
 same-length : tie.Need-same-length Inv-loop μ-loop
-same-length c = length-fielding (fielding-skip (c .before .before .before .before .before .before .before .before .loop .inv) (omega arith) (c .before .before .before .before .before .before .ascii-fields-end .ensures) (c .before .before .before .add-slice .ensures))
+same-length c = length-fielding (fielding-skip (c .before .before .before .before .before .before .before .before .loop .inv) (omega arith) (ascii-fields (c .before .before .before .before .before .before .ascii-fields-end .ensures)) (c .before .before .before .add-slice .ensures))
 
 -- src/writer.rt:171:13
 returns : tie.Need-returns Inv-loop μ-loop
-returns c = fielding-end (fielding-skip (c .before .before .before .before .before .before .before .before .loop .inv) (omega arith) (c .before .before .before .before .before .before .ascii-fields-end .ensures) (c .before .before .before .add-slice .ensures)) (c .if1 .taken)
+returns c = fielding-end (fielding-skip (c .before .before .before .before .before .before .before .before .loop .inv) (omega arith) (ascii-fields (c .before .before .before .before .before .before .ascii-fields-end .ensures)) (c .before .before .before .add-slice .ensures)) (c .if1 .taken)
 
 -- src/writer.rt:173:13
 field-end-requires : tie.Need-field-end-requires Inv-loop μ-loop
@@ -73,11 +74,11 @@ add-limited-requires c κs = let a = field-after _ _ _ (c .before .before .befor
 
 -- src/writer.rt:167:5
 loop-less : tie.Need-loop-less Inv-loop μ-loop
-loop-less c = let a = field-after _ _ _ (c .before .before .before .before .before .before .if1 .left) (c .before .before .before .before .before .field-end .ensures) in omega (arith, a .0, a .1, c .before .before .before .before .before .before .before .before .before .before .before .before .ascii-fields-end .ensures .up, c .before .before .before .before .before .before .before .before .before .before .before .before .before .loop-test .taken)
+loop-less c = let a = field-after _ _ _ (c .before .before .before .before .before .before .if1 .left) (c .before .before .before .before .before .field-end .ensures) in omega (arith, a .0, a .1, ascii-fields (c .before .before .before .before .before .before .before .before .before .before .before .before .ascii-fields-end .ensures) .up, c .before .before .before .before .before .before .before .before .before .before .before .before .before .loop-test .taken)
 
 -- src/writer.rt:167:5
 loop-again : tie.Need-loop-again Inv-loop μ-loop
-loop-again c = fielding-next (fielding-skip (c .before .before .before .before .before .before .before .before .before .before .before .before .before .before .loop .inv) (omega arith) (c .before .before .before .before .before .before .before .before .before .before .before .before .ascii-fields-end .ensures) (c .before .before .before .before .before .before .before .before .before .add-slice .ensures)) (omega arith) (c .before .before .before .before .before .before .if1 .left) (c .before .before .before .before .before .field-end .ensures) (c .before .before .add-limited .ensures)
+loop-again c = fielding-next (fielding-skip (c .before .before .before .before .before .before .before .before .before .before .before .before .before .before .loop .inv) (omega arith) (ascii-fields (c .before .before .before .before .before .before .before .before .before .before .before .before .ascii-fields-end .ensures)) (c .before .before .before .before .before .before .before .before .before .add-slice .ensures)) (omega arith) (c .before .before .before .before .before .before .if1 .left) (c .before .before .before .before .before .field-end .ensures) (c .before .before .add-limited .ensures)
 
 -- src/writer.rt:161:1
 same-length-2 : tie.Need-same-length-2 Inv-loop μ-loop

@@ -1,0 +1,119 @@
+-- The bytes of a line of the grammar: no CR stands inside; past the path only an ORCPT carries non-ASCII. Assumes nothing.
+use mathlib.Core.Path.{_≡_, refl, sym}
+use mathlib.Core.Bool.{Bool, true, false, not, or-true}
+use mathlib.Core.List.{List, [], _∷_, _++_, map}
+use mathlib.Core.Option.{Option, none}
+use Prim.Native.Nat.{ℕ, _+_}
+use native.Mathlib.Omega.{arith}
+use lib.Dec.{T, eqb, eqb→eq}
+use lib.ListN.{take, drop, take-append-drop}
+use mir.Facts.{T-not, not-T, and-yes, yes-and, no-eqb, eqb-no}
+use Rattle.lists.specs.ListsLaws.{by-test, yes-true, no-false, all-append, all-right, all-weaken, all-joined}
+use Rattle.lists.specs.Lists.{all}
+use Rattle.lists.specs.Byte.{isAscii}
+use Rattle.lists.specs.CutBy.{cutBy}
+use Rattle.lists.specs.CutByLaws.{cut-joined}
+use Rattle.letter_case.specs.LetterCase.{bytes, lower, sameAnyCase}
+use Rattle.line.specs.Line.{notCr}
+use Rattle.address.specs.Address.{isQuotedByte}
+use Rattle.address.specs.GrammarLaws.{address-visible}
+use Rattle.parameter.specs.Parameter.{spacedLen, params, isKeywordByte, isValueByte, keywordLen, value, isOrcpt, orcptClean}
+use Rattle.parameter.specs.AsciiLaws.{tail-ascii}
+use Rattle.envelope_line.specs.EnvelopeLine.{verb, tail, orcptFault}
+use Rattle.envelope_line.specs.LineGrammar.{Verb, Path, Keyword, Value, Parameter, Others, Alt, Tail, Line, Written}
+use Rattle.envelope_line.specs.LineGrammarLaws.{lower-mark, line-tail}
+use Rattle.envelope_line.specs.TailGrammarLaws.{tail-reads}
+
+-- bytes of a class that CR is not in
+class-no-cr : (f : ℕ → Bool) → f 13 ≡ false → (s : List ℕ) → T (all f s) → T (all notCr s)
+class-no-cr f n s h = all-weaken f notCr (λ b t. no-eqb {a = b} {b = 13} (λ e. rw (e, n) at t)) s h
+
+same-no-cr : (xs ys : List ℕ) → T (sameAnyCase xs ys) → T (all notCr xs) → T (all notCr ys)
+unfolding sameAnyCase lower
+same-no-cr [] [] t h = tt
+same-no-cr [] (y ∷ ys) t h = absurd t
+same-no-cr (x ∷ xs) [] t h = absurd t
+same-no-cr (x ∷ xs) (y ∷ ys) t h =
+    let p = and-yes (eqb (lower x) (lower y)) (sameAnyCase xs ys) t in
+    let q = and-yes (notCr x) (all notCr xs) h in
+    let e = eqb→eq (lower x) (lower y) (p .0) in
+    let no : y ≡ 13 → ⊥ = λ k. eqb-no {a = x} {b = 13} (q .0) (lower-mark 13 x (omega arith) (sym (rw k at e))) in
+    yes-and (notCr y) (all notCr ys) (no-eqb {a = y} {b = 13} no) (same-no-cr xs ys (p .1) (q .1))
+
+verb-no-cr : (mail : Bool) → T (all notCr (verb mail))
+unfolding verb bytes
+verb-no-cr true = tt
+verb-no-cr false = tt
+
+path-no-cr : {mail : Bool} {p : List ℕ} → Path mail p → T (all notCr p)
+unfolding isQuotedByte bytes
+path-no-cr (Path.address {path = p} a) = class-no-cr isQuotedByte refl p (address-visible a)
+path-no-cr Path.empty = tt
+path-no-cr (Path.postmaster {path = p} t) = same-no-cr (bytes "Postmaster") p t tt
+
+keyword-no-cr : {k : List ℕ} → Keyword k → T (all notCr k)
+unfolding isKeywordByte
+keyword-no-cr {k} w = class-no-cr isKeywordByte refl k (w .each)
+
+no-value : (orcpt : Bool) → isValueByte orcpt 13 ≡ false
+unfolding isValueByte
+no-value true = refl
+no-value false = refl
+
+value-no-cr : {k v : List ℕ} → Value k v → T (all notCr v)
+value-no-cr {k} {v} x = let o = sameAnyCase (bytes "ORCPT") k in class-no-cr (isValueByte o) (no-value o) v (x .each)
+
+parameter-no-cr : {k p : List ℕ} → Parameter k p → T (all notCr p)
+parameter-no-cr (Parameter.bare w) = keyword-no-cr w
+parameter-no-cr (Parameter.valued {k} {v} w x) = all-append notCr k (61 ∷ v) (keyword-no-cr w) (value-no-cr x)
+
+others-no-cr : {t : List ℕ} → Others t → T (all notCr t)
+others-no-cr Others.end = tt
+others-no-cr (Others.then {p} {more} q n o) = all-append notCr p more (parameter-no-cr q) (others-no-cr o)
+
+alt-no-cr : {v p : List ℕ} → Alt v p → T (all notCr p)
+alt-no-cr {v} (Alt.alt {k} a w x) = all-append notCr k (61 ∷ v) (keyword-no-cr w) (value-no-cr x)
+
+with-alt-no-cr : {before p v after : List ℕ} → Others before → Alt v p → Others after → T (all notCr (before ++ (32 ∷ (p ++ after))))
+with-alt-no-cr {before} {p} {v} {after} o a q = all-append notCr before (32 ∷ (p ++ after)) (others-no-cr o) (all-append notCr p after (alt-no-cr a) (others-no-cr q))
+
+parts-no-cr : {mail : Bool} {front p : List ℕ} → Verb mail front → Path mail p → (t : List ℕ) → T (all notCr t) → T (all notCr (front ++ (p ++ (62 ∷ t))))
+parts-no-cr {mail} {front} {p} f q t h = all-append notCr front (p ++ (62 ∷ t)) (same-no-cr (verb mail) front (f .same) (verb-no-cr mail)) (all-append notCr p (62 ∷ t) (path-no-cr q) h)
+
+plain-no-cr : {t : List ℕ} → Tail none t → T (all notCr t)
+plain-no-cr (Tail.plain o) = others-no-cr o
+
+pub written-no-cr : {mail : Bool} {line out : List ℕ} → Written mail line out → T (all notCr line)
+written-no-cr (Written.copied l h) = rw (l .is) (parts-no-cr (l .is-front) (l .is-path) (l .tail) (plain-no-cr (l .is-tail)))
+written-no-cr (Written.replaced {before} {p} {after} f q h o x a y) = parts-no-cr f q (before ++ (32 ∷ (p ++ after))) (with-alt-no-cr o x y)
+
+-- ---- ORCPT
+
+drop-each : (parts : List (List ℕ)) → T (all (all isAscii) parts) → T (all (all isAscii) (map (drop 1) parts))
+drop-each [] h = tt
+drop-each (x ∷ parts) h =
+    let p = and-yes (all isAscii x) (all (all isAscii) parts) h in
+    yes-and (all isAscii (drop 1 x)) (all (all isAscii) (map (drop 1) parts)) (all-right isAscii (take 1 x) (drop 1 x) (rw take-append-drop (p .0))) (drop-each parts (p .1))
+
+params-ascii : (t : List ℕ) → T (all isAscii t) → T (all (all isAscii) (params t))
+unfolding params
+params-ascii t h = drop-each (cutBy spacedLen t) (all-joined isAscii (cutBy spacedLen t) (rw (cut-joined spacedLen t) h))
+
+ascii-clean : (p : List ℕ) → T (all isAscii p) → T (orcptClean p)
+unfolding orcptClean value
+ascii-clean p h =
+    let n = keywordLen p + 1 in
+    let v = all-right isAscii (take n p) (drop n p) (rw take-append-drop h) in
+    rw (yes-true (all isAscii (drop n p)) v, or-true (not (isOrcpt p))) tt
+
+-- 6: "an ORCPT carries non-ASCII". Nothing else that follows a path may.
+pub orcpt-exact : {mail : Bool} {p : List ℕ} {v : Option (List ℕ)} {line : List ℕ} (l : Line mail p v line) → orcptFault mail line ≡ not (all isAscii (l .tail))
+unfolding orcptFault
+orcpt-exact {mail} {p} {v} {line} l =
+    let t = l .tail in
+    let r = tail-reads (l .is-tail) in
+    let same : tail mail line ≡ t = line-tail l in
+    rw same
+    (by-test (all isAscii t)
+    (λ h. rw (yes-true (all isAscii t) h, yes-true (all orcptClean (params t)) (all-weaken (all isAscii) orcptClean ascii-clean (params t) (params-ascii t h))))
+    (λ h. rw (no-false (all isAscii t) h, no-false (all orcptClean (params t)) (not-T (all orcptClean (params t)) (λ c. T-not (all isAscii t) (tail-ascii t (r .is-spaced) (r .each) c) h)))))

@@ -1,0 +1,404 @@
+-- The fault of a line, and what is written for it, are those of the grammar. Assumes nothing.
+use mathlib.Core.Path.{_≡_, refl, ap, sym, _∙_}
+use mathlib.Core.Bool.{Bool, true, false, not, cond, _&&_}
+use mathlib.Core.List.{List, [], _∷_, _++_}
+use mathlib.Core.Option.{Option, none, some}
+use Prim.Native.Nat.{ℕ, suc, _+_, _≤_, _<_}
+use native.Mathlib.Numerals.{add-one}
+use native.Mathlib.Omega.{arith}
+use lib.Dec.{T, eqb, leb, eqb→eq}
+use lib.ListN.{length, take, drop, getD, take-append-drop, length-append}
+use lib.Seq.{drop-cons, drop-drop, take-take, take-at, drop-at, append-snoc, take-append-seam, drop-append-seam, take-append-add, getD-drop}
+use native.Mathlib.Nat.{not-suc-le-zero}
+use mir.Facts.{T-not, not-T, and-yes, yes-and, leb-yes, yes-leb}
+use borrow.Author.Tests.{ne-eqb, eq-eqb}
+use Rattle.lists.specs.ListsLaws.{by-test, cond-has, yes-true, no-false}
+use Rattle.lists.specs.Lists.{all, nonempty}
+use Rattle.lists.specs.Byte.{within, isAscii}
+use Rattle.utf8.specs.Utf8.{utf8}
+use Rattle.letter_case.specs.LetterCase.{bytes, lower, sameAnyCase}
+use Rattle.address.specs.declared.Scan.{Scan}
+use Rattle.address.specs.declared.Scan.the-variants.{To, Stop}
+use Rattle.address.specs.Address.{isAtext, isAtomByte, scanThen, dotAtomFrom, dotAtomScan, localScan, addressScan}
+use Rattle.address.specs.Grammar.{DotAtom, LocalPart}
+use Rattle.address.specs.AddressLaws.{byte-within}
+use Rattle.address.specs.GrammarLaws.{Closed, address-sound, address-complete, local-alone}
+use Rattle.xtext.specs.Xtext.{decoded, isAltAddress}
+use Rattle.xtext.specs.GrammarLaws.{xtext-read, read-alt-address, alt-address-read}
+use Rattle.parameter.specs.Parameter.{params, spaced, isParam, alts, altsOk}
+use Rattle.envelope_line.specs.declared.Fault.{Fault}
+use Rattle.envelope_line.specs.declared.Fault.the-variants.{Fine, Malformed, NoAlternative, BadAlternative}
+use Rattle.envelope_line.specs.EnvelopeLine.{verb, verbLen, hasVerb, pathScan, scanEnd, isTo, pathLen, path, hasPath, tail, wellFormed, altFault, lineFault, newPath, writtenLine}
+use Rattle.envelope_line.specs.FaultLaws.{Formed, formed-of, closed-of, well-formed}
+use Rattle.envelope_line.specs.LineGrammar.{Verb, Path, Others, Alt, Tail, Line, Answer, Written}
+use Rattle.envelope_line.specs.TailGrammarLaws.{altValue, read-tail, tail-reads, alt-value, alt-gone, value-le}
+
+-- ---- texts that are the same in any case
+
+same-length : (xs ys : List ℕ) → T (sameAnyCase xs ys) → length ys ≡ length xs
+unfolding sameAnyCase
+same-length [] [] t = refl
+same-length [] (y ∷ ys) t = absurd t
+same-length (x ∷ xs) [] t = absurd t
+same-length (x ∷ xs) (y ∷ ys) t = ap suc (same-length xs ys (and-yes (eqb (lower x) (lower y)) (sameAnyCase xs ys) t .1))
+
+-- a text, and one byte more
+record SameSnoc (xs : List ℕ) (x : ℕ) (ys : List ℕ) : Type 0 where
+  front : List ℕ
+  last : ℕ
+  is : ys ≡ front ++ (last ∷ [])
+  same : T (sameAnyCase xs front)
+  same-last : lower x ≡ lower last
+
+same-snoc : (xs : List ℕ) (x : ℕ) (ys : List ℕ) → T (sameAnyCase (xs ++ (x ∷ [])) ys) → SameSnoc xs x ys
+unfolding sameAnyCase
+same-snoc [] x [] t = absurd t
+same-snoc (a ∷ xs) x [] t = absurd t
+same-snoc [] x (y ∷ []) t = record { front = []; last = y; is = refl; same = tt; same-last = eqb→eq (lower x) (lower y) (and-yes (eqb (lower x) (lower y)) true t .0) }
+same-snoc [] x (y ∷ z ∷ ys) t = absurd (and-yes (eqb (lower x) (lower y)) false t .1)
+same-snoc (a ∷ xs) x (y ∷ ys) t =
+    let b = and-yes (eqb (lower a) (lower y)) (sameAnyCase (xs ++ (x ∷ [])) ys) t in
+    let s = same-snoc xs x ys (b .1) in
+    record {
+      front = y ∷ s .front;
+      last = s .last;
+      is = ap (λ (l : List ℕ). y ∷ l) (s .is);
+      same = yes-and (eqb (lower a) (lower y)) (sameAnyCase xs (s .front)) (b .0) (s .same);
+      same-last = s .same-last;
+    }
+
+same-more : (xs ys : List ℕ) (b : ℕ) → T (sameAnyCase xs ys) → T (sameAnyCase (xs ++ (b ∷ [])) (ys ++ (b ∷ [])))
+unfolding sameAnyCase
+same-more [] [] b t = rw (eq-eqb (lower b) (lower b) refl) tt
+same-more [] (y ∷ ys) b t = absurd t
+same-more (x ∷ xs) [] b t = absurd t
+same-more (x ∷ xs) (y ∷ ys) b t =
+    let p = and-yes (eqb (lower x) (lower y)) (sameAnyCase xs ys) t in
+    yes-and (eqb (lower x) (lower y)) (sameAnyCase (xs ++ (b ∷ [])) (ys ++ (b ∷ []))) (p .0) (same-more xs ys b (p .1))
+
+-- a byte below the small letters that is no capital one
+pub lower-mark : (b y : ℕ) → b < 97 → b ≡ lower y → y ≡ b
+unfolding lower
+lower-mark b y k =
+    cond-has (λ n. b ≡ n → y ≡ b) (within 65 90 y) (y + 32) y
+    (λ t e. absurd (omega (arith, e, leb-yes {a = 65} {b = y} (and-yes (leb 65 y) (leb y 90) t .0))))
+    (λ t e. sym e)
+
+letter-atom : (y : ℕ) → T (within 97 122 (lower y)) → T (isAtomByte y)
+unfolding lower isAtomByte isAtext
+letter-atom y =
+    cond-has (λ n. T (within 97 122 n) → T (isAtomByte y)) (within 65 90 y) (y + 32) y
+    (λ t h. rw (yes-true (within 65 90 y) t) tt)
+    (λ t h. let b = and-yes (leb 97 y) (leb y 122) h in
+    let wide : T (within 94 126 y) = yes-and (leb 94 y) (leb y 126) (yes-leb {a = 94} {b = y} (omega (arith, leb-yes {a = 97} {b = y} (b .0)))) (yes-leb {a = y} {b = 126} (omega (arith, leb-yes {a = y} {b = 122} (b .1)))) in
+    rw (no-false (within 65 90 y) t, yes-true (within 94 126 y) wide) tt)
+
+letters-atoms : (xs ys : List ℕ) → T (sameAnyCase xs ys) → T (all (λ x. within 97 122 (lower x)) xs) → T (all isAtomByte ys)
+unfolding sameAnyCase
+letters-atoms [] [] t h = tt
+letters-atoms [] (y ∷ ys) t h = absurd t
+letters-atoms (x ∷ xs) [] t h = absurd t
+letters-atoms (x ∷ xs) (y ∷ ys) t h =
+    let p = and-yes (eqb (lower x) (lower y)) (sameAnyCase xs ys) t in
+    let l = and-yes (within 97 122 (lower x)) (all (λ x. within 97 122 (lower x)) xs) h in
+    yes-and (isAtomByte y) (all isAtomByte ys) (letter-atom y (rw (eqb→eq (lower x) (lower y) (p .0)) at (l .0))) (letters-atoms xs ys (p .1) (l .1))
+
+-- ---- path
+
+no-to : {n m : ℕ} → Stop n ≡ To m → ⊥
+no-to e = let z : _≡_ {A = ℕ} 0 1 = cc in omega arith
+
+mark-closed : (rest : List ℕ) → Closed (62 ∷ rest)
+unfolding isAtomByte isAtext
+mark-closed rest = record { atom = refl; dot = refl }
+
+-- Postmaster and a `>`
+postmaster-marked : (s : List ℕ) → T (sameAnyCase (bytes "Postmaster>") (take 11 s)) → SameSnoc (bytes "Postmaster") 62 (take 11 s)
+unfolding bytes
+postmaster-marked s t = same-snoc (bytes "Postmaster") 62 (take 11 s) t
+
+module _ (s : List ℕ) (t : T (sameAnyCase (bytes "Postmaster>") (take 11 s))) where
+  word : SameSnoc (bytes "Postmaster") 62 (take 11 s)
+  word = postmaster-marked s t
+
+  word-size : length (word .front) ≡ 10
+  unfolding bytes
+  word-size = same-length (bytes "Postmaster") (word .front) (word .same)
+
+  word-taken : take 10 s ≡ word .front
+  word-taken =
+      sym (take-take 10 11 s (omega arith)) ∙ ap (take 10) (word .is) ∙ take-at (word .front) (word .last ∷ []) 10 word-size
+
+  word-then : word .front ++ (62 ∷ drop 11 s) ≡ s
+  unfolding lower
+  word-then =
+      let mark : word .last ≡ 62 = lower-mark 62 (word .last) (omega arith) (word .same-last) in
+      let whole : take 11 s ++ drop 11 s ≡ s = take-append-drop 11 s in
+      rw (word .is, mark, append-snoc (word .front) 62 (drop 11 s)) at whole
+
+  word-local : LocalPart (word .front)
+  unfolding bytes lower
+  word-local = LocalPart.atoms (DotAtom.one (record {
+    some = nonempty-of (word .front) (omega (arith, word-size));
+    bytes = letters-atoms (bytes "Postmaster") (word .front) (word .same) tt;
+  }))
+    where
+      nonempty-of : (xs : List ℕ) → 0 < length xs → T (nonempty xs)
+      nonempty-of [] h = absurd (not-suc-le-zero h)
+      nonempty-of (x ∷ xs) h = tt
+
+  -- is no address
+  word-stops : addressScan s ≡ Stop (length (word .front))
+  word-stops = rw word-then at (local-alone word-local 62 (drop 11 s) (mark-closed (drop 11 s)) (λ e. omega (arith, e)))
+
+-- a path that is read is one of the grammar
+read-path : (mail : Bool) (s : List ℕ) (n : ℕ) → pathScan mail s ≡ To n → Path mail (take n s)
+unfolding pathScan
+read-path true s n e =
+    cond-has (λ r. r ≡ To n → Path true (take n s)) (eqb (getD s 0 0) 62) (To 0) (addressScan s)
+    (λ t k. let z : n ≡ 0 = cc in rw z Path.empty)
+    (λ t k. Path.address (address-sound s n k))
+    e
+read-path false s n e =
+    cond-has (λ r. r ≡ To n → Path false (take n s)) (sameAnyCase (bytes "Postmaster>") (take 11 s)) (To 10) (addressScan s)
+    (λ t k. let z : n ≡ 10 = cc in rw (z, word-taken s t) (Path.postmaster (word s t .same)))
+    (λ t k. Path.address (address-sound s n k))
+    e
+
+mark-stops : (rest : List ℕ) → addressScan (62 ∷ rest) ≡ Stop 0
+unfolding addressScan localScan dotAtomScan dotAtomFrom isAtomByte isAtext scanThen
+mark-stops rest = refl
+
+address-unmarked : (s : List ℕ) (n : ℕ) → addressScan s ≡ To n → eqb (getD s 0 0) 62 ≡ false
+address-unmarked [] n e = refl
+address-unmarked (b ∷ s) n e = ne-eqb b 62 (λ k. no-to (sym (mark-stops s) ∙ rw k at e))
+
+address-read : (mail : Bool) (s : List ℕ) (n : ℕ) → addressScan s ≡ To n → pathScan mail s ≡ To n
+unfolding pathScan
+address-read true s n e = rw (address-unmarked s n e) e
+address-read false s n e =
+    by-test (sameAnyCase (bytes "Postmaster>") (take 11 s))
+    (λ t. absurd (no-to (sym (word-stops s t) ∙ e)))
+    (λ t. rw (no-false (sameAnyCase (bytes "Postmaster>") (take 11 s)) t) e)
+
+-- a path of the grammar is read
+path-read : {mail : Bool} {p : List ℕ} → Path mail p → (rest : List ℕ) → pathScan mail (p ++ (62 ∷ rest)) ≡ To (length p)
+unfolding pathScan bytes
+path-read (Path.address {mail} {path = p} a) rest = address-read mail (p ++ (62 ∷ rest)) (length p) (address-complete a (62 ∷ rest) (mark-closed rest))
+path-read Path.empty rest = refl
+path-read (Path.postmaster {path = p} t) rest =
+    let size : length p ≡ 10 = same-length (bytes "Postmaster") p t in
+    let front : take 11 (p ++ (62 ∷ rest)) ≡ p ++ (62 ∷ []) = (let n : length p + 1 ≡ 11 = omega arith in rw n at (take-append-add p (62 ∷ rest) 1)) in
+    rw (front, yes-true (sameAnyCase (bytes "Postmaster>") (p ++ (62 ∷ []))) (same-more (bytes "Postmaster") p 62 t), size)
+
+-- ---- a line, read
+
+to-end : (r : Scan) → T (isTo r) → r ≡ To (scanEnd r)
+to-end (To n) t = refl
+to-end (Stop n) t = absurd t
+
+module _ (mail : Bool) (line : List ℕ) where
+  -- the value of ALT-ADDRESS, if any
+  abbrev alternativeOf : Option (List ℕ)
+  alternativeOf = altValue (alts (params (tail mail line)))
+
+  cut-line : Formed mail line → line ≡ take (verbLen mail) line ++ (path mail line ++ (62 ∷ tail mail line))
+  unfolding path tail
+  cut-line k =
+      let v = verbLen mail in
+      let n = pathLen mail line in
+      let there = byte-within line (v + n) 61 (closed-of mail line k) in
+      let after : drop n (drop v line) ≡ 62 ∷ drop (v + n + 1) line = rw (drop-drop, add-one, drop-cons line (v + n) 0 there, closed-of mail line k) in
+      rw (← after, take-append-drop, take-append-drop)
+
+  read-line : T (wellFormed mail line) → Line mail (path mail line) alternativeOf line
+  unfolding hasVerb hasPath path pathLen
+  read-line w =
+      let k = formed-of mail line w in
+      let s = drop (verbLen mail) line in
+      let to = and-yes (isTo (pathScan mail s)) (eqb (getD line (verbLen mail + pathLen mail line) 0) 62) (k .has-path) .0 in
+      record {
+        front = take (verbLen mail) line;
+        tail = tail mail line;
+        is = cut-line k;
+        short = k .short;
+        is-utf8 = k .is-utf8;
+        is-front = record { same = k .has-verb };
+        is-path = read-path mail s (scanEnd (pathScan mail s)) (to-end (pathScan mail s) to);
+        is-tail = read-tail (tail mail line) (k .is-spaced) (k .are-params) (k .alts-ok);
+      }
+
+-- ---- a line, made: how it is read
+
+verb-length : (mail : Bool) → length (verb mail) ≡ verbLen mail
+unfolding verb bytes
+verb-length true = refl
+verb-length false = refl
+
+module _ {mail : Bool} {front p : List ℕ} (f : Verb mail front) (q : Path mail p) (t : List ℕ) where
+  abbrev made : List ℕ
+  made = front ++ (p ++ (62 ∷ t))
+
+  front-size : length front ≡ verbLen mail
+  front-size = same-length (verb mail) front (f .same) ∙ verb-length mail
+
+  made-front : take (verbLen mail) made ≡ front
+  made-front = take-at front (p ++ (62 ∷ t)) (verbLen mail) front-size
+
+  made-rest : drop (verbLen mail) made ≡ p ++ (62 ∷ t)
+  made-rest = drop-at front (p ++ (62 ∷ t)) (verbLen mail) front-size
+
+  made-scan : pathScan mail (drop (verbLen mail) made) ≡ To (length p)
+  made-scan = rw made-rest (path-read q t)
+
+  made-length : pathLen mail made ≡ length p
+  unfolding pathLen
+  made-length = rw made-scan
+
+  made-path : path mail made ≡ p
+  unfolding path
+  made-path = rw (made-length, made-rest, take-append-seam p (62 ∷ t))
+
+  made-from : drop (verbLen mail + pathLen mail made) made ≡ 62 ∷ t
+  made-from = rw (← drop-drop (pathLen mail made) (verbLen mail) made, made-length, made-rest, drop-append-seam p (62 ∷ t))
+
+  made-tail : tail mail made ≡ t
+  unfolding tail
+  made-tail = rw (← drop-drop 1 (verbLen mail + pathLen mail made) made, made-from)
+
+  made-mark : getD made (verbLen mail + pathLen mail made) 0 ≡ 62
+  made-mark =
+      let n = verbLen mail + pathLen mail made in
+      let z : n + 0 ≡ n = omega arith in
+      rw z at (sym (getD-drop n made 0 0)) ∙ rw made-from
+
+  made-formed : {v : Option (List ℕ)} → Tail v t → length made ≤ 998 → T (utf8 made) → T (wellFormed mail made)
+  unfolding wellFormed hasVerb hasPath
+  made-formed tl l u =
+      let r = tail-reads tl in
+      let a = leb (length made) 998 in
+      let b = utf8 made in
+      let ps = params t in
+      let front-same : T (sameAnyCase (verb mail) (take (verbLen mail) made)) = rw made-front (f .same) in
+      let marked : T (eqb (getD made (verbLen mail + pathLen mail made) 0) 62) = rw made-mark tt in
+      rw (made-scan, made-tail)
+      (yes-and (a && b && hasVerb mail made && (true && eqb (getD made (verbLen mail + pathLen mail made) 0) 62) && spaced t && all isParam ps) (altsOk (alts ps))
+      (yes-and (a && b && hasVerb mail made && (true && eqb (getD made (verbLen mail + pathLen mail made) 0) 62) && spaced t) (all isParam ps)
+      (yes-and (a && b && hasVerb mail made && (true && eqb (getD made (verbLen mail + pathLen mail made) 0) 62)) (spaced t)
+      (yes-and (a && b && hasVerb mail made) (true && eqb (getD made (verbLen mail + pathLen mail made) 0) 62)
+      (yes-and (a && b) (hasVerb mail made)
+      (yes-and a b (yes-leb {a = length made} {b = 998} l) u) front-same) marked) (r .is-spaced)) (r .each)) (r .alts-ok))
+
+-- the fault by the path and the value of ALT-ADDRESS
+abbrev faultBy : Bool → Option (List ℕ) → Fault
+faultBy true none = Fine
+faultBy true (some v) = BadAlternative
+faultBy false none = NoAlternative
+faultBy false (some v) = cond (isAltAddress v) Fine BadAlternative
+
+alt-fault-by : (ascii : Bool) (found : List (List ℕ)) → altFault ascii found ≡ faultBy ascii (altValue found)
+unfolding altFault
+alt-fault-by true [] = refl
+alt-fault-by true (p ∷ found) = refl
+alt-fault-by false [] = refl
+alt-fault-by false (p ∷ found) = refl
+
+record LineRead (mail : Bool) (p : List ℕ) (v : Option (List ℕ)) (line : List ℕ) : Type 0 where
+  well : T (wellFormed mail line)
+  path-is : path mail line ≡ p
+  value-is : altValue (alts (params (tail mail line))) ≡ v
+
+line-read : {mail : Bool} {p : List ℕ} {v : Option (List ℕ)} {line : List ℕ} → Line mail p v line → LineRead mail p v line
+line-read {mail} {p} {v} {line} l =
+    rw (l .is) (record {
+      well = made-formed (l .is-front) (l .is-path) (l .tail) (l .is-tail) (rw (l .is) at (l .short)) (rw (l .is) at (l .is-utf8));
+      path-is = made-path (l .is-front) (l .is-path) (l .tail);
+      value-is = rw (made-tail (l .is-front) (l .is-path) (l .tail)) (tail-reads (l .is-tail) .alternative);
+    })
+
+line-fault : {mail : Bool} {p : List ℕ} {v : Option (List ℕ)} {line : List ℕ} → Line mail p v line → lineFault mail line ≡ faultBy (all isAscii p) v
+unfolding lineFault
+line-fault {mail} {p} {v} {line} l =
+    let r = line-read l in
+    rw (yes-true (wellFormed mail line) (r .well), r .path-is) (alt-fault-by (all isAscii p) (alts (params (tail mail line))) ∙ ap (faultBy (all isAscii p)) (r .value-is))
+
+pub line-tail : {mail : Bool} {p : List ℕ} {v : Option (List ℕ)} {line : List ℕ} (l : Line mail p v line) → tail mail line ≡ l .tail
+line-tail {mail} l = ap (tail mail) (l .is) ∙ made-tail (l .is-front) (l .is-path) (l .tail)
+
+-- ---- the answers
+
+-- a value in a line is no longer than the line may be
+value-short : {mail : Bool} {p v line : List ℕ} → Line mail p (some v) line → length v ≤ 998
+value-short {mail} {p} {v} {line} l =
+    let size = simp length-append at (ap length (l .is)) in
+    omega (arith, value-le (l .is-tail), l .short, size)
+
+answer-by : {mail : Bool} {p : List ℕ} {v : Option (List ℕ)} {line : List ℕ} (ascii : Bool) → ascii ≡ all isAscii p → Line mail p v line → Answer mail line (faultBy ascii v)
+answer-by {v = none} true e l = Answer.as-it-is l (rw (← e) tt)
+answer-by {v = none} false e l = Answer.no-alternative l (rw (← e) tt)
+answer-by {v = some w} true e l = Answer.beside-ascii l (rw (← e) tt)
+answer-by {mail} {p} {v = some w} {line} false e l =
+    cond-has (λ f. Answer mail line f) (isAltAddress w) Fine BadAlternative
+    (λ t. Answer.to-replace l (rw (← e) tt) (read-alt-address w t))
+    (λ t. Answer.no-address l (rw (← e) tt) (λ new a. T-not (isAltAddress w) (alt-address-read (value-short l) a .0) t))
+
+unformed : (mail : Bool) (line : List ℕ) → T (not (wellFormed mail line)) → lineFault mail line ≡ Malformed
+unfolding lineFault
+unformed mail line t = rw (no-false (wellFormed mail line) t)
+
+-- every line has its answer,
+pub answers : (mail : Bool) (line : List ℕ) → Answer mail line (lineFault mail line)
+answers mail line =
+    by-test (wellFormed mail line)
+    (λ t. let l = read-line mail line t in rw (line-fault l) (answer-by (all isAscii (path mail line)) refl l))
+    (λ t. rw (unformed mail line t) (Answer.malformed (λ p v l. T-not (wellFormed mail line) (line-read l .well) t)))
+
+-- and no other
+pub answer-exact : {mail : Bool} {line : List ℕ} {f : Fault} → Answer mail line f → f ≡ lineFault mail line
+answer-exact {mail} {line} (Answer.malformed none-makes) =
+    by-test (wellFormed mail line)
+    (λ t. absurd (none-makes (path mail line) (alternativeOf mail line) (read-line mail line t)))
+    (λ t. sym (unformed mail line t))
+answer-exact (Answer.no-alternative {path = p} l h) = sym (line-fault l ∙ rw (no-false (all isAscii p) h))
+answer-exact (Answer.beside-ascii {path = p} l h) = sym (line-fault l ∙ rw (yes-true (all isAscii p) h))
+answer-exact (Answer.no-address {path = p} {v} l h k) = sym (line-fault l ∙ rw (no-false (all isAscii p) h, no-false (isAltAddress v) (not-T (isAltAddress v) (λ t. k (decoded v) (read-alt-address v t)))))
+answer-exact (Answer.as-it-is {path = p} l h) = sym (line-fault l ∙ rw (yes-true (all isAscii p) h))
+answer-exact (Answer.to-replace {path = p} {v} l h a) = sym (line-fault l ∙ rw (no-false (all isAscii p) h, yes-true (isAltAddress v) (alt-address-read (value-short l) a .0)))
+
+-- ---- what is written
+
+-- what is written where the path is replaced
+replaced-by : {mail : Bool} {front p before a v after : List ℕ} → Verb mail front → Path mail p → T (not (all isAscii p)) → Others before → Alt v a → Others after
+    → writtenLine mail (front ++ (p ++ (62 ∷ (before ++ (32 ∷ (a ++ after)))))) ≡ front ++ (decoded v ++ (62 ∷ (before ++ after)))
+unfolding writtenLine newPath
+replaced-by {mail} {front} {p} {before} {a} {v} {after} f q h o x y =
+    let t : List ℕ = before ++ (32 ∷ (a ++ after)) in
+    rw (made-path f q t, no-false (all isAscii p) h, made-front f q t, made-tail f q t, alt-value o x y, alt-gone o x y)
+
+replaced-line : {mail : Bool} {front p v t : List ℕ} → Verb mail front → Path mail p → T (not (all isAscii p)) → Tail (some v) t → T (isAltAddress v)
+    → Written mail (front ++ (p ++ (62 ∷ t))) (writtenLine mail (front ++ (p ++ (62 ∷ t))))
+replaced-line {v = v} f q h (Tail.with-alt o x y) k = rw (replaced-by f q h o x y) (Written.replaced f q h o x (read-alt-address v k) y)
+
+written-by : {mail : Bool} {p : List ℕ} {v : Option (List ℕ)} {line : List ℕ} (ascii : Bool) → ascii ≡ all isAscii p → Line mail p v line → faultBy ascii v ≡ Fine
+    → Written mail line (writtenLine mail line)
+unfolding writtenLine
+written-by {v = none} true e l k = rw (line-read l .path-is, ← e) (Written.copied l (rw (← e) tt))
+written-by {v = none} false e l k = absurd (let z : _≡_ {A = ℕ} 0 1 = cc in omega arith)
+written-by {v = some w} true e l k = absurd (let z : _≡_ {A = ℕ} 0 1 = cc in omega arith)
+written-by {v = some w} false e l k =
+    by-test (isAltAddress w)
+    (λ t. rw (l .is) (replaced-line (l .is-front) (l .is-path) (rw (← e) tt) (l .is-tail) t))
+    (λ t. absurd (let q = rw (no-false (isAltAddress w) t) at k in let z : _≡_ {A = ℕ} 0 1 = cc in omega arith))
+
+-- what is written for a line without fault
+pub line-written : (mail : Bool) (line : List ℕ) → lineFault mail line ≡ Fine → Written mail line (writtenLine mail line)
+line-written mail line f =
+    let l = read-line mail line (well-formed mail line f) in
+    written-by (all isAscii (path mail line)) refl l (sym (line-fault l) ∙ f)
+
+-- and nothing else
+pub written-exact : {mail : Bool} {line out : List ℕ} → Written mail line out → out ≡ writtenLine mail line
+unfolding writtenLine
+written-exact (Written.copied {path = p} l h) = rw (line-read l .path-is, yes-true (all isAscii p) h)
+written-exact (Written.replaced {front} {before} {v} {after} f q h o x a y) =
+    rw (xtext-read (a .xtext) .1) at (sym (replaced-by f q h o x y))

@@ -1,0 +1,113 @@
+-- A row read byte by byte, "from its bytes alone, front to back": what ReadingLaws.antt proves the grammar of Layout.antt equal to. No
+-- demand cites this file. Assumes nothing.
+use mathlib.Core.Bool.{Bool, true, false, not, cond, _&&_}
+use mathlib.Core.List.{List, [], _∷_, _++_}
+use mathlib.Core.Option.{Option, none, some, Option·map}
+use Prim.Native.Nat.{ℕ, _+_, _*_}
+use lib.Dec.{eqb}
+use lib.ListN.{drop}
+use Rattle.lists.specs.Byte.{within}
+use Rattle.word_spelling.specs.Spelling.{opening}
+use Rattle.row.specs.Layout.{anyCaseValue, Word, addedText}
+
+-- The state of the reading, with the words closed so far and, in a word, that word so far. A row without a fault closes every word
+-- that it opens, so the words closed at its end are those that it opens.
+pub data State : Type 0 where
+  fault : State
+  -- between words; true straight after the `?=` of a word
+  between : Bool → List Word → State
+  -- after a CR between words
+  afterCr : List Word → State
+  -- inside `=?UTF-8?Q?`, with these bytes of it to come
+  opens : List ℕ → List Word → State
+  inWord : List Word → Word → State
+  -- in a word after `=`; and after `=` and a digit, with the digit and its value
+  afterEquals : List Word → Word → State
+  afterDigit : List Word → Word → ℕ → ℕ → State
+  -- in a word after `?`
+  closes : List Word → Word → State
+
+-- a word with nothing in it so far
+abbrev pub opened : Word
+opened = record { standing = []; added = [] }
+
+-- a word with more standing in it, which adds more
+abbrev pub extended : Word → List ℕ → List ℕ → Word
+extended w standing added = record { standing = w .standing ++ standing; added = w .added ++ added }
+
+-- what a byte is in a word
+pub data Role : Type 0 where
+  underscore equals question itself other : Role
+
+-- 95 is `_`, 61 is `=`, 63 is `?`
+unfoldable pub role : ℕ → Role
+role b = cond (eqb b 95) underscore (cond (eqb b 61) equals (cond (eqb b 63) question (cond (within 33 126 b) itself other)))
+
+-- "Between words: CRLF and spaces add nothing. `=?UTF-8?Q?` opens a word; straight after the `?=` of another it is a fault."
+-- 32 is the space, 13 is CR, 61 is `=`.
+abbrev pub stepBetween : Bool → List Word → ℕ → State
+stepBetween straight ws b =
+    cond (eqb b 32) (between false ws)
+    (cond (eqb b 13) (afterCr ws)
+    (cond (eqb b 61 && not straight) (opens (drop 1 opening) ws) fault))
+
+-- The next byte of `=?UTF-8?Q?`, and nothing else. `stepOpens []` is never reached: after the last byte the word is open.
+abbrev pub stepOpens : List ℕ → List Word → ℕ → State
+stepOpens [] ws b = fault
+stepOpens (x ∷ []) ws b = cond (eqb b x) (inWord ws opened) fault
+stepOpens (x ∷ y ∷ more) ws b = cond (eqb b x) (opens (y ∷ more) ws) fault
+
+-- "In a word: `_` adds byte 32. `=` with two hex digits in any case adds that byte. `?=` closes the word. Any other byte 33 to
+-- 126 except `?` and `=` adds itself."
+abbrev pub stepInWord : Role → List Word → Word → ℕ → State
+stepInWord underscore ws w b = inWord ws (extended w (b ∷ []) (32 ∷ []))
+stepInWord equals ws w b = afterEquals ws w
+stepInWord question ws w b = closes ws w
+stepInWord itself ws w b = inWord ws (extended w (b ∷ []) (b ∷ []))
+stepInWord other ws w b = fault
+
+-- after `=`: the first hex digit, with its value
+abbrev pub stepDigit : Option ℕ → List Word → Word → ℕ → State
+stepDigit none ws w b = fault
+stepDigit (some high) ws w b = afterDigit ws w b high
+
+-- after `=` (61) and a hex digit: the second, and the byte is added
+abbrev pub stepSecond : Option ℕ → List Word → Word → ℕ → ℕ → ℕ → State
+stepSecond none ws w first high b = fault
+stepSecond (some low) ws w first high b = inWord ws (extended w (61 ∷ first ∷ b ∷ []) ((high * 16 + low) ∷ []))
+
+-- One byte read. "Anything else is a fault": also a byte other than LF (10) after CR, and other than `=` (61) after the `?` of
+-- a word.
+unfoldable pub step : State → ℕ → State
+step fault b = fault
+step (between straight ws) b = stepBetween straight ws b
+step (afterCr ws) b = cond (eqb b 10) (between false ws) fault
+step (opens more ws) b = stepOpens more ws b
+step (inWord ws w) b = stepInWord (role b) ws w b
+step (afterEquals ws w) b = stepDigit (anyCaseValue b) ws w b
+step (afterDigit ws w first high) b = stepSecond (anyCaseValue b) ws w first high b
+step (closes ws w) b = cond (eqb b 61) (between true (ws ++ (w ∷ []))) fault
+
+-- the bytes of a row read one after another
+unfoldable pub reading : State → List ℕ → State
+reading s [] = s
+reading s (b ∷ row) = reading (step s b) row
+
+-- The words at the end: "and so is an end inside a word", also inside `=?UTF-8?Q?`. A CR at the end is no CRLF, and a fault too.
+abbrev pub finish : State → Option (List Word)
+finish fault = none
+finish (between straight ws) = some ws
+finish (afterCr ws) = none
+finish (opens more ws) = none
+finish (inWord ws w) = none
+finish (afterEquals ws w) = none
+finish (afterDigit ws w first high) = none
+finish (closes ws w) = none
+
+-- the words of a row of bytes, or none where it has a fault
+unfoldable pub wordsRead : List ℕ → Option (List Word)
+wordsRead row = finish (reading (between false []) row)
+
+-- "A row with a fault reads back as no text; any other reads back as the bytes added, in order."
+unfoldable pub readsAs : List ℕ → Option (List ℕ)
+readsAs row = Option·map addedText (wordsRead row)

@@ -1,0 +1,62 @@
+-- Turns of the loop that measures a row. Assumes nothing.
+use mathlib.Core.Path.{_≡_, refl, ap}
+use mathlib.Core.Bool.{true, _&&_}
+use mathlib.Core.List.{List, [], _++_}
+use Prim.Native.Nat.{ℕ, _+_, _-_, _*_, _≤_, _<_, min}
+use native.Mathlib.Omega.{arith}
+use lib.ListN.{length, take, drop, getD, length-append}
+use lib.Dec.{ltb}
+use borrow.Author.Tests.{ltb-true}
+use Rattle.utf8.specs.Utf8.{charLen}
+use Rattle.word_spelling.specs.Spelling.{spell}
+use Rattle.word_spelling.specs.Cost.{byteCost, cost}
+use Rattle.word_spelling.specs.HighChar.{HighChar}
+use Rattle.word_spelling.specs.HighCharLaws.{both, whole-end, whole-take, whole-cost}
+use Rattle.word_spelling.specs.FirstChars.{firstChars, costIn}
+use Rattle.word_spelling.specs.FirstCharsLaws.{cost-in}
+use Rattle.row.specs.Stream.{gap, leftAfter, onwardsAt, MeasuredTurn}
+use Rattle.row.specs.StreamLaws.{turn, turned-four}
+
+module _ (s : List ℕ) (i left n : ℕ) (h : i < length s) (hl : left ≤ 63) where
+  -- a character `c` that takes m characters
+  pub measured : (e m next left′ n′ : ℕ) (c : List ℕ) → e ≡ min (i + charLen (getD s i 0)) (length s) → take (e - i) (drop i s) ≡ c → m ≡ cost c
+      → (next ≡ e) × (left′ ≡ leftAfter 63 left m) × (n′ ≡ n + (length (gap left m) + m)) → MeasuredTurn s i left n next left′ n′
+  measured e m next left′ n′ c he hc hm r = record {
+    text = gap left (cost c) ++ spell c;
+    turned = rw (r .0, r .1, hm) (turn s i left h hl e c he hc);
+    size = rw (r .2, hm, length-append) refl;
+  }
+
+-- the same where the character is whole and no byte of it is ASCII
+pub measured-high : {s : List ℕ} {i left r n next left′ n′ : ℕ} → left ≤ 63 → 0 < r → HighChar s i r
+    → (next ≡ i + r) × (left′ ≡ leftAfter 63 left (3 * r)) × (n′ ≡ n + (length (gap left (3 * r)) + 3 * r)) → MeasuredTurn s i left n next left′ n′
+measured-high {s} {i} {left} {r} {n} {next} {left′} {n′} hl hr k e =
+    measured s i left n (omega (arith, k .fits hr)) hl (i + r) (3 * r) next left′ n′ (take r (drop i s)) (whole-end hr k) (whole-take hr k) (whole-cost hr k) e
+
+-- the length so far and the length that is left make up the whole
+pub measured-on : {s : List ℕ} {i left n i′ left′ n′ : ℕ} (whole : ℕ) → MeasuredTurn s i left n i′ left′ n′
+    → n + length (onwardsAt s i left) ≡ whole → n′ + length (onwardsAt s i′ left′) ≡ whole
+measured-on {s} {i} {left} {n} {i′} {left′} {n′} whole t e =
+    omega (arith, t .size, e, ap length (t .turned .joins), length-append (t .text) (onwardsAt s i′ left′))
+
+-- four ASCII characters that fit the open word, by the table of first characters
+pub measured-four : (s first : List ℕ) (i left n m : ℕ) → first ≡ firstChars → 4 ≤ length s - i → left ≤ 63 → getD s i 0 < 128
+    → ltb (getD s (i + 1) 0) 128 && ltb (getD s (i + 1 + 1) 0) 128 && ltb (getD s (i + 1 + 1 + 1) 0) 128 ≡ true
+    → m ≡ costIn first (getD s i 0) + costIn first (getD s (i + 1) 0) + costIn first (getD s (i + 1 + 1) 0) + costIn first (getD s (i + 1 + 1 + 1) 0)
+    → m ≤ left → MeasuredTurn s i left n (i + 1 + 1 + 1 + 1) (left - m) (n + m)
+measured-four s first i left n m e h hl a bcd hm f =
+    let p = both (ltb (getD s (i + 1) 0) 128 && ltb (getD s (i + 1 + 1) 0) 128) (ltb (getD s (i + 1 + 1 + 1) 0) 128) bcd in
+    let q = both (ltb (getD s (i + 1) 0) 128) (ltb (getD s (i + 1 + 1) 0) 128) (p .0) in
+    let b = ltb-true (getD s (i + 1) 0) 128 (q .0) in
+    let c = ltb-true (getD s (i + 1 + 1) 0) 128 (q .1) in
+    let d = ltb-true (getD s (i + 1 + 1 + 1) 0) 128 (p .1) in
+    let size : m ≡ byteCost (getD s i 0) + byteCost (getD s (i + 1) 0) + byteCost (getD s (i + 1 + 1) 0) + byteCost (getD s (i + 1 + 1 + 1) 0) =
+    omega (arith, hm, taken (getD s i 0) a, taken (getD s (i + 1) 0) b, taken (getD s (i + 1 + 1) 0) c, taken (getD s (i + 1 + 1 + 1) 0) d) in
+    record {
+      text = _;
+      turned = turned-four s i left m h hl a b c d size f;
+      size = rw (length-append, length-append, length-append) (omega arith);
+    }
+  where
+    taken : (x : ℕ) → x < 128 → costIn first x ≡ byteCost x
+    taken x k = cost-in x e (omega arith) refl
