@@ -21,13 +21,8 @@ use Rattle.address_list.specs.Parts.{innerEnd, TookFrom, partsFrom}
 use Rattle.address_list.specs.PartsLaws.{parts-step, parts-end}
 use Rattle.address_list.specs.declared.Front.{Front}
 use Rattle.address_list.specs.declared.PartKind.the-variants.{Angled, Alternative}
-use Rattle.address_pieces.specs.Pieces.{piece, phrasePieces, removed, inAngles, addressPieces, pieces, piecesOf}
-
--- ---- rendered segments
-
-pub rendered-one : (s : Segment) → rendered (s ∷ []) ≡ bytesOf s
-unfolding rendered
-rendered-one s = append-nil (bytesOf s)
+use Rattle.piece.specs.Piece.{piece}
+use Rattle.address_pieces.specs.Pieces.{phrasePieces, removed, inAngles, addressPieces, pieces, piecesOf}
 
 -- ---- a phrase, word by word
 

@@ -1,6 +1,7 @@
-use Rattle.address_pieces.specs.WritingLaws.{wrote-same}
-use Rattle.address_pieces.specs.Pieces.{pieces, piece}
-use Rattle.address_pieces.specs.PiecesLaws.{rendered-one, pieces-angled, pieces-alternative}
+use Rattle.piece.specs.PieceLaws.{rendered-one, wrote-same}
+use Rattle.piece.specs.Piece.{piece}
+use Rattle.address_pieces.specs.Pieces.{pieces}
+use Rattle.address_pieces.specs.PiecesLaws.{pieces-angled, pieces-alternative}
 use Rattle.encoded_word.specs.Segments.{rendered}
 use Rattle.encoded_word.specs.Segments.Segment.{raw}
 use Rattle.buffer.specs.BufferLaws.{wrote-nothing}

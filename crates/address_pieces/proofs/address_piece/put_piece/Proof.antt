@@ -1,8 +1,8 @@
 use Rattle.address_pieces.specs.WritingLaws.{wrote-then}
 use native.Mathlib.Omega.{arith}
 use borrow.Author.Needs.{needs}
-use Rattle.address_pieces.proofs.piece.put_piece.Statement.{statement}
-use Rattle.address_pieces.proofs.piece.put_piece.Tie as tie
+use Rattle.address_pieces.proofs.address_piece.put_piece.Statement.{statement}
+use Rattle.address_pieces.proofs.address_piece.put_piece.Tie as tie
 
 slice-aggregate-put-slice : tie.Need-slice-aggregate-put-slice
 slice-aggregate-put-slice c = search needs
