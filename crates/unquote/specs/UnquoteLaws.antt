@@ -96,3 +96,7 @@ unquoted-high escaped b h = rw (ne-eqb b 34 (λ e. not-suc-le-zero {n = 0} (omeg
 pub unquoted-utf8 : (w : List ℕ) → T (utf8 w) → T (utf8 (unquoted w))
 unfolding unquoted
 unquoted-utf8 w h = kept-from-utf8 staysUnquoted unquoted-high false w h
+
+pub length-unquoted : (w : List ℕ) → length (unquoted w) ≤ length w
+unfolding unquoted
+length-unquoted w = length-kept-from staysUnquoted false w
