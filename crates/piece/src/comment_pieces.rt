@@ -43,10 +43,7 @@ fn put_parts(out: &mut [u8], comment: &[u8], scratch: &mut [u8]) -> usize
     while i < comment.len() {
         let e = comment::part_end(comment, i);
         let a = buffer::clip(next, out.len());
-        next = buffer::place_after(
-            next,
-            put_part(&mut out[a..], &comment[i..e], scratch),
-        );
+        next = buffer::place_after(next, put_part(&mut out[a..], &comment[i..e], scratch));
         i = e;
     }
     next

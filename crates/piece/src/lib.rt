@@ -2,7 +2,6 @@
 mod comment_pieces;
 
 pub use comment_pieces::put_comment;
-
 ghost use mathlib.Core.Path.{_≡_};
 ghost use mathlib.Core.Bool.{cond, _&&_};
 ghost use Prim.Native.Nat.{_*_};
