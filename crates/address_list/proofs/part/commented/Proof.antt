@@ -7,41 +7,28 @@ use native.Mathlib.Omega.{arith}
 use borrow.Author.Needs.{needs}
 use Rattle.address_list.proofs.part.commented.Statement.{statement}
 use Rattle.address_list.proofs.part.commented.Tie as tie
-use Rattle.address_list.proofs.part.commented.Reads as reads
-use Rattle.address_list.proofs.part.commented.Lts as lts
-use Rattle.address_list.proofs.part.stray.Reads as stray-reads
-use Rattle.comment.proofs.comment_end.Reads as comment-end-reads
-use Rattle.comment.proofs.parts_fit.Reads as parts-fit-reads
 
--- src/part.rt:89:9
 comment-end-requires : tie.Need-comment-end-requires
 comment-end-requires c κs = search needs
 
--- src/part.rt:91:9
 stray-requires : tie.Need-stray-requires
 stray-requires c κs = search needs
 
--- src/part.rt:91:9
 returns : tie.Need-returns
 returns c = took-stray (c .stray .ensures) (comment-none (c .before .before .before .before .args .t .now) _ (c .before .before .comment-end .ensures) (c .before .if1 .taken)) (c .before .before .before .before .pre)
 
--- src/part.rt:93:19
 slice-aggregate-parts-fit : tie.Need-slice-aggregate-parts-fit
 slice-aggregate-parts-fit c = comment-length _ _ (c .before .before .comment-end .ensures)
 
--- src/part.rt:93:9
 parts-fit-requires : tie.Need-parts-fit-requires
 parts-fit-requires c κs = search needs
 
--- src/part.rt:94:9
 stray-requires-2 : tie.Need-stray-requires-2
 stray-requires-2 c κs = search needs
 
--- src/part.rt:94:9
 returns-2 : tie.Need-returns-2
 returns-2 c = took-stray (c .stray2 .ensures) (comment-long (c .before .before .before .before .before .before .before .args .t .now) _ (c .before .before .before .before .before .comment-end .ensures) (sym (c .before .before .parts-fit .ensures) ∙ not-true _ (c .before .if2 .taken))) (c .before .before .before .before .before .before .before .pre)
 
--- src/part.rt:85:1
 returns-3 : tie.Need-returns-3
 returns-3 c = record { is = comment-there (c .before .before .before .before .before .before .args .t .now) _ (c .before .before .before .before .comment-end .ensures) (c .before .before .before .if1 .left) (sym (c .before .parts-fit .ensures) ∙ not-false _ (c .if2 .left)); some = omega (arith, c .before .before .before .if1 .left); within = omega (arith, c .before .before .before .before .comment-end .ensures, comment-within (c .before .before .before .before .before .before .args .t .now)); inner = omega arith }
 
