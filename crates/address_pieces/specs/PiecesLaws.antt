@@ -22,6 +22,7 @@ use Rattle.address_list.specs.PartsLaws.{parts-step, parts-end}
 use Rattle.address_list.specs.declared.Front.{Front}
 use Rattle.address_list.specs.declared.PartKind.the-variants.{Angled, Alternative}
 use Rattle.piece.specs.Piece.{piece}
+use Rattle.piece.specs.PieceLaws.{rendered-one}
 use Rattle.address_pieces.specs.Pieces.{phrasePieces, removed, inAngles, addressPieces, pieces, piecesOf}
 
 -- ---- a phrase, word by word
