@@ -1,16 +1,12 @@
 -- The writing of an address field, step by step. Assumes nothing.
-use mathlib.Core.Path.{_≡_, refl, ap, sym, _∙_}
-use mathlib.Core.Bool.{Bool, true, false, cond, _&&_}
+use mathlib.Core.Path.{_≡_, ap, sym, _∙_}
+use mathlib.Core.Bool.{true}
 use mathlib.Core.List.{List, [], _∷_, _++_, map}
-use Prim.Native.Nat.{ℕ, _+_, _-_, _*_, _≤_, _<_}
+use Prim.Native.Nat.{ℕ, _+_, _-_, _*_, _≤_}
 use native.Mathlib.Omega.{arith}
-use lib.Dec.{T, leb}
-use mir.Facts.{and-yes, leb-yes}
-use borrow.Author.Tests.{le-leb}
-use lib.ListN.{length, take, length-take, length-append}
-use lib.Seq.{take-all, length-take-le}
+use lib.ListN.{length, length-append}
 use Rattle.buffer.specs.Buffer.{Wrote, AppendedCapped, greatest}
-use Rattle.buffer.specs.BufferLaws.{overlay-front, appended-from, appended-of, appended-then, capped-then, capped-same, length-wrote, length-added, wrote-from, wrote-of}
+use Rattle.buffer.specs.BufferLaws.{appended-from, appended-of, appended-then, capped-then, capped-same, length-wrote, length-added, wrote-from}
 use Rattle.rules.specs.Rules.{removalStart, removalEnd}
 use Rattle.rules.specs.declared.Rules.{Rules}
 use Rattle.row.specs.Row.{row, bounded}
