@@ -3,7 +3,7 @@ use mathlib.Core.Bool.{true}
 use mathlib.Core.List.{List, [], _∷_, _++_}
 use Prim.Native.Nat.{ℕ}
 use Rattle.rules.specs.declared.Rules.{Rules}
-pub use Rattle.piece.specs.Piece.{fitting}
+use Rattle.piece.specs.Piece.{fitting as fittingScratch}
 use Rattle.encoded_word.specs.Segments.{Segment}
 use Rattle.encoded_word.specs.Segments.Segment.{raw}
 use Rattle.field.specs.Field.{encodedField}
@@ -27,3 +27,7 @@ fieldBy Changed rules name text = rewrittenField rules name text ++ encodedField
 -- the segments of an address field whose value is not ASCII, by its name and text
 unfoldable pub addressField : Rules → List ℕ → List ℕ → List Segment
 addressField rules name text = fieldBy (examined rules text) rules name text
+
+-- a text that a scratch with so much room cannot serve counts as empty
+abbrev pub fitting : ℕ → List ℕ → List ℕ
+fitting room text = fittingScratch room text

@@ -8,8 +8,7 @@ ghost use lib.ListN.{length};
 ghost use Rattle.buffer.specs.Buffer.{AppendedCapped};
 ghost use Rattle.encoded_word.specs.Segments.{rendered};
 ghost use Rattle.address_list.specs.declared.Examined.the-variants.{Changed};
-ghost use Rattle.piece.specs.Piece.{fitting};
-ghost use Rattle.address_pieces.specs.AddressField.{rewrittenField, fieldBy, addressField};
+ghost use Rattle.address_pieces.specs.AddressField.{rewrittenField, fieldBy, addressField, fitting};
 use address_list::Examined;
 use rules::Rules;
 
