@@ -18,7 +18,7 @@ use Rattle.utf8.specs.Utf8.{utf8}
 use Rattle.utf8.specs.Utf8Laws.{utf8-ascii, utf8-right, utf8-append, utf8-cut}
 use Rattle.unquote.specs.Unquote.{keptFrom}
 use Rattle.unquote.specs.UnquoteLaws.{length-kept-from, kept-from-utf8}
-use Rattle.comment.specs.Comment.{isParen, commentLen, runFrom, runLen}
+use Rattle.comment.specs.Comment.{isParen, commentLen, runTo, runLen}
 use Rattle.comment.specs.CommentLaws.{stops}
 use Rattle.comment.specs.Grammar.{Comment, comment}
 use Rattle.comment.specs.GrammarLaws.{taken-comment}
@@ -90,9 +90,9 @@ part-cut : (b : ℕ) (s : List ℕ) → T (utf8 (b ∷ s)) → Cut (b ∷ s) (pa
 unfolding partLen runLen
 part-cut b s h = go (isParen b) refl
   where
-    go : (x : Bool) → isParen b ≡ x → Cut (b ∷ s) (cond x 1 (runFrom false (b ∷ s)))
+    go : (x : Bool) → isParen b ≡ x → Cut (b ∷ s) (cond x 1 (runTo isParen false (b ∷ s)))
     go true e = cut-first b s h (paren-ascii b e)
-    go false e = cut-before (b ∷ s) (runFrom false (b ∷ s)) h (λ k. paren-ascii (getD (b ∷ s) (runFrom false (b ∷ s)) 0) (stops (b ∷ s) false k))
+    go false e = cut-before (b ∷ s) (runTo isParen false (b ∷ s)) h (λ k. paren-ascii (getD (b ∷ s) (runTo isParen false (b ∷ s)) 0) (stops isParen (b ∷ s) false k))
 
 -- every part of UTF-8 text is UTF-8
 pub parts-utf8 : (s : List ℕ) → T (utf8 s) → T (all utf8 (parts s))
