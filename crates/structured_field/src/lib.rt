@@ -1,0 +1,10 @@
+// Structured fields: the tokens of a value, and what comments with non-ASCII become.
+mod tokens;
+
+pub use tokens::token_at;
+
+// The token at a place of a value: where it ends, and whether it is a comment.
+pub struct Token {
+    pub end: usize,
+    pub comment: bool,
+}
