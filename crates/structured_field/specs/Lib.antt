@@ -3,3 +3,4 @@ pub mod TokensLaws
 pub mod MappedLaws
 pub mod StructuredField
 pub mod StructuredFieldLaws
+pub mod WritingLaws

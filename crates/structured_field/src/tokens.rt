@@ -2,7 +2,7 @@
 ghost use mathlib.Core.Path.{_≡_};
 ghost use Prim.Native.Nat.{_+_, _<_};
 ghost use lib.ListN.{length, drop};
-ghost use Rattle.structured_field.specs.Tokens.{stringLen, TookToken};
+ghost use Rattle.structured_field.specs.Tokens.{stringLen, isComment, commentOrAscii, asciiOutsideComments, TookToken};
 use crate::Token;
 
 // Where the quoted string ends whose first quote stands at `at`.
@@ -60,4 +60,31 @@ pub fn token_at(value: &[u8], at: usize) -> Token
         end: end,
         comment: true,
     }
+}
+
+// Whether a token is a comment, or ASCII.
+fn comment_or_ascii(token: &[u8], comment: bool) -> bool
+    requires { ⌜ comment ≡ isComment (now token) ⌝ }
+    ensures { λ r. ⌜ r ≡ commentOrAscii (now (token .entry)) ⌝ }
+{
+    if comment {
+        return true;
+    }
+    utf8::is_ascii(token)
+}
+
+// Whether no non-ASCII stands outside the comments of a value.
+pub fn ascii_outside_comments(value: &[u8]) -> bool
+    ensures { λ r. ⌜ r ≡ asciiOutsideComments (now (value .entry)) ⌝ }
+{
+    let mut i: usize = 0;
+    while i < value.len() {
+        let token = token_at(value, i);
+        let end = token.end;
+        if !comment_or_ascii(&value[i..end], token.comment) {
+            return false;
+        }
+        i = end;
+    }
+    true
 }
