@@ -1,6 +1,6 @@
 -- Where UTF-8 may be cut: at the ends of a comment and of each of its parts. The text of a run is UTF-8. Assumes nothing.
 use borrow.Author.Tests.{ne-eqb, eqb-true}
-use mathlib.Core.Path.{_≡_, refl, sym}
+use mathlib.Core.Path.{_≡_, refl}
 use mathlib.Core.Bool.{Bool, true, false, cond, _||_, or-true}
 use mathlib.Core.List.{List, [], _∷_, _++_, append-assoc}
 use Prim.Native.Nat.{ℕ, zero, suc, pred, _≤_, _<_}
@@ -16,7 +16,6 @@ use Rattle.lists.specs.Lists.{all}
 use Rattle.lists.specs.ListsLaws.{by-test}
 use Rattle.utf8.specs.Utf8.{utf8}
 use Rattle.utf8.specs.Utf8Laws.{utf8-ascii, utf8-right, utf8-append, utf8-cut}
-use Rattle.unquote.specs.Unquote.{keptFrom}
 use Rattle.unquote.specs.UnquoteLaws.{length-kept-from, kept-from-utf8}
 use Rattle.comment.specs.Comment.{isParen, commentLen, runTo, runLen}
 use Rattle.comment.specs.CommentLaws.{stops}

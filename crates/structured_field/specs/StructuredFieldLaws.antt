@@ -1,34 +1,27 @@
 -- Laws of what a structured field becomes: it is sound, how long it can be, and its writing part by part. Assumes nothing.
-use mathlib.Core.Path.{_≡_, refl, sym, ap, _∙_}
-use mathlib.Core.Bool.{Bool, true, false, not, cond, _&&_, _||_}
-use mathlib.Core.List.{List, [], _∷_, _++_, append-nil, append-assoc, map}
-use Prim.Native.Nat.{ℕ, zero, suc, pred, _+_, _-_, _*_, _≤_, _<_}
-use native.Mathlib.Nat.{not-suc-le-zero}
+use mathlib.Core.Bool.{Bool, true, _&&_, _||_}
+use mathlib.Core.List.{List, [], _∷_, _++_, append-nil, map}
+use Prim.Native.Nat.{ℕ, _+_, _-_, _*_, _≤_, _<_}
 use native.Mathlib.Omega.{arith}
-use lib.Dec.{T, leb}
-use lib.ListN.{length, take, drop, length-append, length-take, length-drop}
-use lib.Seq.{length-take-le, take-length}
-use mir.Facts.{and-yes, yes-and, leb-yes}
-use borrow.Author.Tests.{le-leb}
+use lib.Dec.{T}
+use lib.ListN.{length, length-append}
+use mir.Facts.{and-yes, yes-and}
 use Rattle.lists.specs.Byte.{isAscii}
 use Rattle.lists.specs.CutByLaws.{cut-some}
-use Rattle.lists.specs.Lists.{all, joined, nonempty}
-use Rattle.lists.specs.ListsLaws.{cond-has, by-test, yes-true, no-false, all-append}
+use Rattle.lists.specs.Lists.{all, joined}
+use Rattle.lists.specs.ListsLaws.{cond-has, no-false, all-append}
 use Rattle.utf8.specs.Utf8.{utf8}
-use Rattle.buffer.specs.Buffer.{Wrote, AppendedCapped, greatest}
-use Rattle.buffer.specs.BufferLaws.{overlay-front, capped-then, capped-same, length-added, length-wrote, wrote-of}
-use Rattle.row.specs.Row.{row, bounded}
-use Rattle.row.specs.RowLaws.{bounded-short, length-row-le}
+use Rattle.row.specs.RowLaws.{length-row-le}
 use Rattle.encoded_word.specs.Segments.{Segment, rendered, sound}
 use Rattle.encoded_word.specs.Segments.Segment.{raw, words}
 use Rattle.encoded_word.specs.SegmentsLaws.{rendered-append}
 use Rattle.comment.specs.Parts.{partLen, parts, runText}
-use Rattle.comment.specs.PartsLaws.{parts-joined, parts-next, parts-over}
+use Rattle.comment.specs.PartsLaws.{parts-joined}
 use Rattle.comment.specs.BoundaryLaws.{parts-utf8, run-text-utf8, length-run-text}
-use Rattle.structured_field.specs.MappedLaws.{mapped-next, mapped-none, mapped-le, mapped-sound}
-use Rattle.structured_field.specs.Tokens.{tokenLen, tokens, isComment, commentOrAscii, asciiOutsideComments, TookToken}
-use Rattle.structured_field.specs.TokensLaws.{tokens-joined, tokens-next, tokens-over, tokens-utf8}
-use Rattle.structured_field.specs.StructuredField.{partSegments, tokenSegments, valueSegments, structuredField, fitting}
+use Rattle.structured_field.specs.MappedLaws.{mapped-le, mapped-sound}
+use Rattle.structured_field.specs.Tokens.{tokenLen, tokens, isComment, commentOrAscii, asciiOutsideComments}
+use Rattle.structured_field.specs.TokensLaws.{tokens-joined, tokens-utf8}
+use Rattle.structured_field.specs.StructuredField.{partSegments, tokenSegments, valueSegments, structuredField}
 
 -- ---- soundness
 

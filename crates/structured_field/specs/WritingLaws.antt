@@ -1,5 +1,5 @@
 -- The writing of a structured field and the test of its value, step by step. Assumes nothing.
-use mathlib.Core.Path.{_≡_, refl, sym, ap, _∙_}
+use mathlib.Core.Path.{_≡_, refl, sym, _∙_}
 use mathlib.Core.Bool.{Bool, true, false, cond, _&&_}
 use mathlib.Core.List.{List, [], _∷_, _++_, append-nil, map}
 use Prim.Native.Nat.{ℕ, _+_, _-_, _≤_, _<_}
@@ -15,13 +15,13 @@ use Rattle.buffer.specs.Buffer.{Wrote, AppendedCapped, greatest}
 use Rattle.buffer.specs.BufferLaws.{overlay-front, capped-then, capped-same, length-added, length-wrote, wrote-of}
 use Rattle.row.specs.Row.{row, bounded}
 use Rattle.row.specs.RowLaws.{bounded-short}
-use Rattle.encoded_word.specs.Segments.{Segment, rendered}
+use Rattle.encoded_word.specs.Segments.{rendered}
 use Rattle.encoded_word.specs.SegmentsLaws.{rendered-append}
 use Rattle.comment.specs.Parts.{partLen, parts, runText}
 use Rattle.comment.specs.PartsLaws.{parts-next, parts-over}
 use Rattle.comment.specs.BoundaryLaws.{length-run-text}
 use Rattle.structured_field.specs.MappedLaws.{mapped-next, mapped-none}
-use Rattle.structured_field.specs.Tokens.{tokens, isComment, commentOrAscii, asciiOutsideComments, TookToken}
+use Rattle.structured_field.specs.Tokens.{isComment, commentOrAscii, asciiOutsideComments, TookToken}
 use Rattle.structured_field.specs.TokensLaws.{tokens-next, tokens-over}
 use Rattle.structured_field.specs.StructuredField.{partSegments, tokenSegments, valueSegments, structuredField, fitting}
 

@@ -9,10 +9,6 @@ use mathlib.Core.Bool.{true, false}
 use Prim.Native.Nat.{_-_}
 use Rattle.structured_field.proofs.tokens.ascii_outside_comments.Statement.{statement}
 use Rattle.structured_field.proofs.tokens.ascii_outside_comments.Tie as tie
-use Rattle.structured_field.proofs.tokens.ascii_outside_comments.Reads as reads
-use Rattle.structured_field.proofs.tokens.ascii_outside_comments.Lts as lts
-use Rattle.structured_field.proofs.tokens.comment_or_ascii.Reads as comment-or-ascii-reads
-use Rattle.structured_field.proofs.tokens.token_at.Reads as token-at-reads
 
 abbrev Inv-loop : tie.InvT-loop
 Inv-loop value i₀ i = asciiOutsideComments value ≡ asciiOutsideComments (drop i value)
@@ -20,43 +16,33 @@ Inv-loop value i₀ i = asciiOutsideComments value ≡ asciiOutsideComments (dro
 abbrev μ-loop : tie.MeasureT-loop
 μ-loop value i₀ i = length value - i
 
--- src/tokens.rt:81:5
 loop-holds : tie.Need-loop-holds Inv-loop μ-loop
 loop-holds c = refl
 
--- src/tokens.rt:82:13
 token-at-requires : tie.Need-token-at-requires Inv-loop μ-loop
 token-at-requires c κs = search needs
 
--- src/tokens.rt:84:30
 sub-comment-or-ascii : tie.Need-sub-comment-or-ascii Inv-loop μ-loop
 sub-comment-or-ascii c = omega (arith, c .token-at .ensures .some (c .before .loop-test .taken))
 
--- src/tokens.rt:84:30
 part-comment-or-ascii-start : tie.Need-part-comment-or-ascii-start Inv-loop μ-loop
 part-comment-or-ascii-start c = omega (arith, c .token-at .ensures .some (c .before .loop-test .taken))
 
--- src/tokens.rt:84:30
 part-comment-or-ascii-end : tie.Need-part-comment-or-ascii-end Inv-loop μ-loop
 part-comment-or-ascii-end c = c .token-at .ensures .within (c .before .loop-test .taken)
 
--- src/tokens.rt:84:13
 comment-or-ascii-requires : tie.Need-comment-or-ascii-requires Inv-loop μ-loop
 comment-or-ascii-requires c κs = c .before .token-at .ensures .kind
 
--- src/tokens.rt:85:13
 returns : tie.Need-returns Inv-loop μ-loop
 returns c = sym (c .before .before .before .before .before .loop .inv ∙ outside-next (c .before .before .before .before .loop-test .taken) (c .before .before .before .token-at .ensures) false (sym (not-true _ (c .if1 .taken)) ∙ c .before .comment-or-ascii .ensures))
 
--- src/tokens.rt:81:5
 loop-less : tie.Need-loop-less Inv-loop μ-loop
 loop-less c = omega (arith, c .before .before .before .token-at .ensures .some (c .before .before .before .before .loop-test .taken))
 
--- src/tokens.rt:81:5
 loop-again : tie.Need-loop-again Inv-loop μ-loop
 loop-again c = c .before .before .before .before .before .loop .inv ∙ outside-next (c .before .before .before .before .loop-test .taken) (c .before .before .before .token-at .ensures) true (sym (not-false _ (c .if1 .left)) ∙ c .before .comment-or-ascii .ensures)
 
--- src/tokens.rt:77:1
 returns-2 : tie.Need-returns-2 Inv-loop μ-loop
 returns-2 c = sym (c .before .loop .inv ∙ outside-none _ _ (c .loop-test .left))
 

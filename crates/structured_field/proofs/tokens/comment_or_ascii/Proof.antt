@@ -3,19 +3,13 @@ use mathlib.Core.Path.{_∙_}
 use borrow.Author.Needs.{needs}
 use Rattle.structured_field.proofs.tokens.comment_or_ascii.Statement.{statement}
 use Rattle.structured_field.proofs.tokens.comment_or_ascii.Tie as tie
-use Rattle.structured_field.proofs.tokens.comment_or_ascii.Reads as reads
-use Rattle.structured_field.proofs.tokens.comment_or_ascii.Lts as lts
-use Rattle.utf8.proofs.is_ascii.Reads as is-ascii-reads
 
--- src/tokens.rt:71:9
 returns : tie.Need-returns
 returns c = passed-comment _ (c .before .before .pre) (c .if1 .taken)
 
--- src/tokens.rt:73:5
 is-ascii-requires : tie.Need-is-ascii-requires
 is-ascii-requires c κs = search needs
 
--- src/tokens.rt:66:1
 returns-2 : tie.Need-returns-2
 returns-2 c = c .is-ascii .ensures ∙ passed-other _ (c .before .before .before .pre) (c .before .if1 .left)
 

@@ -5,7 +5,7 @@ use Rattle.comment.specs.Comment.{runTo}
 use borrow.Author.Needs.{needs}
 use native.Mathlib.Omega.{arith}
 use lib.ListN.{length, drop}
-use mathlib.Core.Path.{_≡_, refl, sym, _∙_}
+use mathlib.Core.Path.{_≡_, refl, _∙_}
 use mathlib.Core.Bool.{false}
 use Prim.Native.Nat.{_+_, _-_}
 use Rattle.structured_field.proofs.tokens.string_end.Statement.{statement}

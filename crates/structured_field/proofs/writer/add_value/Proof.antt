@@ -1,59 +1,54 @@
+use Rattle.structured_field.specs.WritingLaws.{part-served, value-next, value-none}
+use Rattle.structured_field.specs.StructuredField.{valueSegments}
+use Rattle.encoded_word.specs.Segments.{rendered}
+use Rattle.buffer.specs.BufferLaws.{capped-start, capped-turn, capped-end, length-capped}
+use Rattle.buffer.specs.Buffer.{ReachedCapped}
+use borrow.Author.Needs.{needs}
+use native.Mathlib.Omega.{arith}
+use lib.ListN.{length, drop}
+use mathlib.Core.Path.{_≡_, refl}
+use Prim.Native.Nat.{_-_}
 use Rattle.structured_field.proofs.writer.add_value.Statement.{statement}
 use Rattle.structured_field.proofs.writer.add_value.Tie as tie
-use Rattle.structured_field.proofs.writer.add_value.Reads as reads
-use Rattle.structured_field.proofs.writer.add_value.Lts as lts
-use Rattle.structured_field.proofs.tokens.token_at.Reads as token-at-reads
-use Rattle.structured_field.proofs.writer.add_token.Reads as add-token-reads
 
 abbrev Inv-loop : tie.InvT-loop
-Inv-loop out₀ at value scratch₀ next₀ i₀ out scratch next i = ?
+Inv-loop out₀ at value scratch₀ next₀ i₀ out scratch next i = ReachedCapped (rendered (valueSegments value)) (rendered (valueSegments (drop i value))) at out₀ out next × (length scratch ≡ length scratch₀)
 
 abbrev μ-loop : tie.MeasureT-loop
-μ-loop out₀ at value scratch₀ next₀ i₀ out scratch next i = ?
+μ-loop out₀ at value scratch₀ next₀ i₀ out scratch next i = length value - i
 
--- src/writer.rt:59:5
 loop-holds : tie.Need-loop-holds Inv-loop μ-loop
-loop-holds c = ?
+loop-holds c = (capped-start _ _ _ (omega arith), refl)
 
--- src/writer.rt:60:13
 token-at-requires : tie.Need-token-at-requires Inv-loop μ-loop
-token-at-requires c κs = ?
+token-at-requires c κs = search needs
 
--- src/writer.rt:62:37
 sub-add-token : tie.Need-sub-add-token Inv-loop μ-loop
-sub-add-token c = ?
+sub-add-token c = omega (arith, c .before .token-at .ensures .some (c .before .before .loop-test .taken))
 
--- src/writer.rt:62:37
 part-add-token-start : tie.Need-part-add-token-start Inv-loop μ-loop
-part-add-token-start c = ?
+part-add-token-start c = omega (arith, c .before .token-at .ensures .some (c .before .before .loop-test .taken))
 
--- src/writer.rt:62:37
 part-add-token-end : tie.Need-part-add-token-end Inv-loop μ-loop
-part-add-token-end c = ?
+part-add-token-end c = c .before .token-at .ensures .within (c .before .before .loop-test .taken)
 
--- src/writer.rt:62:9
 add-token-requires : tie.Need-add-token-requires Inv-loop μ-loop
-add-token-requires c κs = ?
+add-token-requires c κs = (c .before .before .before .token-at .ensures .kind, part-served (c .before .before .before .before .before .before .before .before .before .args .value .now) (c .before .before .before .before .before .loop .i) (c .before .before .before .token-at .result .end) _ (c .before .before .before .before .before .before .before .before .before .pre .0) (omega (arith, c .before .before .before .before .before .before .before .before .before .pre .1, c .before .before .before .before .before .loop .inv .1)))
 
--- src/writer.rt:59:5
 loop-less : tie.Need-loop-less Inv-loop μ-loop
-loop-less c = ?
+loop-less c = omega (arith, c .before .before .before .before .before .before .before .before .token-at .ensures .some (c .before .before .before .before .before .before .before .before .before .loop-test .taken))
 
--- src/writer.rt:59:5
 loop-again : tie.Need-loop-again Inv-loop μ-loop
-loop-again c = ?
+loop-again c = (capped-turn (c .before .before .before .before .before .before .before .before .before .before .loop .inv .0) (value-next (c .before .before .before .before .before .before .before .before .before .loop-test .taken) (c .before .before .before .before .before .before .before .before .token-at .ensures)) (c .before .before .before .before .add-token .ensures) (omega arith), omega arith)
 
--- src/writer.rt:53:1
 same-length : tie.Need-same-length Inv-loop μ-loop
-same-length c = ?
+same-length c = length-capped (c .before .loop .inv .0)
 
--- src/writer.rt:53:1
 same-length-2 : tie.Need-same-length-2 Inv-loop μ-loop
-same-length-2 c = ?
+same-length-2 c = c .before .loop .inv .1
 
--- src/writer.rt:53:1
 returns : tie.Need-returns Inv-loop μ-loop
-returns c = ?
+returns c = capped-end (c .before .loop .inv .0) (value-none _ _ (c .loop-test .left))
 
 pub add-value-spec : {M : Type 1} → statement M
 add-value-spec =

@@ -2,18 +2,13 @@ use mathlib.Core.Bool.{and-false}
 use borrow.Author.Tests.{le-leb, lt-leb}
 use Rattle.structured_field.proofs.writer.fitting_len.Statement.{statement}
 use Rattle.structured_field.proofs.writer.fitting_len.Tie as tie
-use Rattle.structured_field.proofs.writer.fitting_len.Reads as reads
-use Rattle.structured_field.proofs.writer.fitting_len.Lts as lts
 
--- src/writer.rt:83:9
 returns : tie.Need-returns
 returns c = rw (lt-leb _ _ (c .if1 .taken))
 
--- src/writer.rt:86:9
 returns-2 : tie.Need-returns-2
 returns-2 c = rw (lt-leb _ _ (c .if2 .taken), and-false)
 
--- src/writer.rt:79:1
 returns-3 : tie.Need-returns-3
 returns-3 c = rw (le-leb _ _ (c .before .if1 .left), le-leb _ _ (c .if2 .left))
 
