@@ -8,7 +8,7 @@ use Rattle.lists.specs.Run.{run}
 use Rattle.letter_case.specs.LetterCase.{bytes}
 use Rattle.line.specs.Line.{blank}
 use Rattle.address.specs.Address.{later, byteThen, scanThen, isAtext, isAtomByte, isQuotedByte, isLiteralByte, dotAtomFrom, dotAtomScan, quotedFrom, quotedScan, literalFrom, literalScan, domainScan, localScan, addressScan}
-use Rattle.comment.specs.Comment.{past, depthAfter, closing, commentLen, runFrom, runLen}
+use Rattle.comment.specs.Comment.{past, depthAfter, closing, commentLen, runTo, runLen}
 use Rattle.comment.specs.Parts.{partLen, parts, isBlankRun, fits}
 use Rattle.rules.specs.declared.Rules.{Rules}
 use Rattle.rules.specs.declared.Rules.the-variants.{Spool, Current, Mailbox}
@@ -151,5 +151,5 @@ cases =
     ∷ []
 
 pub cases-right : AllRight cases
-unfolding bytes later byteThen scanThen isAtext isAtomByte isQuotedByte isLiteralByte dotAtomFrom dotAtomScan quotedFrom quotedScan literalFrom literalScan domainScan localScan addressScan run blank capped isWordByte addressLen wordLen nextWordLen nextWordsLen phraseLen cutAfter cutBy past depthAfter closing commentLen runFrom runLen partLen parts isBlankRun fits alternativeAt angledAt commentAt namedAt partAt partsFrom partsOf changes anyChanges after complete examinedFrom examined
+unfolding bytes later byteThen scanThen isAtext isAtomByte isQuotedByte isLiteralByte dotAtomFrom dotAtomScan quotedFrom quotedScan literalFrom literalScan domainScan localScan addressScan run blank capped isWordByte addressLen wordLen nextWordLen nextWordsLen phraseLen cutAfter cutBy past depthAfter closing commentLen runTo runLen partLen parts isBlankRun fits alternativeAt angledAt commentAt namedAt partAt partsFrom partsOf changes anyChanges after complete examinedFrom examined
 cases-right = (refl, (refl, (refl, (refl, (refl, (refl, (refl, (refl, (refl, (refl, (refl, (refl, (refl, (refl, (refl, (refl, (refl, (refl, (refl, (refl, (refl, (refl, (refl, (refl, (refl, (refl, (refl, (refl, (refl, (refl, (refl, (refl, (refl, (refl, (refl, (refl, (refl, (refl, (refl, (refl, (refl, (refl, (refl, (refl, (refl, (refl, (refl, (refl, (refl, (refl, (refl, (refl, (refl, (refl, (refl, (refl, (refl, (refl, (refl, (refl, (refl, (refl, (refl, (refl, (refl, (refl, (refl, (refl, (refl, (refl, (refl, (refl, (refl, (refl, (refl, (refl, (refl, (refl, (refl, (refl, (refl, (refl, (refl, (refl, (refl, (refl, (refl, (refl, (refl, (refl, (refl, (refl, (refl, (refl, tt))))))))))))))))))))))))))))))))))))))))))))))))))))))))))))))))))))))))))))))))))))))))))))))

@@ -1,6 +1,6 @@
 -- Where UTF-8 may be cut: at the ends of a comment and of each of its parts. The text of a run is UTF-8. Assumes nothing.
-use borrow.Author.Tests.{ne-eqb, eqb-true, lt-leb}
-use mathlib.Core.Path.{_≡_, refl, sym}
+use borrow.Author.Tests.{ne-eqb, eqb-true}
+use mathlib.Core.Path.{_≡_, refl}
 use mathlib.Core.Bool.{Bool, true, false, cond, _||_, or-true}
 use mathlib.Core.List.{List, [], _∷_, _++_, append-assoc}
 use Prim.Native.Nat.{ℕ, zero, suc, pred, _≤_, _<_}
@@ -8,17 +8,16 @@ use native.Mathlib.Nat.{not-suc-le-zero}
 use native.Mathlib.Omega.{arith}
 use lib.Dec.{T, ltb, eqb, lt→ltb}
 use lib.ListN.{length, take, drop, getD, drop-of-length-le, take-append-drop}
-use lib.Seq.{drop-cons, take-all}
-use mir.Facts.{yes-and, ltb-yes, ltb-no}
+use lib.Seq.{drop-cons, take-all, take-suc}
+use mir.Facts.{and-yes, yes-and, ltb-yes, ltb-no}
 use Rattle.lists.specs.Byte.{isAscii}
 use Rattle.lists.specs.CutBy.{cutAfter, cutBy}
 use Rattle.lists.specs.Lists.{all}
 use Rattle.lists.specs.ListsLaws.{by-test}
 use Rattle.utf8.specs.Utf8.{utf8}
 use Rattle.utf8.specs.Utf8Laws.{utf8-ascii, utf8-right, utf8-append, utf8-cut}
-use Rattle.unquote.specs.Unquote.{keptFrom}
 use Rattle.unquote.specs.UnquoteLaws.{length-kept-from, kept-from-utf8}
-use Rattle.comment.specs.Comment.{isParen, commentLen, runFrom, runLen}
+use Rattle.comment.specs.Comment.{isParen, commentLen, runTo, runLen}
 use Rattle.comment.specs.CommentLaws.{stops}
 use Rattle.comment.specs.Grammar.{Comment, comment}
 use Rattle.comment.specs.GrammarLaws.{taken-comment}
@@ -48,21 +47,38 @@ cut-first b s h k =
     let one : T (utf8 (b ∷ [])) = utf8-ascii (b ∷ []) (yes-and (isAscii b) true (lt→ltb b 128 k) tt) in
     (one, rw (utf8-right (b ∷ []) s one) at h)
 
--- where a list that passes a test is cut into two that do, all its parts pass
-module _ (size : List ℕ → ℕ) (f : List ℕ → Bool)
-    (both : (b : ℕ) (s : List ℕ) → T (f (b ∷ s)) → T (f (take (suc (pred (size (b ∷ s)))) (b ∷ s))) × T (f (drop (suc (pred (size (b ∷ s)))) (b ∷ s)))) where
-  after-pass : (k : ℕ) (s : List ℕ) → T (f (drop k s)) → T (all f (cutAfter size k s))
-  unfolding cutAfter
-  after-pass k [] h = tt
-  after-pass (suc k) (b ∷ s) h = after-pass k s h
-  after-pass zero (b ∷ s) h =
-      let more = pred (size (b ∷ s)) in
-      let two = both b s h in
-      yes-and (f (take (suc more) (b ∷ s))) (all f (cutAfter size more s)) (two .0) (after-pass more s (two .1))
+-- after an ASCII byte
+pub cut-after : (s : List ℕ) (n : ℕ) → T (utf8 s) → n < length s → getD s n 0 < 128 → Cut s (suc n)
+cut-after s n h less k =
+    let two = cut-before s n h (λ l. k) in
+    let rest = cut-first (getD s n 0) (drop (suc n) s) (rw (drop-cons s n 0 less) at (two .1)) k in
+    (rw (take-suc s n 0 less) (utf8-append (take n s) (getD s n 0 ∷ []) (two .0) (rest .0)), rest .1)
 
-  pub parts-pass : (s : List ℕ) → T (f s) → T (all f (cutBy size s))
+-- where a list that passes f, its front part passing g, is cut into two that pass f, all its parts pass f
+module _ (size : List ℕ → ℕ) (f g : List ℕ → Bool)
+    (both : (b : ℕ) (s : List ℕ) → T (f (b ∷ s)) → T (g (take (suc (pred (size (b ∷ s)))) (b ∷ s)))
+    → T (f (take (suc (pred (size (b ∷ s)))) (b ∷ s))) × T (f (drop (suc (pred (size (b ∷ s)))) (b ∷ s)))) where
+  after-pass : (k : ℕ) (s : List ℕ) → T (f (drop k s)) → T (all g (cutAfter size k s)) → T (all f (cutAfter size k s))
+  unfolding cutAfter
+  after-pass k [] h q = tt
+  after-pass (suc k) (b ∷ s) h q = after-pass k s h q
+  after-pass zero (b ∷ s) h q =
+      let more = pred (size (b ∷ s)) in
+      let first = take (suc more) (b ∷ s) in
+      let given = and-yes (g first) (all g (cutAfter size more s)) q in
+      let two = both b s h (given .0) in
+      yes-and (f first) (all f (cutAfter size more s)) (two .0) (after-pass more s (two .1) (given .1))
+
+  pub parts-pass : (s : List ℕ) → T (f s) → T (all g (cutBy size s)) → T (all f (cutBy size s))
   unfolding cutBy
-  parts-pass s h = after-pass 0 s h
+  parts-pass s h q = after-pass 0 s h q
+
+abbrev any : List ℕ → Bool
+any s = true
+
+all-any : (ps : List (List ℕ)) → T (all any ps)
+all-any [] = tt
+all-any (p ∷ ps) = all-any ps
 
 -- ---- a comment
 
@@ -90,14 +106,14 @@ part-cut : (b : ℕ) (s : List ℕ) → T (utf8 (b ∷ s)) → Cut (b ∷ s) (pa
 unfolding partLen runLen
 part-cut b s h = go (isParen b) refl
   where
-    go : (x : Bool) → isParen b ≡ x → Cut (b ∷ s) (cond x 1 (runFrom false (b ∷ s)))
+    go : (x : Bool) → isParen b ≡ x → Cut (b ∷ s) (cond x 1 (runTo isParen false (b ∷ s)))
     go true e = cut-first b s h (paren-ascii b e)
-    go false e = cut-before (b ∷ s) (runFrom false (b ∷ s)) h (λ k. paren-ascii (getD (b ∷ s) (runFrom false (b ∷ s)) 0) (stops (b ∷ s) false k))
+    go false e = cut-before (b ∷ s) (runTo isParen false (b ∷ s)) h (λ k. paren-ascii (getD (b ∷ s) (runTo isParen false (b ∷ s)) 0) (stops isParen (b ∷ s) false k))
 
 -- every part of UTF-8 text is UTF-8
 pub parts-utf8 : (s : List ℕ) → T (utf8 s) → T (all utf8 (parts s))
 unfolding parts
-parts-utf8 s h = parts-pass partLen utf8 (λ b s h. sized (b ∷ s) (partLen (b ∷ s)) (part-some b s) (part-cut b s h)) s h
+parts-utf8 s h = parts-pass partLen utf8 any (λ b s h q. sized (b ∷ s) (partLen (b ∷ s)) (part-some b s) (part-cut b s h)) s h (all-any (cutBy partLen s))
   where
     sized : (s : List ℕ) (n : ℕ) → 0 < n → Cut s n → Cut s (suc (pred n))
     sized s zero k c = absurd (not-suc-le-zero k)

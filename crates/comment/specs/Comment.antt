@@ -34,10 +34,11 @@ closing depth escaped (b ∷ s) =
 unfoldable pub commentLen : List ℕ → ℕ
 commentLen s = cond (eqb (getD s 0 0) 40) (closing 0 false s) 0
 
--- "a run of text between parentheses": the bytes before the first parenthesis that is not escaped, or the end
-unfoldable pub runFrom : Bool → List ℕ → ℕ
-runFrom escaped [] = 0
-runFrom escaped (b ∷ s) = cond (isParen b && not escaped) 0 (suc (runFrom (escapes escaped b) s))
+-- how many bytes stand before the first that passes a test and is not escaped; all bytes where there is none
+unfoldable pub runTo : (ℕ → Bool) → Bool → List ℕ → ℕ
+runTo f escaped [] = 0
+runTo f escaped (b ∷ s) = cond (f b && not escaped) 0 (suc (runTo f (escapes escaped b) s))
 
+-- "a run of text between parentheses"
 unfoldable pub runLen : List ℕ → ℕ
-runLen s = runFrom false s
+runLen s = runTo isParen false s

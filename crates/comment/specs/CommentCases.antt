@@ -6,7 +6,7 @@ use Prim.Native.Char.{code}
 use Prim.Native.String.{String, [] as nil, _∷_ as cons}
 use Rattle.lists.specs.CutBy.{cutAfter, cutBy}
 use Rattle.unquote.specs.Unquote.{kept, keptFrom}
-use Rattle.comment.specs.Comment.{past, depthAfter, closing, commentLen, runFrom, runLen}
+use Rattle.comment.specs.Comment.{past, depthAfter, closing, commentLen, runTo, runLen}
 use Rattle.comment.specs.Parts.{partLen, parts, runText}
 
 -- the bytes of an ASCII string
@@ -52,5 +52,5 @@ cases =
     ∷ []
 
 pub cases-right : AllRight cases
-unfolding past depthAfter closing commentLen runFrom runLen partLen parts cutBy cutAfter kept keptFrom runText
+unfolding past depthAfter closing commentLen runTo runLen partLen parts cutBy cutAfter kept keptFrom runText
 cases-right = (refl, (refl, (refl, (refl, (refl, (refl, (refl, (refl, (refl, (refl, (refl, (refl, (refl, (refl, (refl, tt)))))))))))))))

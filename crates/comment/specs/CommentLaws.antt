@@ -4,13 +4,16 @@ use mathlib.Core.Path.{_≡_, refl, sym, _∙_, ap}
 use mathlib.Core.Bool.{Bool, true, false, not, cond, _&&_, _||_, or-false}
 use mathlib.Core.List.{List, [], _∷_}
 use Prim.Native.Nat.{ℕ, zero, suc, _+_, _-_, _≤_, _<_}
+use native.Mathlib.Nat.{le-of-suc-le-suc}
 use native.Mathlib.Numerals.{add-one}
 use native.Mathlib.Omega.{arith}
 use lib.Dec.{eqb}
 use lib.ListN.{length, take, drop, getD, drop-of-length-le, length-drop}
 use lib.Seq.{drop-cons, drop-drop, getD-drop}
+use mir.Facts.{and-yes}
+use Rattle.lists.specs.ListsLaws.{cond-has, yes-true}
 use Rattle.unquote.specs.Unquote.{escapes}
-use Rattle.comment.specs.Comment.{isParen, past, depthAfter, closing, commentLen, runFrom, runLen}
+use Rattle.comment.specs.Comment.{isParen, past, depthAfter, closing, commentLen, runTo, runLen}
 
 -- ---- past
 
@@ -125,17 +128,50 @@ nested (b ∷ s) e k d m h = nested-step s e b (turn e b) (nested s) k d m h
 
 -- ---- runs
 
-run-step : (e : Bool) (b : ℕ) (s : List ℕ) → isParen b && not e ≡ false → runFrom e (b ∷ s) ≡ suc (runFrom (escapes e b) s)
-unfolding runFrom
-run-step e b s h = rw h
+module _ (f : ℕ → Bool) where
+  run-step : (e : Bool) (b : ℕ) (s : List ℕ) → f b && not e ≡ false → runTo f e (b ∷ s) ≡ suc (runTo f (escapes e b) s)
+  unfolding runTo
+  run-step e b s h = rw h
 
-run-paren : (b : ℕ) (s : List ℕ) → isParen b && true ≡ true → runFrom false (b ∷ s) ≡ 0
-unfolding runFrom
-run-paren b s h = rw h
+  run-none : (e : Bool) (b : ℕ) (s : List ℕ) → f b && not e ≡ true → runTo f e (b ∷ s) ≡ 0
+  unfolding runTo
+  run-none e b s h = rw h
+
+  pub run-within : (s : List ℕ) (e : Bool) → runTo f e s ≤ length s
+  unfolding runTo
+  run-within [] e = omega arith
+  run-within (b ∷ s) e = go (f b && not e) (runTo f (escapes e b) s) (run-within s (escapes e b))
+    where
+      go : (x : Bool) (n : ℕ) → n ≤ length s → cond x 0 (suc n) ≤ length (b ∷ s)
+      go true n h = omega arith
+      go false n h = omega arith
+
+  -- what stops a run passes the test
+  pub stops : (s : List ℕ) (e : Bool) → runTo f e s < length s → f (getD s (runTo f e s) 0) ≡ true
+  unfolding runTo
+  stops [] e = λ h. absurd (omega arith)
+  stops (b ∷ s) e =
+      let more = stops s (escapes e b) in
+      cond-has (λ n. n < length (b ∷ s) → f (getD (b ∷ s) n 0) ≡ true) (f b && not e) 0 (suc (runTo f (escapes e b) s))
+      (λ t h. yes-true (f b) (and-yes (f b) (not e) t .0))
+      (λ t h. more (le-of-suc-le-suc h))
+
+  -- by position
+  module _ (s : List ℕ) (i : ℕ) (e : Bool) where
+    module _ (h : i < length s) where
+      pub run-more : f (getD s i 0) && not e ≡ false → i + runTo f e (drop i s) ≡ i + 1 + runTo f (escapes e (getD s i 0)) (drop (i + 1) s)
+      run-more t = rw (add-one i, drop-cons s i 0 h, run-step e (getD s i 0) (drop (suc i) s) t) (omega arith)
+
+      pub run-stop : f (getD s i 0) && not e ≡ true → i + runTo f e (drop i s) ≡ i
+      run-stop t = rw (drop-cons s i 0 h, run-none e (getD s i 0) (drop (suc i) s) t) (omega arith)
+
+    pub run-over : length s ≤ i → i + runTo f e (drop i s) ≡ i
+    unfolding runTo
+    run-over h = rw (drop-of-length-le s {i = i} h) (omega arith)
 
 -- a run is passed over
 abbrev Passed : List ℕ → Bool → Type 0
-Passed s e = (d : ℕ) → closing (suc d) e s ≡ past (runFrom e s) (closing (suc d) false (drop (runFrom e s) s))
+Passed s e = (d : ℕ) → closing (suc d) e s ≡ past (runTo isParen e s) (closing (suc d) false (drop (runTo isParen e s) s))
 
 pub past-zero : (n : ℕ) → past 0 n ≡ n
 unfolding past
@@ -143,43 +179,30 @@ past-zero zero = refl
 past-zero (suc n) = omega arith
 
 passed-step : (s : List ℕ) (e : Bool) (b : ℕ) → Turn e b → ((e : Bool) → Passed s e) → Passed (b ∷ s) e
-passed-step s e b opens ih d = rw (run-paren 40 s refl, past-zero)
-passed-step s e b closes ih d = rw (run-paren 41 s refl, past-zero)
+passed-step s e b opens ih d = rw (run-none isParen false 40 s refl, past-zero)
+passed-step s e b closes ih d = rw (run-none isParen false 41 s refl, past-zero)
 passed-step s e b (keeps h) ih d =
-    let n = runFrom (escapes e b) s in
+    let n = runTo isParen (escapes e b) s in
     let k : 1 + n ≡ suc n = omega arith in
-    rw (run-step e b s h, step-keep d s e b h, ih (escapes e b) d, past-past 1 n, k)
+    rw (run-step isParen e b s h, step-keep d s e b h, ih (escapes e b) d, past-past 1 n, k)
 
 pub passed : (s : List ℕ) (e : Bool) → Passed s e
-unfolding closing runFrom past
+unfolding closing runTo past
 passed [] e d = refl
 passed (b ∷ s) e d = passed-step s e b (turn e b) (passed s) d
 
--- what stops a run is a parenthesis
-abbrev Stops : List ℕ → Bool → Type 0
-Stops s e = runFrom e s < length s → isParen (getD s (runFrom e s) 0) ≡ true
-
-stops-step : (s : List ℕ) (e : Bool) (b : ℕ) → Turn e b → ((e : Bool) → Stops s e) → Stops (b ∷ s) e
-stops-step s e b opens ih h = rw (run-paren 40 s refl)
-stops-step s e b closes ih h = rw (run-paren 41 s refl)
-stops-step s e b (keeps k) ih h = rw (run-step e b s k) (ih (escapes e b) (omega (arith, run-step e b s k)))
-
-pub stops : (s : List ℕ) (e : Bool) → Stops s e
-stops [] e h = absurd (omega arith)
-stops (b ∷ s) e h = stops-step s e b (turn e b) (stops s) h
-
 -- in a run no parenthesis opens or closes: it is the run of its own bytes
 abbrev Whole : List ℕ → Bool → Type 0
-Whole s e = runFrom e (take (runFrom e s) s) ≡ runFrom e s
+Whole s e = runTo isParen e (take (runTo isParen e s) s) ≡ runTo isParen e s
 
 whole-step : (s : List ℕ) (e : Bool) (b : ℕ) → Turn e b → ((e : Bool) → Whole s e) → Whole (b ∷ s) e
-unfolding runFrom
+unfolding runTo
 whole-step s e b opens ih = refl
 whole-step s e b closes ih = refl
 whole-step s e b (keeps h) ih = rw (h, h, ih (escapes e b))
 
 pub run-whole : (s : List ℕ) (e : Bool) → Whole s e
-unfolding runFrom
+unfolding runTo
 run-whole [] e = refl
 run-whole (b ∷ s) e = whole-step s e b (turn e b) (run-whole s)
 
@@ -188,19 +211,6 @@ run-whole (b ∷ s) e = whole-step s e b (turn e b) (run-whole s)
 -- past the parenthesis that closes one more than `deeper` of those that are open at i; 0 where there is none
 unfoldable pub closeAt : ℕ → List ℕ → ℕ → ℕ
 closeAt deeper s i = past i (closing (suc deeper) false (drop i s))
-
-module _ (s : List ℕ) (i : ℕ) (e : Bool) where
-  module _ (h : i < length s) where
-    pub run-more : isParen (getD s i 0) && not e ≡ false → i + runFrom e (drop i s) ≡ i + 1 + runFrom (escapes e (getD s i 0)) (drop (i + 1) s)
-    run-more t = rw (add-one i, drop-cons s i 0 h, run-step e (getD s i 0) (drop (suc i) s) t) (omega arith)
-
-    pub run-stop : isParen (getD s i 0) && not e ≡ true → i + runFrom e (drop i s) ≡ i
-    unfolding runFrom
-    run-stop t = rw (drop-cons s i 0 h, t) (omega arith)
-
-  pub run-over : length s ≤ i → i + runFrom e (drop i s) ≡ i
-  unfolding runFrom
-  run-over h = rw (drop-of-length-le s {i = i} h) (omega arith)
 
 module _ (s : List ℕ) (d i : ℕ) where
   pub close-end : length s ≤ i → closeAt d s i ≡ 0
@@ -234,9 +244,9 @@ module _ (s : List ℕ) (d i p : ℕ) (r : p ≡ i + runLen (drop i s)) where
     opens-else : (getD s p 0 ≡ 41 → ⊥) → getD s p 0 ≡ 40
     unfolding runLen
     opens-else k =
-        let n = runFrom false (drop i s) in
+        let n = runTo isParen false (drop i s) in
         let here : getD (drop i s) n 0 ≡ getD s p 0 = getD-drop i s n 0 ∙ rw (← r) in
-        let paren : isParen (getD s p 0) ≡ true = rw (← here) (stops (drop i s) false (omega (arith, length-drop i s))) in
+        let paren : isParen (getD s p 0) ≡ true = rw (← here) (stops isParen (drop i s) false (omega (arith, length-drop i s))) in
         eqb-true (getD s p 0) 40 (rw (ne-eqb (getD s p 0) 41 k, or-false (eqb (getD s p 0) 40)) at paren)
 
     pub run-opens : (getD s p 0 ≡ 41 → ⊥) → closeAt d s i ≡ closeAt (d + 1) s (p + 1)

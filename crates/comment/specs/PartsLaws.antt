@@ -1,7 +1,7 @@
 -- Laws of the parts of a comment, by position, as code goes through them. Assumes nothing.
 use borrow.Author.Tests.{le-leb, lt-leb, leb-true, leb-false}
-use mathlib.Core.Path.{_≡_, refl, sym, _∙_}
-use mathlib.Core.Bool.{Bool, true, false, not, cond, _&&_}
+use mathlib.Core.Path.{_≡_, sym, _∙_}
+use mathlib.Core.Bool.{Bool, true, false, cond, _&&_}
 use mathlib.Core.List.{List, [], _∷_}
 use Prim.Native.Nat.{ℕ, suc, _+_, _-_, _≤_, _<_}
 use native.Mathlib.Omega.{arith}
@@ -15,32 +15,24 @@ use Rattle.lists.specs.Run.{run}
 use Rattle.lists.specs.RunLaws.{run-all, run-after}
 use Rattle.line.specs.Line.{blank}
 use Rattle.unquote.specs.Unquote.{escapes}
-use Rattle.comment.specs.Comment.{isParen, runFrom, runLen}
+use Rattle.comment.specs.Comment.{isParen, runTo, runLen}
+use Rattle.comment.specs.CommentLaws.{run-within}
 use Rattle.comment.specs.Parts.{partLen, parts, isBlankRun, fits}
 
 -- ---- the part at the front
 
 -- a part has a byte
 pub part-some : (b : ℕ) (s : List ℕ) → 0 < partLen (b ∷ s)
-unfolding partLen runLen runFrom
-part-some b s = go (isParen b) (runFrom (escapes false b) s)
+unfolding partLen runLen runTo
+part-some b s = go (isParen b) (runTo isParen (escapes false b) s)
   where
     go : (x : Bool) (n : ℕ) → 0 < cond x 1 (cond (x && true) 0 (suc n))
     go true n = omega arith
     go false n = omega arith
 
-run-within : (s : List ℕ) (e : Bool) → runFrom e s ≤ length s
-unfolding runFrom
-run-within [] e = omega arith
-run-within (b ∷ s) e = go (isParen b && not e) (runFrom (escapes e b) s) (run-within s (escapes e b))
-  where
-    go : (x : Bool) (n : ℕ) → n ≤ length s → cond x 0 (suc n) ≤ length (b ∷ s)
-    go true n h = omega arith
-    go false n h = omega arith
-
 part-within : (b : ℕ) (s : List ℕ) → partLen (b ∷ s) ≤ length (b ∷ s)
 unfolding partLen runLen
-part-within b s = go (isParen b) (runFrom false (b ∷ s)) (run-within (b ∷ s) false)
+part-within b s = go (isParen b) (runTo isParen false (b ∷ s)) (run-within isParen (b ∷ s) false)
   where
     go : (x : Bool) (n : ℕ) → n ≤ length (b ∷ s) → cond x 1 n ≤ length (b ∷ s)
     go true n h = omega arith
@@ -50,7 +42,7 @@ part-within b s = go (isParen b) (runFrom false (b ∷ s)) (run-within (b ∷ s)
 
 module _ (s : List ℕ) (i : ℕ) where
   pub part-over : length s ≤ i → i + partLen (drop i s) ≡ i
-  unfolding partLen runLen runFrom
+  unfolding partLen runLen runTo
   part-over h = rw (drop-of-length-le s {i = i} h) (omega arith)
 
   pub parts-over : length s ≤ i → parts (drop i s) ≡ []
