@@ -12,7 +12,7 @@ pub fn digit(v: u8) -> u8
     zero + d
 }
 
-// The digits of two bytes, those of the upper half first.
+// The digits of two bytes, of each the upper half first.
 pub struct FourDigits {
     pub first: u8,
     pub second: u8,
@@ -20,8 +20,8 @@ pub struct FourDigits {
     pub fourth: u8,
 }
 
-// The digits of two bytes, made together: each of the four bytes of a number is `0` (48) and a value, and 7 more from 10 on, since `A`
-// (65) is 55 and 10. Of a value and 6 the bit for 16 is set from 10 on.
+// The digits of two bytes, made together in the four bytes of one number. A digit is `0` (48) and its value, and from 10 on 7 more, which
+// leads past `9` (57) to `A` (65). A value from 10 on, and 6, is 16 or more.
 pub fn digits(a: u8, b: u8) -> FourDigits
     ensures { λ r. ⌜ (r .first ≡ hexDigit (a / 16)) × (r .second ≡ hexDigit (a % 16)) × (r .third ≡ hexDigit (b / 16)) × (r .fourth ≡ hexDigit (b % 16)) ⌝ }
 {

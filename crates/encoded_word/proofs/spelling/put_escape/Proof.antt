@@ -36,7 +36,7 @@ same-length c = search needs
 
 returns : tie.Need-returns
 unfolding stores
-returns c = rw (← upper-half _ (search needs) (c .before .digit .ensures), ← lower-half _ (c .digit2 .ensures)) (appended-stores (61 ∷ c .before .digit .result ∷ c .digit2 .result ∷ []) _ _ _ (omega arith))
+returns c = rw (← upper-half (c .before .before .before .args .b) (search needs) (c .before .digit .ensures), ← lower-half (c .before .before .before .args .b) (c .digit2 .ensures)) (appended-stores (61 ∷ c .before .digit .result ∷ c .digit2 .result ∷ []) _ _ _ (omega arith))
 
 pub put-escape-spec : {M : Type 1} → statement M
 put-escape-spec =
