@@ -1,8 +1,8 @@
 use borrow.Author.Tests.{le-leb, lt-leb}
 use mathlib.Core.Bool.{and-false}
 use borrow.Author.Needs.{needs}
-use Rattle.address_pieces.proofs.fitting_len.Statement.{statement}
-use Rattle.address_pieces.proofs.fitting_len.Tie as tie
+use Rattle.piece.proofs.fitting_len.Statement.{statement}
+use Rattle.piece.proofs.fitting_len.Tie as tie
 
 returns : tie.Need-returns
 returns c = rw (lt-leb _ _ (c .if1 .taken))

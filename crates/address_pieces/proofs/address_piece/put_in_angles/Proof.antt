@@ -4,8 +4,8 @@ use mathlib.Core.List.{[], _∷_}
 use lib.ListN.{length-append}
 use native.Mathlib.Omega.{arith}
 use borrow.Author.Needs.{needs}
-use Rattle.address_pieces.proofs.piece.put_in_angles.Statement.{statement}
-use Rattle.address_pieces.proofs.piece.put_in_angles.Tie as tie
+use Rattle.address_pieces.proofs.address_piece.put_in_angles.Statement.{statement}
+use Rattle.address_pieces.proofs.address_piece.put_in_angles.Tie as tie
 
 slice-aggregate-put-slice : tie.Need-slice-aggregate-put-slice
 slice-aggregate-put-slice c = search needs

@@ -5,7 +5,8 @@ ghost use lib.ListN.{length};
 ghost use Rattle.buffer.specs.Buffer.{Wrote};
 ghost use Rattle.rules.specs.Rules.{removalStart, removalEnd};
 ghost use Rattle.encoded_word.specs.Segments.{bytesOf, rendered};
-ghost use Rattle.address_pieces.specs.Pieces.{piece, inAngles, removed};
+ghost use Rattle.piece.specs.Piece.{piece};
+ghost use Rattle.address_pieces.specs.Pieces.{inAngles, removed};
 use rules::Rules;
 
 // A piece that is some bytes as they stand.
@@ -13,8 +14,7 @@ pub(crate) fn put_piece(out: &mut [u8], text: &[u8]) -> usize
     requires { ⌜ length (now text) ≤ 32768 ⌝ }
     ensures { λ r. ⌜ Wrote (bytesOf (piece (now (text .entry)))) (now (out .entry)) (now (out .exit)) r ⌝ }
 {
-    let next = buffer::put_slice(out, b"\r\n ");
-    buffer::add_slice(out, next, text)
+    piece::add_piece(out, 0, text)
 }
 
 // A piece that is an address in `< >`.

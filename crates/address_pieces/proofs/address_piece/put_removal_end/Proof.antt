@@ -1,14 +1,8 @@
-use Rattle.address_pieces.specs.WritingLaws.{wrote-same}
-use Rattle.address_pieces.specs.PiecesLaws.{rendered-one}
-use Rattle.address_pieces.specs.Pieces.{piece}
-use Rattle.encoded_word.specs.Segments.{rendered}
-use Rattle.rules.specs.Rules.{removalStart}
+use Rattle.rules.specs.Rules.{removalEnd}
 use Rattle.letter_case.specs.LetterCase.{bytes}
-use Rattle.buffer.specs.BufferLaws.{wrote-nothing}
-use mathlib.Core.Path.{sym}
 use borrow.Author.Needs.{needs}
-use Rattle.address_pieces.proofs.piece.put_removal_start.Statement.{statement}
-use Rattle.address_pieces.proofs.piece.put_removal_start.Tie as tie
+use Rattle.address_pieces.proofs.address_piece.put_removal_end.Statement.{statement}
+use Rattle.address_pieces.proofs.address_piece.put_removal_end.Tie as tie
 
 enum-told : tie.Need-enum-told
 enum-told c = search needs
@@ -31,26 +25,35 @@ put-piece-requires-2 c κs = search needs
 enum-told-3 : tie.Need-enum-told-3
 enum-told-3 c = search needs
 
+slice-aggregate-put-piece-3 : tie.Need-slice-aggregate-put-piece-3
+slice-aggregate-put-piece-3 c = search needs
+
+put-piece-requires-3 : tie.Need-put-piece-requires-3
+put-piece-requires-3 c κs = search needs
+
 same-length : tie.Need-same-length
 same-length c = search needs
 
 returns : tie.Need-returns
-unfolding removalStart bytes
-returns c = rw (c .before .before .before .before .before .enum-told .given .1) (wrote-same (sym (rendered-one (piece (bytes "Internationalized Address")))) (c .before .before .put-piece .ensures))
+unfolding removalEnd bytes
+returns c = rw (c .before .before .before .before .before .enum-told .given .1) (c .before .before .put-piece .ensures)
 
 same-length-2 : tie.Need-same-length-2
 same-length-2 c = search needs
 
 returns-2 : tie.Need-returns-2
-unfolding removalStart bytes
-returns-2 c = rw (c .before .before .before .before .before .enum-told2 .given .1) (wrote-same (sym (rendered-one (piece (bytes "Internationalized Address")))) (c .before .before .put-piece2 .ensures))
+unfolding removalEnd bytes
+returns-2 c = rw (c .before .before .before .before .before .enum-told2 .given .1) (c .before .before .put-piece2 .ensures)
+
+same-length-3 : tie.Need-same-length-3
+same-length-3 c = search needs
 
 returns-3 : tie.Need-returns-3
-unfolding removalStart rendered
-returns-3 c = rw (c .enum-told3 .given .1) (wrote-nothing _)
+unfolding removalEnd bytes
+returns-3 c = rw (c .before .before .before .before .before .enum-told3 .given .1) (c .before .before .put-piece3 .ensures)
 
-pub put-removal-start-spec : {M : Type 1} → statement M
-put-removal-start-spec =
+pub put-removal-end-spec : {M : Type 1} → statement M
+put-removal-end-spec =
     tie.close
     (tie.spec
     enum-told
@@ -60,8 +63,11 @@ put-removal-start-spec =
     slice-aggregate-put-piece-2
     put-piece-requires-2
     enum-told-3
+    slice-aggregate-put-piece-3
+    put-piece-requires-3
     same-length
     returns
     same-length-2
     returns-2
+    same-length-3
     returns-3)

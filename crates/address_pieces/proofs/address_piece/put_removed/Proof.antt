@@ -2,8 +2,8 @@ use Rattle.address_pieces.specs.WritingLaws.{removed-wrote}
 use Rattle.buffer.specs.BufferLaws.{added-by}
 use native.Mathlib.Omega.{arith}
 use borrow.Author.Needs.{needs}
-use Rattle.address_pieces.proofs.piece.put_removed.Statement.{statement}
-use Rattle.address_pieces.proofs.piece.put_removed.Tie as tie
+use Rattle.address_pieces.proofs.address_piece.put_removed.Statement.{statement}
+use Rattle.address_pieces.proofs.address_piece.put_removed.Tie as tie
 
 put-removal-start-requires : tie.Need-put-removal-start-requires
 put-removal-start-requires c κs = search needs
