@@ -40,9 +40,9 @@ extern "C" {
 
 /*
  * Stack that one call uses at most, in bytes: frames have a fixed size, and no
- * function calls itself but for comments inside comments, which does so 256
- * times at most, however deep they are. This is measured, not proved: about
- * MEASURED bytes (`make -C relay stack`).
+ * function calls itself but one for comments inside comments, 256 levels at
+ * most, however deep they are. This is measured, not proved: about 121,000
+ * bytes (`make -C relay stack`).
  */
 #define HENNELAKU_STACK 131072
 
