@@ -1,24 +1,24 @@
 -- Laws of the pieces of a comment: they are written part by part, how long they can be, and that they are sound. Assumes nothing.
 use mathlib.Core.Path.{_≡_, sym}
 use mathlib.Core.Bool.{true, false}
-use mathlib.Core.List.{List, [], _∷_, _++_, map}
+use mathlib.Core.List.{List, [], _∷_, _++_}
 use Prim.Native.Nat.{ℕ, _+_, _-_, _*_, _≤_, _<_, zero-le}
 use native.Mathlib.Omega.{arith}
 use lib.Dec.{T}
-use mir.Facts.{and-yes, yes-and}
+use mir.Facts.{yes-and}
 use lib.ListN.{length, take, drop, length-append, length-take, length-drop}
 use Rattle.lists.specs.Byte.{isAscii}
 use Rattle.lists.specs.CutBy.{cutBy}
 use Rattle.lists.specs.CutByLaws.{cut-joined, cut-some}
-use Rattle.lists.specs.Lists.{all, joined, nonempty}
-use Rattle.lists.specs.ListsLaws.{cond-has, all-append}
+use Rattle.lists.specs.Lists.{all, joined}
+use Rattle.lists.specs.ListsLaws.{cond-has}
 use Rattle.utf8.specs.Utf8.{utf8}
 use Rattle.buffer.specs.Buffer.{AppendedCapped}
 use Rattle.row.specs.Row.{row}
 use Rattle.row.specs.RowLaws.{length-row-le}
 use Rattle.encoded_word.specs.Segments.{Segment, bytesOf, rendered, sound}
 use Rattle.encoded_word.specs.Segments.Segment.{words}
-use Rattle.encoded_word.specs.SegmentsLaws.{rendered-append}
+use Rattle.encoded_word.specs.MappedLaws.{mapped-next, mapped-none, mapped-le, mapped-sound}
 use Rattle.comment.specs.Parts.{partLen, parts, runText, isBlankRun}
 use Rattle.comment.specs.PartsLaws.{parts-next, parts-over}
 use Rattle.comment.specs.BoundaryLaws.{parts-utf8, run-text-utf8, length-run-text}
@@ -53,7 +53,7 @@ module _ (t : List ℕ) (i : ℕ) where
   pub comment-step : (e : ℕ) → i < length t → e ≡ i + partLen (drop i t)
       → rendered (commentPieces (drop i t)) ≡ rendered (partPieces (take (e - i) (drop i t))) ++ rendered (commentPieces (drop e t))
   unfolding commentPieces
-  comment-step e h r = rw (parts-next t i h e r, rendered-append (partPieces (take (e - i) (drop i t))) (joined (map partPieces (parts (drop e t)))))
+  comment-step e h r = mapped-next partPieces (parts-next t i h e r)
 
   -- a part is no longer than the comment
   pub part-fits : (e room : ℕ) → i < length t → e ≡ i + partLen (drop i t) → length t ≤ 32768 → length t ≤ room
@@ -63,18 +63,10 @@ module _ (t : List ℕ) (i : ℕ) where
       (omega arith, omega arith)
 
   pub comment-end : length t ≤ i → rendered (commentPieces (drop i t)) ≡ []
-  unfolding commentPieces rendered
-  comment-end h = rw (parts-over t i h)
+  unfolding commentPieces
+  comment-end h = mapped-none partPieces (parts-over t i h)
 
 -- ---- how long they can be
-
-some-length : (p : List ℕ) → T (nonempty p) → 0 < length p
-some-length [] h = absurd h
-some-length (b ∷ p) h = omega arith
-
-nothing-le : (n : ℕ) → length (rendered []) ≤ n
-unfolding rendered
-nothing-le n = zero-le
 
 part-le : (p : List ℕ) → 0 < length p → length (rendered (partPieces p)) ≤ 20 * length p
 unfolding partPieces
@@ -86,17 +78,10 @@ part-le p h =
     (λ _. rw (rendered-one (piece p)) (omega arith))
     (λ _. rw (rendered-one (words (runText p))) (omega (arith, length-row-le (runText p), length-run-text p))))
 
-pieces-le : (ps : List (List ℕ)) → T (all nonempty ps) → length (rendered (joined (map partPieces ps))) ≤ 20 * length (joined ps)
-pieces-le [] h = nothing-le 0
-pieces-le (p ∷ ps) h =
-    let both = and-yes (nonempty p) (all nonempty ps) h in
-    rw (rendered-append (partPieces p) (joined (map partPieces ps)), length-append)
-    (omega (arith, part-le p (some-length p (both .0)), pieces-le ps (both .1), length-append p (joined ps)))
-
 -- at most 20 bytes are written for each byte of a comment
 pub comment-le : (t : List ℕ) → length (rendered (commentPieces t)) ≤ 20 * length t
 unfolding commentPieces parts
-comment-le t = rw (cut-joined partLen t) at (pieces-le (cutBy partLen t) (cut-some partLen t))
+comment-le t = rw (cut-joined partLen t) at (mapped-le partPieces 20 part-le (cutBy partLen t) (cut-some partLen t))
 
 -- ---- what is written is sound
 
@@ -110,12 +95,6 @@ part-sound p h =
     (λ a. yes-and (all isAscii p) true a tt)
     (λ _. yes-and (utf8 (runText p)) true (run-text-utf8 p h) tt))
 
-pieces-sound : (ps : List (List ℕ)) → T (all utf8 ps) → T (all sound (joined (map partPieces ps)))
-pieces-sound [] h = tt
-pieces-sound (p ∷ ps) h =
-    let both = and-yes (utf8 p) (all utf8 ps) h in
-    all-append sound (partPieces p) (joined (map partPieces ps)) (part-sound p (both .0)) (pieces-sound ps (both .1))
-
 pub comment-sound : (t : List ℕ) → T (utf8 t) → T (all sound (commentPieces t))
 unfolding commentPieces
-comment-sound t h = pieces-sound (parts t) (parts-utf8 t h)
+comment-sound t h = mapped-sound partPieces utf8 part-sound (parts t) (parts-utf8 t h)

@@ -1,6 +1,5 @@
 pub mod Tokens
 pub mod TokensLaws
-pub mod MappedLaws
 pub mod StructuredField
 pub mod StructuredFieldLaws
 pub mod WritingLaws

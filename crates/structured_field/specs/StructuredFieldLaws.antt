@@ -18,7 +18,7 @@ use Rattle.encoded_word.specs.SegmentsLaws.{rendered-append}
 use Rattle.comment.specs.Parts.{partLen, parts, runText}
 use Rattle.comment.specs.PartsLaws.{parts-joined}
 use Rattle.comment.specs.BoundaryLaws.{parts-utf8, run-text-utf8, length-run-text}
-use Rattle.structured_field.specs.MappedLaws.{mapped-le, mapped-sound}
+use Rattle.encoded_word.specs.MappedLaws.{mapped-le, mapped-sound}
 use Rattle.structured_field.specs.Tokens.{tokenLen, tokens, isComment, commentOrAscii, asciiOutsideComments}
 use Rattle.structured_field.specs.TokensLaws.{tokens-joined, tokens-utf8}
 use Rattle.structured_field.specs.StructuredField.{partSegments, tokenSegments, valueSegments, structuredField}

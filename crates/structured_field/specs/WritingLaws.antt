@@ -20,7 +20,7 @@ use Rattle.encoded_word.specs.SegmentsLaws.{rendered-append}
 use Rattle.comment.specs.Parts.{partLen, parts, runText}
 use Rattle.comment.specs.PartsLaws.{parts-next, parts-over}
 use Rattle.comment.specs.BoundaryLaws.{length-run-text}
-use Rattle.structured_field.specs.MappedLaws.{mapped-next, mapped-none}
+use Rattle.encoded_word.specs.MappedLaws.{mapped-next, mapped-none}
 use Rattle.structured_field.specs.Tokens.{isComment, commentOrAscii, asciiOutsideComments, TookToken}
 use Rattle.structured_field.specs.TokensLaws.{tokens-next, tokens-over}
 use Rattle.structured_field.specs.StructuredField.{partSegments, tokenSegments, valueSegments, structuredField, fitting}
