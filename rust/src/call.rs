@@ -1,4 +1,5 @@
 //! The downgrade call: sizes (1), the order of refusals, room (7, 8), the outgoing header.
+//! Written from document 01, Answers by number, Header lines and Address fields, and the requests named below.
 
 use crate::address_list;
 use crate::envelope::{self, Envelope};

@@ -1,4 +1,4 @@
-//! The paper's checked examples, each rule, and its near misses.
+//! The papers' checked examples, each rule, and its near misses; a test of a settled reading tells its number.
 
 use crate::{downgrade, Answer};
 
