@@ -5,6 +5,7 @@
 pub mod address;
 pub mod address_list;
 pub mod call;
+pub mod comment;
 pub mod envelope;
 #[cfg(feature = "proved")]
 pub mod generate;
