@@ -74,7 +74,7 @@ pub fn write_run(sink: &mut impl Sink, run: &[u8]) {
 /// A value of a field other than an address field, cut into its comments (`each` gets true) and what stands between
 /// them. "No comment starts inside a quoted string." "An unclosed parenthesis [..]; in the others nothing after it is
 /// a comment." [1.12], [1.13]: nothing else keeps a `(` from opening a comment, neither `< >` nor a backslash.
-fn stretches(value: &[u8], mut each: impl FnMut(&[u8], bool)) {
+pub fn stretches(value: &[u8], mut each: impl FnMut(&[u8], bool)) {
     let mut done = 0;
     let mut at = 0;
     while at < value.len() {
