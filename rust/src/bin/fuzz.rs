@@ -128,6 +128,90 @@ fn has(bytes: &[u8], part: &[u8]) -> bool {
     bytes.windows(part.len()).any(|window| window == part)
 }
 
+/// Looks at an input and what the model made of it.
+fn look(met: &mut Met, input: &Input, got: &Outcome) {
+    let number = got.answer.number;
+    let lines = |bytes: &[u8], len: usize| bytes.split(|&b| b == b'\n').any(|line| line.len() == len + 1);
+    let envelope_lines = input.envelope.iter().filter(|&&b| b == b'\n').count();
+    met.count("1 for the envelope", number == 1 && got.answer.place == 0);
+    met.count("1 for the header", number == 1 && got.answer.place == 1);
+    met.count("2 at line 0", number == 2 && got.answer.place == 0);
+    met.count("2 at line 101", number == 2 && got.answer.place == 101);
+    met.count("100 RCPT lines", envelope_lines == 101 && !matches!(number, 1..=4));
+    met.count("envelope line of 998", lines(&input.envelope, 998) && !matches!(number, 1..=4));
+    met.count("envelope line of 999", lines(&input.envelope, 999) && number == 2);
+    met.count("header line of 998", lines(&input.header, 998) && matches!(number, 0 | 6..=8));
+    met.count("header line of 999", lines(&input.header, 999) && number == 5);
+    met.count("6 for an ORCPT", number == 6 && has(&input.envelope.to_ascii_uppercase(), b"ORCPT=UTF-8"));
+    met.count("6 for a field with a comment", number == 6 && held_beside_a_comment(&input.header));
+    if number != 0 {
+        return;
+    }
+    let out = &got.header[GUARD..GUARD + got.answer.header_len];
+    met.count("Downgraded-Mail-From", out.starts_with(b"Downgraded-Mail-From:\r\n =?UTF-8?Q?=3C"));
+    met.count("Downgraded-Rcpt-To", has(out, b"Downgraded-Rcpt-To:\r\n =?UTF-8?Q?=3C"));
+    met.count("several RCPT lines, replaced", envelope_lines > 2 && got.answer.envelope_len < input.envelope.len());
+    met.count("header copied whole", out == input.header);
+    let mut fields = [0; 6];
+    let mut comments = Comments::default();
+    let (mut names_of_76, mut folded, mut groups, mut words_of_900) = (0, 0, 0, 0);
+    let mut from = 0;
+    while let Some(field) = next_non_ascii(&input.header, from) {
+        let mut text = Vec::new();
+        header::unfolded(field.folded_text(), |part| text.extend_from_slice(part));
+        let at = match kind(field.name) {
+            Kind::Plain => 0,
+            Kind::Other | Kind::Held => 1,
+            Kind::HeldOutsideComments => {
+                comment::stretches(field.value, |stretch, is_comment| {
+                    if is_comment {
+                        comments.look(stretch, false);
+                    }
+                });
+                from = field.end;
+                continue;
+            }
+            Kind::Address => match address_list::replaces(&text) {
+                None => 2,
+                Some(false) => 3,
+                Some(true) if has(&text, b">>") => 4,
+                Some(true) => 5,
+            },
+        };
+        fields[at] += 1;
+        if at > 2 {
+            let _ = address_list::list(&text, &mut comments);
+            groups += text.ends_with(b";") as usize;
+            words_of_900 += text.split(|&b| b" \t<>,:;\"".contains(&b)).any(|word| word.len() == 900) as usize;
+        }
+        names_of_76 += (field.name.len() == 76) as usize;
+        folded += field.value.contains(&b'\n') as usize;
+        from = field.end;
+    }
+    met.count("plain text field", fields[0] > 0);
+    met.count("field encapsulated", fields[1] > 0);
+    met.count("address field that does not fit", fields[2] > 0);
+    met.count("address field with a phrase encoded alone", fields[3] > 0);
+    met.count("address field with an alternative", fields[4] > 0);
+    met.count("address field with one removed", fields[5] > 0);
+    met.count("group at the end of a field that fits", groups > 0);
+    met.count("word or address of 900 that fits", words_of_900 > 0);
+    met.count("name of 76", names_of_76 > 0);
+    met.count("folded field", folded > 0);
+    met.count("room that is not measured for", input.header_room >= ample(&input.header));
+    met.count("room one short of that", input.header_room + 1 == ample(&input.header));
+    met.count("comment rewritten", comments.rewritten > 0);
+    met.count("comment rewritten in an address field", comments.rewritten_in_address_fields > 0);
+    met.count("comment rewritten in another field", comments.rewritten > comments.rewritten_in_address_fields);
+    met.count("comment rewritten inside another", comments.inner > 0);
+    met.count("comment rewritten without escapes", comments.escapes > 0);
+    met.count("comment rewritten without folds, outside address fields", comments.folds > 0);
+    met.count("comment with a blank run dropped", comments.blank_runs > 0);
+    met.count("comment with a run of 900 that fits", comments.runs_of_900 > 0);
+    met.count("comment more than 1,000 deep", comments.deepest > 1000);
+    met.count("comma after a comment", comments.commas > 0);
+}
+
 /// What stands in the comments of a header that is written.
 #[derive(Default)]
 struct Comments {
@@ -205,90 +289,6 @@ fn held_beside_a_comment(header: &[u8]) -> bool {
         from = field.end;
     }
     false
-}
-
-/// Looks at an input and what the model made of it.
-fn look(met: &mut Met, input: &Input, got: &Outcome) {
-    let number = got.answer.number;
-    let lines = |bytes: &[u8], len: usize| bytes.split(|&b| b == b'\n').any(|line| line.len() == len + 1);
-    let envelope_lines = input.envelope.iter().filter(|&&b| b == b'\n').count();
-    met.count("1 for the envelope", number == 1 && got.answer.place == 0);
-    met.count("1 for the header", number == 1 && got.answer.place == 1);
-    met.count("2 at line 0", number == 2 && got.answer.place == 0);
-    met.count("2 at line 101", number == 2 && got.answer.place == 101);
-    met.count("100 RCPT lines", envelope_lines == 101 && !matches!(number, 1..=4));
-    met.count("envelope line of 998", lines(&input.envelope, 998) && !matches!(number, 1..=4));
-    met.count("envelope line of 999", lines(&input.envelope, 999) && number == 2);
-    met.count("header line of 998", lines(&input.header, 998) && matches!(number, 0 | 6..=8));
-    met.count("header line of 999", lines(&input.header, 999) && number == 5);
-    met.count("6 for an ORCPT", number == 6 && has(&input.envelope.to_ascii_uppercase(), b"ORCPT=UTF-8"));
-    met.count("6 for a field with a comment", number == 6 && held_beside_a_comment(&input.header));
-    if number != 0 {
-        return;
-    }
-    let out = &got.header[GUARD..GUARD + got.answer.header_len];
-    met.count("Downgraded-Mail-From", out.starts_with(b"Downgraded-Mail-From:\r\n =?UTF-8?Q?=3C"));
-    met.count("Downgraded-Rcpt-To", has(out, b"Downgraded-Rcpt-To:\r\n =?UTF-8?Q?=3C"));
-    met.count("several RCPT lines, replaced", envelope_lines > 2 && got.answer.envelope_len < input.envelope.len());
-    met.count("header copied whole", out == input.header);
-    let mut fields = [0; 6];
-    let mut comments = Comments::default();
-    let (mut names_of_76, mut folded, mut groups, mut words_of_900) = (0, 0, 0, 0);
-    let mut from = 0;
-    while let Some(field) = next_non_ascii(&input.header, from) {
-        let mut text = Vec::new();
-        header::unfolded(field.folded_text(), |part| text.extend_from_slice(part));
-        let at = match kind(field.name) {
-            Kind::Plain => 0,
-            Kind::Other | Kind::Held => 1,
-            Kind::HeldOutsideComments => {
-                comment::stretches(field.value, |stretch, is_comment| {
-                    if is_comment {
-                        comments.look(stretch, false);
-                    }
-                });
-                from = field.end;
-                continue;
-            }
-            Kind::Address => match address_list::replaces(&text) {
-                None => 2,
-                Some(false) => 3,
-                Some(true) if has(&text, b">>") => 4,
-                Some(true) => 5,
-            },
-        };
-        fields[at] += 1;
-        if at > 2 {
-            let _ = address_list::list(&text, &mut comments);
-            groups += text.ends_with(b";") as usize;
-            words_of_900 += text.split(|&b| b" \t<>,:;\"".contains(&b)).any(|word| word.len() == 900) as usize;
-        }
-        names_of_76 += (field.name.len() == 76) as usize;
-        folded += field.value.contains(&b'\n') as usize;
-        from = field.end;
-    }
-    met.count("comment rewritten", comments.rewritten > 0);
-    met.count("comment rewritten in an address field", comments.rewritten_in_address_fields > 0);
-    met.count("comment rewritten in another field", comments.rewritten > comments.rewritten_in_address_fields);
-    met.count("comment rewritten inside another", comments.inner > 0);
-    met.count("comment rewritten without escapes", comments.escapes > 0);
-    met.count("comment rewritten without folds, outside address fields", comments.folds > 0);
-    met.count("comment with a blank run dropped", comments.blank_runs > 0);
-    met.count("comment with a run of 900 that fits", comments.runs_of_900 > 0);
-    met.count("comment more than 1,000 deep", comments.deepest > 1000);
-    met.count("comma after a comment", comments.commas > 0);
-    met.count("plain text field", fields[0] > 0);
-    met.count("field encapsulated", fields[1] > 0);
-    met.count("address field that does not fit", fields[2] > 0);
-    met.count("address field with a phrase encoded alone", fields[3] > 0);
-    met.count("address field with an alternative", fields[4] > 0);
-    met.count("address field with one removed", fields[5] > 0);
-    met.count("group at the end of a field that fits", groups > 0);
-    met.count("word or address of 900 that fits", words_of_900 > 0);
-    met.count("name of 76", names_of_76 > 0);
-    met.count("folded field", folded > 0);
-    met.count("room that is not measured for", input.header_room >= ample(&input.header));
-    met.count("room one short of that", input.header_room + 1 == ample(&input.header));
 }
 
 fn option(name: &str) -> Option<u64> {
