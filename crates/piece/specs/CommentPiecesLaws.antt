@@ -68,6 +68,10 @@ module _ (t : List ℕ) (i : ℕ) where
 
 -- ---- how long they can be
 
+nothing-le : (n : ℕ) → length (rendered []) ≤ n
+unfolding rendered
+nothing-le n = zero-le
+
 part-le : (p : List ℕ) → 0 < length p → length (rendered (partPieces p)) ≤ 20 * length p
 unfolding partPieces
 part-le p h =
