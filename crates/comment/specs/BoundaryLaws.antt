@@ -29,7 +29,7 @@ abbrev pub Cut : List ℕ → ℕ → Type 0
 Cut s n = T (utf8 (take n s)) × T (utf8 (drop n s))
 
 -- before an ASCII byte, or at the end
-pub cut-before : (s : List ℕ) (n : ℕ) → T (utf8 s) → (n < length s → getD s n 0 < 128) → Cut s n
+cut-before : (s : List ℕ) (n : ℕ) → T (utf8 s) → (n < length s → getD s n 0 < 128) → Cut s n
 cut-before s n h k =
     by-test (ltb n (length s))
     (λ t.
@@ -42,17 +42,10 @@ cut-before s n h k =
     rw (take-all n s over, drop-of-length-le s {i = n} over) (h, utf8-ascii [] tt))
 
 -- after an ASCII byte at the front
-pub cut-first : (b : ℕ) (s : List ℕ) → T (utf8 (b ∷ s)) → b < 128 → Cut (b ∷ s) 1
+cut-first : (b : ℕ) (s : List ℕ) → T (utf8 (b ∷ s)) → b < 128 → Cut (b ∷ s) 1
 cut-first b s h k =
     let one : T (utf8 (b ∷ [])) = utf8-ascii (b ∷ []) (yes-and (isAscii b) true (lt→ltb b 128 k) tt) in
     (one, rw (utf8-right (b ∷ []) s one) at h)
-
--- after an ASCII byte
-pub cut-after : (s : List ℕ) (n : ℕ) → T (utf8 s) → n < length s → getD s n 0 < 128 → Cut s (suc n)
-cut-after s n h less k =
-    let two = cut-before s n h (λ l. k) in
-    let rest = cut-first (getD s n 0) (drop (suc n) s) (rw (drop-cons s n 0 less) at (two .1)) k in
-    (rw (take-suc s n 0 less) (utf8-append (take n s) (getD s n 0 ∷ []) (two .0) (rest .0)), rest .1)
 
 -- where a list that passes f, its front part passing g, is cut into two that pass f, all its parts pass f
 module _ (size : List ℕ → ℕ) (f g : List ℕ → Bool)

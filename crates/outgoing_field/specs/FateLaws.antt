@@ -31,11 +31,11 @@ use Rattle.header_name.specs.Names.{kindOf}
 use Rattle.header_name.specs.declared.Kind.{Kind}
 use Rattle.header_name.specs.declared.Kind.the-variants.{Address, PlainText, Received, Commented, Parameterized, Held, Other}
 use Rattle.field.specs.Field.{encodedField}
-use Rattle.address_pieces.specs.AddressField.{addressField, fitting}
-use Rattle.address_pieces.specs.WritingLaws.{fitting-short}
+use Rattle.piece.specs.Piece.{fitting}
+use Rattle.piece.specs.PieceLaws.{fitting-short}
+use Rattle.address_pieces.specs.AddressField.{addressField}
 use Rattle.structured_field.specs.Tokens.{asciiOutsideComments}
-use Rattle.structured_field.specs.StructuredField.{structuredField, fitting as structuredFitting}
-use Rattle.structured_field.specs.WritingLaws.{fitting-short as value-served}
+use Rattle.structured_field.specs.StructuredField.{structuredField}
 use Rattle.outgoing_field.specs.Fate.{Fate, kindFate, fateOf, segmentsOf, fieldSegments, headerSegments, limited, isHeld, heldFrom, heldOf}
 use Rattle.outgoing_field.specs.Fate.Fate.{held, written}
 use Rattle.outgoing_field.specs.declared.HeldField.the-variants.{Absent, At}
@@ -192,9 +192,9 @@ module _ (rules : Rules) (kind : Kind) (field : List ℕ) where
       none (written segments) e = absurd (true-yes false e)
 
 pub commented-served : {kind : Kind} {field text scratch : List ℕ} → kind ≡ Commented → Served kind field text scratch
-    → (length field ≤ 32768) × (length field ≤ length scratch)
+    → (length field ≤ 32768) × (2 * length field ≤ length scratch)
 unfolding needsScratch
-commented-served e s = (s .short, omega (arith, s .room (rw e)))
+commented-served e s = (s .short, s .room (rw e))
 
 -- a field with comments, whose value code has at hand
 module _ (rules : Rules) (field : List ℕ) {value : List ℕ} {clear : Bool} (v : value ≡ valueOf field) (q : clear ≡ asciiOutsideComments value) where
@@ -202,14 +202,14 @@ module _ (rules : Rules) (field : List ℕ) {value : List ℕ} {clear : Bool} (v
   unfolding holds
   commented-none before at e h = kind-none rules Commented field before at (rw (← v, ← q, e)) h
 
-  pub commented-written : {before after : List ℕ} {n room at r : ℕ} → n ≡ nameLen field → clear ≡ true → length field ≤ 32768 → length field ≤ room
-      → AppendedCapped (rendered (structuredField (take n field) (structuredFitting room value))) at before after r
+  pub commented-written : {before after : List ℕ} {n room at r : ℕ} → n ≡ nameLen field → clear ≡ true → length field ≤ 32768 → 2 * length field ≤ room
+      → AppendedCapped (rendered (structuredField (take n field) (fitting room value))) at before after r
       → AppendedCapped (rendered (segmentsOf (kindFate rules Commented field))) at before after r
   unfolding kindFate segmentsOf
   commented-written {n = n} {room = room} k e h l a =
       let short : length value ≤ length field = rw v (length-value field) in
       let test : asciiOutsideComments (valueOf field) ≡ true = rw (← v) (sym q ∙ e) in
-      rw test (rw (value-served room value (omega arith) (omega arith), v, name-part field n k) at a)
+      rw test (rw (fitting-short room value (omega arith) (omega arith), v, name-part field n k) at a)
 
 -- ---- a field
 

@@ -1,6 +1,6 @@
 // What is written for the fields of a header.
 ghost use mathlib.Core.Path.{_≡_};
-ghost use Prim.Native.Nat.{_≤_};
+ghost use Prim.Native.Nat.{_*_, _≤_};
 ghost use lib.ListN.{length};
 ghost use Rattle.buffer.specs.Buffer.{AppendedCapped};
 ghost use Rattle.encoded_word.specs.Segments.{rendered};
@@ -16,7 +16,7 @@ const LIMIT: usize = 32768;
 
 // A field with comments, where it is not held.
 fn add_commented(out: &mut [u8], at: usize, rules: Rules, field: &[u8], scratch: &mut [u8]) -> usize
-    requires { ⌜ (length (now field) ≤ 32768) × (length (now field) ≤ length (now scratch)) ⌝ }
+    requires { ⌜ (length (now field) ≤ 32768) × (2 * length (now field) ≤ length (now scratch)) ⌝ }
     ensures { λ r. ⌜ AppendedCapped (rendered (segmentsOf (kindFate rules Commented (now (field .entry))))) at (now (out .entry)) (now (out .exit)) r ⌝ }
 {
     let value = header::value(field);

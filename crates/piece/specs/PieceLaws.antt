@@ -35,6 +35,7 @@ turn-less h m = omega arith
 pub record MadeIn (scratch : List ℕ) (n : ℕ) (text : List ℕ) : Type 0 where
   pub within : n ≤ length scratch
   pub size : n ≡ length (take n scratch)
+  pub is : take n scratch ≡ text
   pub encoded : {before after : List ℕ} {r : ℕ} → Wrote (row (bounded (take n scratch))) before after r → Wrote (row text) before after r
 
 pub made-in : {text begun scratch : List ℕ} {n : ℕ} → AppendedCapped text 0 begun scratch n → length text ≤ 65536 → length text ≤ length begun → MadeIn scratch n text
@@ -42,7 +43,7 @@ made-in {text} {begun} {scratch} {n} u k h =
     let held : Wrote text begun scratch n = wrote-of u (omega arith) in
     let within : n ≤ length scratch = omega (arith, held .size, length-wrote held) in
     let is : take n scratch ≡ text = rw (held .bytes, held .size) (overlay-front text begun h) in
-    record { within = within; size = rw length-take (omega arith); encoded = λ w. rw (is, bounded-short text (omega arith)) at w }
+    record { within = within; size = rw length-take (omega arith); is = is; encoded = λ w. rw (is, bounded-short text (omega arith)) at w }
 
 -- ---- a text that the scratch can serve
 

@@ -1,9 +1,7 @@
 -- What a structured field becomes. Assumes nothing.
-use mathlib.Core.Bool.{cond, _&&_}
+use mathlib.Core.Bool.{cond}
 use mathlib.Core.List.{List, [], _∷_, _++_, map}
 use Prim.Native.Nat.{ℕ}
-use lib.Dec.{leb}
-use lib.ListN.{length}
 use Rattle.lists.specs.Byte.{isAscii}
 use Rattle.lists.specs.Lists.{all, joined}
 use Rattle.encoded_word.specs.Segments.{Segment}
@@ -26,7 +24,3 @@ valueSegments value = joined (map tokenSegments (tokens value))
 -- the name as it came, colon (58), the value, CRLF
 unfoldable pub structuredField : List ℕ → List ℕ → List Segment
 structuredField name value = raw (name ++ (58 ∷ [])) ∷ (valueSegments value ++ (raw (13 ∷ 10 ∷ []) ∷ []))
-
--- a value that a scratch with so much room cannot serve counts as empty: one of more than 32,768 bytes, or of more than the room
-unfoldable pub fitting : ℕ → List ℕ → List ℕ
-fitting room value = cond (leb (length value) 32768 && leb (length value) room) value []

@@ -1,18 +1,14 @@
 -- The writing of a structured field and the test of its value, step by step. Assumes nothing.
-use mathlib.Core.Path.{_≡_, refl, sym, _∙_}
-use mathlib.Core.Bool.{Bool, true, false, cond, _&&_}
+use mathlib.Core.Path.{_≡_, sym, _∙_}
+use mathlib.Core.Bool.{Bool, true, false, _&&_}
 use mathlib.Core.List.{List, [], _∷_, _++_, append-nil, map}
 use Prim.Native.Nat.{ℕ, _+_, _-_, _≤_, _<_}
 use native.Mathlib.Omega.{arith}
-use lib.Dec.{T, leb}
 use lib.ListN.{length, take, drop, length-take, length-drop}
-use lib.Seq.{take-all, length-take-le}
-use mir.Facts.{and-yes, leb-yes}
-use borrow.Author.Tests.{le-leb}
 use Rattle.lists.specs.Byte.{isAscii}
 use Rattle.lists.specs.Lists.{all, joined}
-use Rattle.buffer.specs.Buffer.{Wrote, AppendedCapped, greatest}
-use Rattle.buffer.specs.BufferLaws.{overlay-front, capped-then, capped-same, length-added, length-wrote, wrote-of}
+use Rattle.buffer.specs.Buffer.{AppendedCapped, greatest}
+use Rattle.buffer.specs.BufferLaws.{capped-then, capped-same, length-added}
 use Rattle.row.specs.Row.{row, bounded}
 use Rattle.row.specs.RowLaws.{bounded-short}
 use Rattle.encoded_word.specs.Segments.{rendered}
@@ -20,10 +16,11 @@ use Rattle.encoded_word.specs.SegmentsLaws.{rendered-append}
 use Rattle.comment.specs.Parts.{partLen, parts, runText}
 use Rattle.comment.specs.PartsLaws.{parts-next, parts-over}
 use Rattle.comment.specs.BoundaryLaws.{length-run-text}
+use Rattle.piece.specs.PieceLaws.{MadeIn}
 use Rattle.encoded_word.specs.MappedLaws.{mapped-next, mapped-none}
 use Rattle.structured_field.specs.Tokens.{isComment, commentOrAscii, asciiOutsideComments, TookToken}
 use Rattle.structured_field.specs.TokensLaws.{tokens-next, tokens-over}
-use Rattle.structured_field.specs.StructuredField.{partSegments, tokenSegments, valueSegments, structuredField, fitting}
+use Rattle.structured_field.specs.StructuredField.{partSegments, tokenSegments, valueSegments, structuredField}
 
 -- a part is no longer than the whole
 pub part-served : (s : List ℕ) (i e room : ℕ) → length s ≤ 32768 → length s ≤ room
@@ -38,27 +35,14 @@ pub part-stays : (part : List ℕ) → all isAscii part ≡ true → part ≡ re
 unfolding partSegments rendered
 part-stays part h = rw h (sym (append-nil part))
 
--- the text of a run in a scratch that has room for it
-module _ (run : List ℕ) {begun text : List ℕ} {n : ℕ} (u : AppendedCapped (runText run) 0 begun text n) (k : length run ≤ 32768) (h : length run ≤ length begun) where
-  made : Wrote (runText run) begun text n
-  made = wrote-of u (omega (arith, length-run-text run))
-
-  pub made-within : n ≤ length text
-  made-within = omega (arith, made .size, length-run-text run, length-wrote made)
-
-  pub made-size : n ≡ length (take n text)
-  made-size = sym (length-take-le n text made-within)
-
-  text-is : take n text ≡ runText run
-  text-is = rw (made .bytes, made .size) (overlay-front (runText run) begun (omega (arith, length-run-text run)))
-
-  pub part-encoded : {before mid after : List ℕ} {at m r : ℕ} → all isAscii run ≡ false → length before ≤ greatest
-      → AppendedCapped (row (bounded (take n text))) at before mid m → AppendedCapped (13 ∷ 10 ∷ 32 ∷ []) m mid after r
-      → AppendedCapped (rendered (partSegments run)) at before after r
-  unfolding partSegments rendered
-  part-encoded e g a b =
-      let words = rw (text-is, bounded-short (runText run) (omega (arith, length-run-text run))) at a in
-      rw e (capped-then words b g)
+-- a run whose text is made in a scratch
+pub part-encoded : (run : List ℕ) {text before mid after : List ℕ} {n at m r : ℕ} → MadeIn text n (runText run) → all isAscii run ≡ false → length run ≤ 32768
+    → length before ≤ greatest → AppendedCapped (row (bounded (take n text))) at before mid m → AppendedCapped (13 ∷ 10 ∷ 32 ∷ []) m mid after r
+    → AppendedCapped (rendered (partSegments run)) at before after r
+unfolding partSegments rendered
+part-encoded run u e k g a b =
+    let words = rw (u .is, bounded-short (runText run) (omega (arith, length-run-text run))) at a in
+    rw e (capped-then words b g)
 
 -- ---- a comment, part by part
 
@@ -121,24 +105,3 @@ module _ (name value : List ℕ) where
       let label = capped-then a b k in
       let rest = capped-then d f (omega (arith, k, length-added a, length-added b)) in
       capped-same (sym field-bytes) (capped-then label rest k)
-
--- ---- a value that the scratch can serve
-
-pub fitting-short : (room : ℕ) (value : List ℕ) → length value ≤ 32768 → length value ≤ room → fitting room value ≡ value
-unfolding fitting
-fitting-short room value h k = rw (le-leb _ _ h, le-leb _ _ k)
-
--- as many bytes of a value as the scratch can serve
-pub record Served (room : ℕ) (value part : List ℕ) (n : ℕ) : Type 0 where
-  pub size : n ≡ length (take n value)
-  pub small : n ≤ 32768
-  pub roomy : n ≤ room
-  pub is : take n value ≡ part
-
-pub served : (room : ℕ) (value : List ℕ) (n : ℕ) → n ≡ cond (leb (length value) 32768 && leb (length value) room) (length value) 0 → Served room value (fitting room value) n
-unfolding fitting
-served room value n q = rw q (go (leb (length value) 32768 && leb (length value) room) (λ t. and-yes (leb (length value) 32768) (leb (length value) room) t))
-  where
-    go : (b : Bool) → (T b → T (leb (length value) 32768) × T (leb (length value) room)) → Served room value (cond b value []) (cond b (length value) 0)
-    go true f = record { size = sym (length-take-le (length value) value (omega arith)); small = leb-yes (f tt .0); roomy = leb-yes (f tt .1); is = take-all (length value) value (omega arith) }
-    go false f = record { size = refl; small = omega arith; roomy = omega arith; is = refl }

@@ -1,16 +1,15 @@
 // What a structured field becomes, written part by part.
 ghost use mathlib.Core.Path.{_≡_};
-ghost use mathlib.Core.Bool.{cond, _&&_};
 ghost use mathlib.Core.List.{map};
 ghost use Prim.Native.Nat.{_≤_};
-ghost use lib.Dec.{leb};
 ghost use lib.ListN.{length};
 ghost use Rattle.lists.specs.Lists.{joined};
 ghost use Rattle.buffer.specs.Buffer.{AppendedCapped};
 ghost use Rattle.encoded_word.specs.Segments.{rendered};
 ghost use Rattle.comment.specs.Parts.{parts};
+ghost use Rattle.piece.specs.Piece.{fitting};
 ghost use Rattle.structured_field.specs.Tokens.{isComment};
-ghost use Rattle.structured_field.specs.StructuredField.{partSegments, tokenSegments, valueSegments, structuredField, fitting};
+ghost use Rattle.structured_field.specs.StructuredField.{partSegments, tokenSegments, valueSegments, structuredField};
 use crate::token_at;
 
 // A parenthesis or a run of a comment. The text of a run is made in the scratch.
@@ -75,24 +74,12 @@ fn add_fitting(out: &mut [u8], at: usize, name: &[u8], value: &[u8], scratch: &m
     buffer::add_slice(out, end, b"\r\n")
 }
 
-// The length of a value; none where a scratch with so much room cannot serve it.
-fn fitting_len(room: usize, n: usize) -> usize
-    ensures { λ r. ⌜ r ≡ cond (leb n 32768 && leb n room) n 0 ⌝ }
-{
-    if 32768 < n {
-        return 0;
-    }
-    if room < n {
-        return 0;
-    }
-    n
-}
-
 // Writes what a structured field becomes from a place on, as far as it fits; answers the place after it. The scratch is where the text
-// of a run is made: where it is shorter than the value, or the value longer than 32,768 bytes, the value counts as empty.
+// of a run is made: where it is shorter than twice the value, or the value longer than 32,768 bytes, the value counts
+// as empty.
 pub fn add_field(out: &mut [u8], at: usize, name: &[u8], value: &[u8], scratch: &mut [u8]) -> usize
     ensures { λ r. ⌜ AppendedCapped (rendered (structuredField (now (name .entry)) (fitting (length (now (scratch .entry))) (now (value .entry))))) at (now (out .entry)) (now (out .exit)) r ⌝ }
 {
-    let end = fitting_len(scratch.len(), value.len());
+    let end = piece::fitting_len(scratch.len(), value.len());
     add_fitting(out, at, name, &value[..end], scratch)
 }

@@ -1,4 +1,4 @@
-use Rattle.structured_field.specs.WritingLaws.{served}
+use Rattle.piece.specs.PieceLaws.{served}
 use native.Mathlib.Omega.{arith}
 use lib.ListN.{length}
 use borrow.Author.Needs.{needs}

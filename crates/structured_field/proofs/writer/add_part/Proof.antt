@@ -1,4 +1,5 @@
-use Rattle.structured_field.specs.WritingLaws.{part-stays, made-within, made-size, part-encoded}
+use Rattle.structured_field.specs.WritingLaws.{part-stays, part-encoded}
+use Rattle.piece.specs.CommentPiecesLaws.{run-made}
 use Rattle.buffer.specs.BufferLaws.{capped-same}
 use native.Mathlib.Omega.{arith}
 use mathlib.Core.Path.{sym, _∙_}
@@ -22,10 +23,10 @@ add-run-text-requires : tie.Need-add-run-text-requires
 add-run-text-requires c κs = search needs
 
 slice-reshare-prefix-add : tie.Need-slice-reshare-prefix-add
-slice-reshare-prefix-add c = made-within _ (c .before .before .before .add-run-text .ensures) (c .before .before .before .before .before .before .before .before .before .before .pre .0) (c .before .before .before .before .before .before .before .before .before .before .pre .1)
+slice-reshare-prefix-add c = run-made _ (c .before .before .before .add-run-text .ensures) (c .before .before .before .before .before .before .before .before .before .before .pre .0) (c .before .before .before .before .before .before .before .before .before .before .pre .1) .within
 
 slice-aggregate-add : tie.Need-slice-aggregate-add
-slice-aggregate-add c = made-size _ (c .before .before .before .before .add-run-text .ensures) (c .before .before .before .before .before .before .before .before .before .before .before .pre .0) (c .before .before .before .before .before .before .before .before .before .before .before .pre .1)
+slice-aggregate-add c = run-made _ (c .before .before .before .before .add-run-text .ensures) (c .before .before .before .before .before .before .before .before .before .before .before .pre .0) (c .before .before .before .before .before .before .before .before .before .before .before .pre .1) .size
 
 add-requires : tie.Need-add-requires
 add-requires c κs = search needs
@@ -43,7 +44,7 @@ same-length-3 : tie.Need-same-length-3
 same-length-3 c = search needs
 
 returns-2 : tie.Need-returns-2
-returns-2 c = part-encoded _ (c .before .before .before .before .before .before .before .before .before .before .before .before .add-run-text .ensures) (c .before .before .before .before .before .before .before .before .before .before .before .before .before .before .before .before .before .before .before .pre .0) (c .before .before .before .before .before .before .before .before .before .before .before .before .before .before .before .before .before .before .before .pre .1) (sym (c .before .before .before .before .before .before .before .before .before .before .before .before .before .before .before .is-ascii .ensures) ∙ c .before .before .before .before .before .before .before .before .before .before .before .before .before .before .if1 .left) (omega arith) (c .before .before .before .before .before .before .before .add .ensures) (c .before .before .add-slice2 .ensures)
+returns-2 c = part-encoded _ (run-made _ (c .before .before .before .before .before .before .before .before .before .before .before .before .add-run-text .ensures) (c .before .before .before .before .before .before .before .before .before .before .before .before .before .before .before .before .before .before .before .pre .0) (c .before .before .before .before .before .before .before .before .before .before .before .before .before .before .before .before .before .before .before .pre .1)) (sym (c .before .before .before .before .before .before .before .before .before .before .before .before .before .before .before .is-ascii .ensures) ∙ c .before .before .before .before .before .before .before .before .before .before .before .before .before .before .if1 .left) (c .before .before .before .before .before .before .before .before .before .before .before .before .before .before .before .before .before .before .before .pre .0) (omega arith) (c .before .before .before .before .before .before .before .add .ensures) (c .before .before .add-slice2 .ensures)
 
 pub add-part-spec : {M : Type 1} → statement M
 add-part-spec =
