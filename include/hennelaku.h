@@ -39,9 +39,10 @@ extern "C" {
 #define HENNELAKU_HEADER_ROOM_MAX 1048576
 
 /*
- * Stack that one call uses at most, in bytes: no function calls itself, and
- * frames have a fixed size. This is measured, not proved: about 105,000 bytes
- * (`make -C relay stack`).
+ * Stack that one call uses at most, in bytes: frames have a fixed size, and no
+ * function calls itself but one for comments inside comments, 256 levels at
+ * most, however deep they are. This is measured, not proved: about 121,000
+ * bytes (`make -C relay stack`).
  */
 #define HENNELAKU_STACK 131072
 
@@ -126,12 +127,17 @@ hennelaku_answer hennelaku_downgrade_slices(
  *
  *     address     From Sender Reply-To To Cc Bcc, the same six after Resent-,
  *                 Return-Path Disposition-Notification-To: addresses replaced
- *                 or removed; the original text in a Downgraded- field after it
+ *                 or removed, phrases and comments in encoded words; where an
+ *                 address was replaced or removed, the original text in a
+ *                 Downgraded- field after it
  *     plain text  Subject Comments Content-Description: text in encoded words
- *     held        Received Date Resent-Date Message-ID Resent-Message-ID
- *                 In-Reply-To References MIME-Version Content-Type Content-ID
- *                 Content-Disposition Content-Transfer-Encoding
- *                 Original-Recipient Final-Recipient Keywords: refused by 6
+ *     comments    Date Resent-Date Message-ID Resent-Message-ID In-Reply-To
+ *                 References MIME-Version Content-ID
+ *                 Content-Transfer-Encoding: comments in parentheses in encoded
+ *                 words, all else byte for byte; refused by 6 where non-ASCII
+ *                 stands outside comments
+ *     held        Received Content-Type Content-Disposition Original-Recipient
+ *                 Final-Recipient Keywords: refused by 6
  *     any other   Downgraded- before the name, text in encoded words
  *
  * After any other number no byte of either buffer has changed, and both

@@ -1,9 +1,12 @@
 /* Tests of the library through hennelaku.h. One line for each: ok or FAIL. */
+#define _DEFAULT_SOURCE
+#include <limits.h>
 #include <pthread.h>
 #include <stdarg.h>
 #include <stdio.h>
 #include <stdlib.h>
 #include <string.h>
+#include <sys/mman.h>
 
 #include "call.h"
 #include "cases.h"
@@ -554,6 +557,162 @@ static void test_threads(void)
     report("two threads on distinct buffers");
 }
 
+/* A call on a thread of its own. */
+typedef struct thread_call {
+    bytes header;
+    hennelaku_answer answer;
+} thread_call;
+
+static uint8_t thread_envelope[HENNELAKU_ENVELOPE_ROOM_MAX];
+static uint8_t thread_header[HENNELAKU_HEADER_ROOM_MAX];
+
+static void *call_main(void *argument)
+{
+    thread_call *c = argument;
+
+    c->answer = hennelaku_downgrade(
+        (const uint8_t *)PLAIN, strlen(PLAIN), c->header.at, c->header.len,
+        thread_envelope, sizeof thread_envelope,
+        thread_header, sizeof thread_header);
+    return NULL;
+}
+
+/* The answer of a call on a thread that has HENNELAKU_STACK bytes of stack,
+ * besides the least that any thread has, and below them a page that may not be
+ * touched. */
+static hennelaku_answer call_on_its_stack(bytes header)
+{
+    size_t page = 4096;
+    size_t size = HENNELAKU_STACK + (size_t)PTHREAD_STACK_MIN;
+    uint8_t *base = mmap(NULL, page + size, PROT_READ | PROT_WRITE,
+                         MAP_PRIVATE | MAP_ANONYMOUS, -1, 0);
+    thread_call c;
+    pthread_attr_t attributes;
+    pthread_t thread;
+
+    memset(&c, 0, sizeof c);
+    c.header = header;
+    if (base == MAP_FAILED || mprotect(base, page, PROT_NONE) != 0
+        || pthread_attr_init(&attributes) != 0
+        || pthread_attr_setstack(&attributes, base + page, size) != 0
+        || pthread_create(&thread, &attributes, call_main, &c) != 0
+        || pthread_join(thread, NULL) != 0) {
+        fputs("no thread for a test\n", stderr);
+        exit(2);
+    }
+    pthread_attr_destroy(&attributes);
+    munmap(base, page + size);
+    return c.answer;
+}
+
+/* So many parentheses, with a fold before every 400th, or each with CRLF and a
+ * space before it. */
+static void text_nest(text *t, char parenthesis, size_t count)
+{
+    size_t i;
+
+    for (i = 0; i < count; i++) {
+        if (i % 400 == 399) {
+            text_add(t, "\r\n ");
+        }
+        text_fill(t, parenthesis, 1);
+    }
+}
+
+static void text_pieces(text *t, char parenthesis, size_t count)
+{
+    size_t i;
+
+    for (i = 0; i < count; i++) {
+        text_add(t, "\r\n ");
+        text_fill(t, parenthesis, 1);
+    }
+}
+
+/* A header in such a thread: a refusal, or what its output begins with or is. */
+static void expect_nested(const char *name, text *header, uint32_t number,
+                          const text *output, int whole)
+{
+    hennelaku_answer a = call_on_its_stack(text_bytes(header));
+
+    if (a.number != number || a.place != 0) {
+        blame("%u at %zu, not %u at 0", (unsigned)a.number, a.place,
+              (unsigned)number);
+    } else if (number == HENNELAKU_OK
+               && (whole ? a.header_len != output->len
+                         : a.header_len < output->len)) {
+        blame("%zu bytes written", a.header_len);
+    } else if (number == HENNELAKU_OK
+               && memcmp(thread_header, output->at, output->len) != 0) {
+        blame("other bytes written");
+    }
+    report(name);
+    header->len = 0;
+}
+
+#define NESTED 16000
+#define E_WORD "\r\n =?UTF-8?Q?=C3=A9?="
+
+/* 32,000 parentheses, closed and unclosed, on the stack that a call needs. */
+static void test_nesting(void)
+{
+    text h = text_new(HENNELAKU_MAX_HEADER);
+    text o = text_new(HENNELAKU_HEADER_ROOM_MAX);
+
+    text_add(&h, "Date: ");
+    text_nest(&h, '(', NESTED);
+    text_add(&h, E_ACUTE);
+    text_nest(&h, ')', NESTED);
+    text_add(&h, "\r\n");
+    text_add(&o, "Date: ");
+    text_nest(&o, '(', NESTED);
+    text_add(&o, E_WORD "\r\n ");
+    text_nest(&o, ')', NESTED);
+    text_add(&o, "\r\n");
+    expect_nested("Date with comments inside comments, 16,000 deep", &h,
+                  HENNELAKU_OK, &o, 1);
+
+    text_add(&h, "Date: " E_ACUTE);
+    text_nest(&h, '(', 2 * NESTED);
+    text_add(&h, "\r\n");
+    expect_nested("Date with 32,000 unclosed parentheses", &h,
+                  HENNELAKU_HELD, &o, 1);
+
+    text_add(&h, "Date: (" E_ACUTE ")");
+    text_nest(&h, '(', 2 * NESTED);
+    text_add(&h, "\r\n");
+    o.len = 0;
+    text_add(&o, "Date: (" E_WORD "\r\n )");
+    text_nest(&o, '(', 2 * NESTED);
+    text_add(&o, "\r\n");
+    expect_nested("Date with a comment before 32,000 unclosed parentheses", &h,
+                  HENNELAKU_OK, &o, 1);
+
+    text_add(&h, "To: a@x ");
+    text_nest(&h, '(', NESTED);
+    text_add(&h, E_ACUTE);
+    text_nest(&h, ')', NESTED);
+    text_add(&h, "\r\n");
+    o.len = 0;
+    text_add(&o, "To:\r\n a@x");
+    text_pieces(&o, '(', NESTED);
+    text_add(&o, E_WORD);
+    text_pieces(&o, ')', NESTED);
+    text_add(&o, "\r\n");
+    expect_nested("To with comments inside comments, 16,000 deep", &h,
+                  HENNELAKU_OK, &o, 1);
+
+    text_add(&h, "To: a@x " E_ACUTE);
+    text_nest(&h, '(', 2 * NESTED);
+    text_add(&h, "\r\n");
+    o.len = 0;
+    text_add(&o, "Downgraded-To:");
+    expect_nested("To with 32,000 unclosed parentheses", &h, HENNELAKU_OK, &o,
+                  0);
+    free(h.at);
+    free(o.at);
+}
+
 static void test_number_text(void)
 {
     uint32_t i;
@@ -666,6 +825,7 @@ int main(void)
     test_first_fields();
     test_nothing_kept();
     test_threads();
+    test_nesting();
     test_number_text();
     test_mangled();
     return failures == 0 ? 0 : 1;

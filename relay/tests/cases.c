@@ -47,6 +47,22 @@ const test_case cases[] = {
      "Subject: =?UTF-8?Q?=C3=A9?=\r\n", 0, 0, PLAIN,
      "Subject: =?UTF-8?Q?=C3=A9?=\r\n"},
 
+    /* Comments in parentheses. */
+    {"a comment between a phrase and an address", PLAIN,
+     "From: \xCE\xBB\xCE\xB9\xCE\xBC\xCE\xAC\xCE\xBD\xCE\xB9 "
+     "(\xCF\x80\xCF\x81\xCE\xBF\xCE\xB2\xCE\xBB\xCE\xAE\xCF\x84\xCE\xB1 3) "
+     "<pilot@example.net>\r\n", 0, 0, PLAIN,
+     "From:" OPEN "=CE=BB=CE=B9=CE=BC=CE=AC=CE=BD=CE=B9" CLOSE "\r\n ("
+     OPEN "=CF=80=CF=81=CE=BF=CE=B2=CE=BB=CE=AE=CF=84=CE=B1_3" CLOSE
+     "\r\n )\r\n <pilot@example.net>\r\n"},
+    {"comments in Date, escapes and folds", PLAIN,
+     "Date: 15 Nov (a (" E_ACUTE "\\)\r\n b) \")\") 2026\r\n", 0, 0, PLAIN,
+     "Date: 15 Nov (a (" OPEN E_WORD "=29_b" CLOSE "\r\n ) \")\") 2026\r\n"},
+    {"non-ASCII outside the comments of Date", PLAIN,
+     "X: a\r\nDate: (" E_ACUTE ") " E_ACUTE "\r\n", 6, 1, NULL, NULL},
+    {"non-ASCII after an unclosed parenthesis", PLAIN,
+     "Date: (a (" E_ACUTE ")\r\n", 6, 0, NULL, NULL},
+
     /* Encoded words, by a plain text field. */
     {"ten and abc in one word", PLAIN, "Subject:" E_10 "abc\r\n", 0, 0, PLAIN,
      "Subject:" OPEN E_WORD_10 "abc" CLOSE "\r\n"},

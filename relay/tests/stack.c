@@ -85,13 +85,31 @@ static const char *long_field(char *at, const char *name, const char *end)
     return at;
 }
 
+/* A long field with comments inside comments, deeper than calls go. */
+static const char *nested_field(char *at, const char *start)
+{
+    char *to = at + sprintf(at, "%s", start);
+
+    memset(to, '(', 400);
+    to += 400 + sprintf(to + 400, "\r\n ");
+    memset(to, '(', 400);
+    to += 400 + sprintf(to + 400, E_ACUTE);
+    memset(to, ')', 400);
+    to += 400 + sprintf(to + 400, "\r\n ");
+    memset(to, ')', 400);
+    sprintf(to + 400, "\r\n");
+    return at;
+}
+
 int main(void)
 {
-    static char to[2048], subject[2048], unfit[2048];
+    static char to[2048], subject[2048], unfit[2048], deep[2048], date[2048];
     const char *const headers[] = {
         long_field(to, "To", " <" E_ACUTE "@x>"),
         long_field(subject, "Subject", ""),
         long_field(unfit, "Cc", " <"),
+        nested_field(deep, "To: a@x "),
+        nested_field(date, "Date: "),
         "To: " E_ACUTE "@x,\r\n \"" E_ACUTE "\" <" E_ACUTE "@x\r\n <a@x>>\r\n",
         "To: g:\r\n " E_ACUTE "@x, a <b@x>;, <c@x>\r\n",
         "Subject: " E_ACUTE "\r\n " E_ACUTE "\r\n",

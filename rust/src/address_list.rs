@@ -1,15 +1,17 @@
 //! Address fields: the grammar of their text, and the pieces of the rewritten value.
+//! Written from document 01, Address fields, and the requests named below.
 
 use crate::address::{address, word};
+use crate::comment::{self, comment_end, Part};
 use crate::header::is_blank;
 use crate::sink::Sink;
 use crate::words::{row, Row};
 
-/// "No word or address exceeds 900 bytes."
+/// "No word or address exceeds 900 bytes." [1]: no run of a comment either, unless it is dropped.
 const LONGEST: usize = 900;
 
 /// What a text is made of, in order.
-trait Parts {
+pub trait Parts {
     fn phrase(&mut self, phrase: &[u8]);
     fn bare(&mut self, address: &[u8]);
     fn angle(&mut self, address: &[u8]);
@@ -17,15 +19,17 @@ trait Parts {
     fn alternative(&mut self, address: &[u8]);
     /// One of `, : ;`.
     fn mark(&mut self, mark: u8);
+    fn comment(&mut self, comment: &[u8]);
 }
 
 /// "The text must be a comma list of mailboxes or groups (`phrase : mailboxes ;`, perhaps none), with runs of spaces
-/// and TABs allowed around `, : ; <` and at the end." None where the text does not fit.
-fn list(text: &[u8], parts: &mut impl Parts) -> Option<()> {
-    let mut at = 0;
+/// and TABs allowed around `, : ; <` and at the end." [1]: comments "at the start of an address list and wherever
+/// spaces may stand in it outside `< >` and phrases". None where the text does not fit.
+pub fn list(text: &[u8], parts: &mut impl Parts) -> Option<()> {
+    let mut at = gap(text, 0, parts)?;
     loop {
         at = mailbox_or_group(text, at, parts)?;
-        at = blanks(text, at);
+        at = gap(text, at, parts)?;
         if at == text.len() {
             return Some(());
         }
@@ -48,7 +52,7 @@ fn members(text: &[u8], at: usize, parts: &mut impl Parts) -> Option<usize> {
     }
     loop {
         at = match mailbox(text, at, parts)? {
-            Mailbox::End(end) => blanks(text, end),
+            Mailbox::End(end) => gap(text, end, parts)?,
             Mailbox::Phrase(_) => return None,
         };
         if text.get(at) == Some(&b';') {
@@ -61,7 +65,7 @@ fn members(text: &[u8], at: usize, parts: &mut impl Parts) -> Option<usize> {
 enum Mailbox {
     /// Ends here.
     End(usize),
-    /// A phrase, and behind it and its blanks something other than `<`.
+    /// A phrase, and behind it and its gap something other than `<`.
     Phrase(usize),
 }
 
@@ -77,7 +81,7 @@ fn mailbox(text: &[u8], at: usize, parts: &mut impl Parts) -> Option<Mailbox> {
     if text.get(at) != Some(&b'<') {
         let end = phrase(text, at)?;
         parts.phrase(&text[at..end]);
-        at = blanks(text, end);
+        at = gap(text, end, parts)?;
         if text.get(at) != Some(&b'<') {
             return Some(Mailbox::Phrase(at));
         }
@@ -123,7 +127,7 @@ fn phrase(text: &[u8], at: usize) -> Option<usize> {
 }
 
 fn begins_word(text: &[u8], at: usize) -> bool {
-    at < text.len() && !b"<>,:;@".contains(&text[at])
+    at < text.len() && !b"<>,:;@(".contains(&text[at])
 }
 
 /// A word or an address, if it is not too long.
@@ -143,13 +147,38 @@ fn blanks(text: &[u8], at: usize) -> usize {
     at
 }
 
-/// The mark that has to stand here, and the blanks behind it.
+/// Blanks and comments, as many as stand here. "An unclosed parenthesis encapsulates an address field", and so does
+/// a run of more than 900 bytes that is not of "spaces and TABs only".
+fn gap(text: &[u8], at: usize, parts: &mut impl Parts) -> Option<usize> {
+    let mut at = blanks(text, at);
+    while text.get(at) == Some(&b'(') {
+        let end = comment_end(text, at)?;
+        let mut fits = true;
+        comment::parts(&text[at..end], |part| match part {
+            Part::Run(run) if run.len() > LONGEST => fits &= is_dropped(run),
+            _ => {}
+        });
+        if !fits {
+            return None;
+        }
+        parts.comment(&text[at..end]);
+        at = blanks(text, end);
+    }
+    Some(at)
+}
+
+/// "a run of spaces and TABs only is dropped". [1.6]: told from the bytes as they stand, so that an escaped space stays.
+fn is_dropped(run: &[u8]) -> bool {
+    run.iter().all(|&b| is_blank(b))
+}
+
+/// The mark that has to stand here, and the gap behind it.
 fn mark(text: &[u8], at: usize, mark: u8, parts: &mut impl Parts) -> Option<usize> {
     if text.get(at) != Some(&mark) {
         return None;
     }
     parts.mark(mark);
-    Some(blanks(text, at + 1))
+    gap(text, at + 1, parts)
 }
 
 /// Looks for an address that is replaced or removed.
@@ -169,6 +198,8 @@ impl Parts for Look {
         self.found = true;
     }
     fn mark(&mut self, _mark: u8) {}
+    // [1.10]: only addresses bring a copy.
+    fn comment(&mut self, _comment: &[u8]) {}
 }
 
 /// None where the text does not fit; else whether any address is replaced or removed.
@@ -247,6 +278,16 @@ impl<S: Sink> Parts for Pieces<'_, S> {
         } else {
             self.piece(&[mark]);
         }
+    }
+
+    /// [1]: "In an address field each parenthesis and each run is a piece"
+    fn comment(&mut self, comment: &[u8]) {
+        comment::parts(comment, |part| match part {
+            Part::Parenthesis(b) => self.piece(&[b]),
+            Part::Run(run) if is_dropped(run) => {}
+            Part::Run(run) if run.is_ascii() => self.piece(run),
+            Part::Run(run) => comment::write_run(self.sink, run),
+        });
     }
 }
 

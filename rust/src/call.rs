@@ -1,6 +1,8 @@
 //! The downgrade call: sizes (1), the order of refusals, room (7, 8), the outgoing header.
+//! Written from document 01, Answers by number, Header lines and Address fields, and the requests named below.
 
 use crate::address_list;
+use crate::comment;
 use crate::envelope::{self, Envelope};
 use crate::header::{self, Field, Kind};
 use crate::sink::{Counter, Sink, Writer};
@@ -78,6 +80,13 @@ fn write_header(sink: &mut impl Sink, envelope: &Envelope, header: &[u8], scratc
                 write_words(sink, &field);
             }
             Kind::Held => return Err(field.start),
+            Kind::HeldOutsideComments if comment::non_ascii_outside(field.value) => return Err(field.start),
+            Kind::HeldOutsideComments => {
+                sink.put(field.name);
+                sink.put(b":");
+                comment::write_value(sink, field.value);
+                sink.put(b"\r\n");
+            }
             // "Every other name is encapsulated"
             Kind::Other => encapsulate(sink, &field),
         }

@@ -1,4 +1,5 @@
 //! The envelope: its lines checked (2, 3, 4, and 6 for ORCPT), what replaces their paths, and the writing.
+//! Written from document 01, Envelope lines and Address fields, and the requests named below.
 
 use crate::address::{address, decode_xtext, is_ascii_address, value_end, LINE};
 use crate::sink::Sink;

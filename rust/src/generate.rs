@@ -57,6 +57,8 @@ const NAMED: &[&str] = &[
 ];
 const ADDRESS_NAMES: usize = 14;
 const TAKEN_NAMES: usize = 17;
+/// Those of which request [1] rewrites the comments.
+const COMMENTED: [usize; 9] = [18, 19, 20, 21, 22, 23, 24, 26, 28];
 const NEAR_NAMES: &[&str] = &[
     "Fro", "Froms", "X-To", "Resent-", "Resent-Subject", "Resent-Return-Path", "Reply_To", "Subjects", "Contents",
     "Content-Typ", "Content-Language", "Downgraded-To", "Downgraded-Mail-From", "Dates", "Keyword", "CcBcc", "T",
@@ -428,14 +430,77 @@ fn blanks(r: &mut Random, out: &mut Vec<u8>, least: usize) {
     }
 }
 
-/// How often a part of an address list is at fault: once in so many, or never for 0.
+/// How often a part of an address list is at fault or a gap holds a comment: once in so many, or never for 0.
 struct Faults {
     once_in: usize,
+    comment_once_in: usize,
 }
 
 impl Faults {
     fn here(&self, r: &mut Random) -> bool {
         self.once_in > 0 && r.once_in(self.once_in)
+    }
+}
+
+/// A run of a comment: blanks, escapes, quotes, and now and then about 900 bytes.
+fn run(r: &mut Random, out: &mut Vec<u8>) {
+    let non_ascii = r.once_in(2);
+    if r.once_in(8) {
+        for _ in 0..if r.once_in(20) { r.from(899, 902) } else { r.from(1, 3) } {
+            out.push(r.byte(b" \t"));
+        }
+        return;
+    }
+    let end = out.len() + if r.once_in(3) { r.from(1, 3) } else { length(r, 900) };
+    while out.len() < end {
+        match r.below(12) {
+            0 | 1 => {
+                out.push(b'\\');
+                match r.below(4) {
+                    0 if non_ascii => character(r, out),
+                    1 => out.push(r.byte(b" \t")),
+                    _ => out.push(r.byte(b"()\\\"a\x01\x7f")),
+                }
+            }
+            2 => out.push(r.byte(b"\"<>,:;@[]=?_.")),
+            3 => out.push(r.byte(b"  \t")),
+            4 => out.push(r.byte(b"\x01\x0b\x7f=+")),
+            5 | 6 if non_ascii => character(r, out),
+            _ => out.push(r.byte(ATEXT)),
+        }
+    }
+}
+
+/// A comment; with `faults` now and then one that is unclosed or closed too early.
+fn comment(r: &mut Random, out: &mut Vec<u8>, faults: bool) {
+    let mut depth = 1;
+    out.push(b'(');
+    if r.once_in(100) {
+        depth += r.from(1, 300);
+        out.resize(out.len() + depth - 1, b'(');
+    }
+    while depth > 0 {
+        if !r.once_in(4) && (depth < 5 || r.once_in(depth)) {
+            run(r, out);
+        }
+        if depth < 4 && r.once_in(4) {
+            out.push(b'(');
+            depth += 1;
+        } else if !(faults && r.once_in(20)) {
+            out.push(b')');
+            depth -= 1;
+        } else {
+            depth -= r.below(2);
+        }
+    }
+}
+
+/// What may stand in a gap of an address list: blanks, and now and then comments.
+fn gap(r: &mut Random, out: &mut Vec<u8>, f: &Faults) {
+    blanks(r, out, 0);
+    while f.comment_once_in > 0 && r.once_in(f.comment_once_in) {
+        comment(r, out, f.once_in > 0);
+        blanks(r, out, 0);
     }
 }
 
@@ -458,7 +523,7 @@ fn phrase(r: &mut Random, out: &mut Vec<u8>, f: &Faults) {
     word(r, out, non_ascii);
     while r.once_in(2) {
         if f.here(r) {
-            out.extend_from_slice(r.pick(&["", "(c)", "\\", "@", ",", " ( ", "\x7f", "\"", "[x]"]).as_bytes());
+            out.extend_from_slice(r.pick(&["", "(c)", " (é) ", "\\", "@", ",", " ( ", "\x7f", "\"", "[x]"]).as_bytes());
         } else {
             blanks(r, out, 1);
         }
@@ -473,7 +538,8 @@ fn mailbox(r: &mut Random, out: &mut Vec<u8>, f: &Faults) {
             r.pick(&[
                 "", "a", "é", "<>", "a@x <b@x>", "b:;", "<a@x >", "<a@x <b@x>>", "<é@x<b@x>>", "<é@x <é@x>>",
                 "<é@x <b@x> >", "<é@x <b@x >>", "<é@x <b@x>", "<@a:b@x>", "<a@x <b@x>>", "<a@x < b@x>>", "a@x.",
-                "a b@x", "<<a@x>>", "a@x b@x", "\"a@x", "<é@x b@x>", ",", ";", ":", "a@b@c",
+                "a b@x", "<<a@x>>", "a@x b@x", "\"a@x", "<é@x b@x>", ",", ";", ":", "a@b@c", "(é)", "<(c)a@x>",
+                "<a@x(c)>", "<é@x (c) <a@x>>", "a(c)@x", "a@(c)x", "é (",
             ])
             .as_bytes(),
         );
@@ -488,7 +554,7 @@ fn mailbox(r: &mut Random, out: &mut Vec<u8>, f: &Faults) {
         1 => {}
         _ => {
             phrase(r, out, f);
-            blanks(r, out, 0);
+            gap(r, out, f);
         }
     }
     out.push(b'<');
@@ -519,12 +585,13 @@ fn mailbox(r: &mut Random, out: &mut Vec<u8>, f: &Faults) {
 }
 
 fn address_list(r: &mut Random, out: &mut Vec<u8>, f: &Faults) {
+    gap(r, out, f);
     loop {
         if r.once_in(5) {
             phrase(r, out, f);
-            blanks(r, out, 0);
+            gap(r, out, f);
             out.push(b':');
-            blanks(r, out, 0);
+            gap(r, out, f);
             if f.here(r) {
                 // A group inside a group.
                 phrase(r, out, f);
@@ -532,12 +599,12 @@ fn address_list(r: &mut Random, out: &mut Vec<u8>, f: &Faults) {
             } else if !r.once_in(4) {
                 mailbox(r, out, f);
                 while r.once_in(3) {
-                    blanks(r, out, 0);
+                    gap(r, out, f);
                     out.push(if f.here(r) { b';' } else { b',' });
-                    blanks(r, out, 0);
+                    gap(r, out, f);
                     mailbox(r, out, f);
                 }
-                blanks(r, out, 0);
+                gap(r, out, f);
             }
             if !f.here(r) {
                 out.push(b';');
@@ -545,7 +612,7 @@ fn address_list(r: &mut Random, out: &mut Vec<u8>, f: &Faults) {
         } else {
             mailbox(r, out, f);
         }
-        blanks(r, out, 0);
+        gap(r, out, f);
         if f.here(r) {
             out.extend_from_slice(r.pick(&[",,", ", ,", ";", "x", "(c)", ">", " <a@x>", ":"]).as_bytes());
         }
@@ -553,7 +620,7 @@ fn address_list(r: &mut Random, out: &mut Vec<u8>, f: &Faults) {
             break;
         }
         out.push(b',');
-        blanks(r, out, 0);
+        gap(r, out, f);
     }
     while out.last() == Some(&b' ') && r.once_in(2) {
         out.pop();
@@ -563,7 +630,7 @@ fn address_list(r: &mut Random, out: &mut Vec<u8>, f: &Faults) {
 const TOKENS: &[&str] = &[
     "a", "b.c", "é", "é", "\"q r\"", "\"é\\\"\"", "@", ".", "<", ">", ">>", ",", ":", ";", " ", "\t", "a@b", "é@x",
     "a@[1]", "\"q\"@x", "<a@b>", "<é@x>", "<é@x <a@b>>", " <a@b>", ", ", " : ", " ; ", "g:a@b;", "(", ")", "\"", "\\",
-    "[", "]",
+    "[", "]", "(é)", "(c)", "( ", " )", "(\\)", "(\")",
 ];
 
 /// Tokens of the grammar, whatever their order.
@@ -573,10 +640,16 @@ fn tokens_in_any_order(r: &mut Random, out: &mut Vec<u8>) {
     }
 }
 
+/// How often the gaps of one list hold a comment.
+fn comments_of_a_list(r: &mut Random) -> usize {
+    [0, 2, 3, 5][r.below(4)]
+}
+
 /// A list, and then one or two of its bytes changed, added or taken out, so that lines stay well-formed.
 fn changed_list(r: &mut Random, out: &mut Vec<u8>) {
     let start = out.len();
-    address_list(r, out, &Faults { once_in: 0 });
+    let comment_once_in = comments_of_a_list(r);
+    address_list(r, out, &Faults { once_in: 0, comment_once_in });
     for _ in 0..r.from(1, 2) {
         let places: Vec<usize> = (start..out.len()).filter(|&at| out[at] < 128).collect();
         if places.is_empty() {
@@ -659,15 +732,16 @@ fn field(r: &mut Random, out: &mut Vec<u8>, held: bool) {
         blanks(r, &mut value, 0);
     }
     if is_address || r.once_in(8) {
+        let comment_once_in = comments_of_a_list(r);
         match r.below(10) {
-            0 | 1 => address_list(r, &mut value, &Faults { once_in: 8 }),
+            0 | 1 => address_list(r, &mut value, &Faults { once_in: 8, comment_once_in }),
             2 | 3 => changed_list(r, &mut value),
             4 => tokens_in_any_order(r, &mut value),
             5 => {
                 let len = r.from(1, 60);
                 text(r, &mut value, len);
             }
-            _ => address_list(r, &mut value, &Faults { once_in: 0 }),
+            _ => address_list(r, &mut value, &Faults { once_in: 0, comment_once_in }),
         }
     } else {
         match r.below(40) {
@@ -701,14 +775,45 @@ fn field(r: &mut Random, out: &mut Vec<u8>, held: bool) {
             }
         }
     }
+    end_field(r, out, start, &value);
+}
+
+/// The value, folded, after the name that begins at `start`.
+fn end_field(r: &mut Random, out: &mut Vec<u8>, start: usize, value: &[u8]) {
     let often = match r.below(6) {
         0 => 2,
         1 | 2 => 8,
         _ => 0,
     };
-    let folded = fold(r, &value, out.len() - start, often);
+    let folded = fold(r, value, out.len() - start, often);
     out.extend_from_slice(&folded);
     out.extend_from_slice(b"\r\n");
+}
+
+/// A field that is held for what stands outside its comments; mostly nothing does.
+fn commented_field(r: &mut Random, out: &mut Vec<u8>) {
+    let start = out.len();
+    let at = if r.once_in(30) { r.from(TAKEN_NAMES, NAMED.len() - 1) } else { COMMENTED[r.below(COMMENTED.len())] };
+    in_any_case(r, out, NAMED[at]);
+    out.push(b':');
+    let mut value = Vec::new();
+    let faults = r.once_in(3);
+    for _ in 0..r.from(1, 6) {
+        match r.below(12) {
+            0..=4 => comment(r, &mut value, faults),
+            5 => quoted_string(r, &mut value, 8, false),
+            6 if faults => value.extend_from_slice(
+                r.pick(&["\"", "\\", "\\\"", "\\(", "(", ")", "\"(é)\"", "\"\\\"", "\"\\é\"", "é", "<é@x>"]).as_bytes(),
+            ),
+            7 => {
+                let part = r.pick(&["<a", "@b>", "[", "]", "Mon, 1 Jan", "1.0", "a)", "\"(\"", "\"\\\"(\"", "\\"]);
+                value.extend_from_slice(part.as_bytes());
+            }
+            8 | 9 => atom(r, &mut value, 4, false),
+            _ => blanks(r, &mut value, 0),
+        }
+    }
+    end_field(r, out, start, &value);
 }
 
 pub fn header(r: &mut Random) -> Vec<u8> {
@@ -725,6 +830,10 @@ pub fn header(r: &mut Random) -> Vec<u8> {
             if r.once_in(3) {
                 out.extend_from_slice(b"\tand more\r\n");
             }
+        }
+        if r.once_in(4) {
+            commented_field(r, &mut out);
+            continue;
         }
         let held = r.once_in(14);
         field(r, &mut out, held);
@@ -756,6 +865,9 @@ fn damage_header_line(r: &mut Random, out: &mut Vec<u8>) {
 fn long_header(r: &mut Random) -> Vec<u8> {
     let mut out = Vec::new();
     let size = r.from(32_766, 32_769);
+    if r.once_in(6) {
+        nested(r, &mut out);
+    }
     while out.len() + 1100 < size {
         out.extend_from_slice(r.pick(&["Subject: ", "To: é@x,", "X-Long:\t"]).as_bytes());
         for _ in 0..r.from(1, 200) {
@@ -776,6 +888,23 @@ fn long_header(r: &mut Random) -> Vec<u8> {
     }
     out.extend_from_slice(b"\r\n");
     out
+}
+
+/// Up to 32,000 parentheses one inside the other, closed or not.
+fn nested(r: &mut Random, out: &mut Vec<u8>) {
+    out.extend_from_slice(r.pick(&["To: a@x", "Date:", "From: a@x,"]).as_bytes());
+    let lines = r.from(1, 16);
+    let last = if r.once_in(2) { lines } else { r.below(32 - lines) };
+    for (parenthesis, lines) in [(b'(', lines), (b')', last)] {
+        for _ in 0..lines {
+            out.extend_from_slice(b"\r\n ");
+            out.resize(out.len() + 950, parenthesis);
+        }
+        if parenthesis == b'(' {
+            character(r, out);
+        }
+    }
+    out.extend_from_slice(r.pick(&["\r\n", "\r\n b@y\r\n", ")\r\n"]).as_bytes());
 }
 
 /// One to four changes anywhere.

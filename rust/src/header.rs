@@ -1,4 +1,5 @@
 //! Header lines and fields: the check (5), names and their kinds, held names (6), and the text of a field.
+//! Written from document 01, Header lines, and the requests named below.
 
 use crate::utf8::{find, valid_len};
 
@@ -12,6 +13,8 @@ pub enum Kind {
     Address,
     Plain,
     Held,
+    /// [1]: "held only if non-ASCII stands outside their comments"
+    HeldOutsideComments,
     Other,
 }
 
@@ -35,17 +38,17 @@ static NAMES: [(&str, Kind); 32] = [
     ("Comments", Kind::Plain),
     ("Content-Description", Kind::Plain),
     ("Received", Kind::Held),
-    ("Date", Kind::Held),
-    ("Resent-Date", Kind::Held),
-    ("Message-ID", Kind::Held),
-    ("Resent-Message-ID", Kind::Held),
-    ("In-Reply-To", Kind::Held),
-    ("References", Kind::Held),
-    ("MIME-Version", Kind::Held),
+    ("Date", Kind::HeldOutsideComments),
+    ("Resent-Date", Kind::HeldOutsideComments),
+    ("Message-ID", Kind::HeldOutsideComments),
+    ("Resent-Message-ID", Kind::HeldOutsideComments),
+    ("In-Reply-To", Kind::HeldOutsideComments),
+    ("References", Kind::HeldOutsideComments),
+    ("MIME-Version", Kind::HeldOutsideComments),
     ("Content-Type", Kind::Held),
-    ("Content-ID", Kind::Held),
+    ("Content-ID", Kind::HeldOutsideComments),
     ("Content-Disposition", Kind::Held),
-    ("Content-Transfer-Encoding", Kind::Held),
+    ("Content-Transfer-Encoding", Kind::HeldOutsideComments),
     ("Original-Recipient", Kind::Held),
     ("Final-Recipient", Kind::Held),
     ("Keywords", Kind::Held),

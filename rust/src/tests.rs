@@ -1,4 +1,4 @@
-//! The paper's checked examples, each rule, and its near misses.
+//! The papers' checked examples, each rule, and its near misses; a test of a settled reading tells its number.
 
 use crate::{downgrade, Answer};
 
@@ -487,8 +487,16 @@ fn every_name() {
     addresses.extend(address.iter().map(|name| format!("Resent-{name}")));
     addresses.extend(["Return-Path".to_string(), "Disposition-Notification-To".to_string()]);
     let cases = |name: &str| [name.to_string(), name.to_lowercase(), name.to_uppercase()];
+    // [1]: "Date to MIME-Version in document 01's list, Content-ID and Content-Transfer-Encoding"
+    let commented = [1, 2, 3, 4, 5, 6, 7, 9, 11].map(|at| held[at]);
     for name in held.iter().flat_map(|name| cases(name)) {
         assert_eq!(header(format!("{name}: é\r\n").as_bytes()), (6, 0));
+        let comment = format!("{name}: (é)\r\n");
+        if commented.iter().any(|commented| commented.eq_ignore_ascii_case(&name)) {
+            assert_eq!(out(&comment), format!("{name}: (\r\n =?UTF-8?Q?=C3=A9?=\r\n )\r\n"));
+        } else {
+            assert_eq!(header(comment.as_bytes()), (6, 0), "{name}");
+        }
         assert_eq!(header(format!("{name}: e\r\n").as_bytes()), (0, 0));
         assert!(out(&format!("{name}s: é\r\n")).starts_with(&format!("Downgraded-{name}s:\r\n")));
     }
@@ -587,10 +595,10 @@ fn texts_that_do_not_fit() {
         "é <a@x >", "é <a@x> x", "é <a@x", "é <>", "é < >", "é <a>", "é <a@x>>", "é <<a@x>>", "é <a@x<b@x>>",
         "<é@x<a@x>>", "<é@x <a@x> >", "<é@x <a@x >>", "<é@x <á@x>>", "<a@x <b@x>>, é@x", "<é@x <a@x> <b@x>>",
         "<é@x a@x>", "<é@x <a@x>", "<é@x <>>", "é:", "é:a@x", "é:,;", "é:a@x,;", "é:,a@x;", "é:a@x;;", "é:a@x;b@x",
-        "é:;b@x", "é:a@x:;", "é:b:;;", "é:b:c@x;;", ":;é@x", "é:(c);", "é (c) <a@x>", "(é) a@x", "é\"b\" <a@x>",
-        "\"é\"b <a@x>", "\"é\"\"b\" <a@x>", "\"é <a@x>", "\"\\é\" <a@x>", "\"\u{7f}é\" <a@x>", "é \u{7f} <a@x>",
-        "é [b] <a@x>", "é ) <a@x>", "é..@x", "é.@x", ".é@x", "é@x.", "é@", "@x,é@x", "é@[é]", "é@[\\]", "\"é\"@",
-        "é b@x", "é <a@x>,b", "é <@b:a@x>", "é <a@x>\t<a@x>", "é : <a@x> : ;", ";é@x", "é@x, g : ; ;",
+        "é:;b@x", "é:a@x:;", "é:b:;;", "é:b:c@x;;", ":;é@x", "é\"b\" <a@x>", "\"é\"b <a@x>", "\"é\"\"b\" <a@x>",
+        "\"é <a@x>", "\"\\é\" <a@x>", "\"\u{7f}é\" <a@x>", "é \u{7f} <a@x>", "é [b] <a@x>", "é ) <a@x>", "é..@x",
+        "é.@x", ".é@x", "é@x.", "é@", "@x,é@x", "é@[é]", "é@[\\]", "\"é\"@", "é b@x", "é <a@x>,b", "é <@b:a@x>",
+        "é <a@x>\t<a@x>", "é : <a@x> : ;", ";é@x", "é@x, g : ; ;",
     ] {
         unfit(text);
     }
@@ -618,4 +626,256 @@ fn words_and_addresses_of_900() {
     unfit(&format!("<b{greek}\r\n <a@x>>"));
     unfit(&format!("b{greek}"));
     unfit(&format!("{}\r\n <a@x>", "é".repeat(450) + "b"));
+}
+
+// Comments
+
+const E: &str = "=?UTF-8?Q?=C3=A9?=";
+
+#[test]
+fn comments_of_an_address_field() {
+    assert_eq!(
+        lines("From: λιμάνι (προβλήτα 3) <pilot@example.net>\r\n"),
+        [
+            "From:",
+            "=?UTF-8?Q?=CE=BB=CE=B9=CE=BC=CE=AC=CE=BD=CE=B9?=",
+            "(",
+            "=?UTF-8?Q?=CF=80=CF=81=CE=BF=CE=B2=CE=BB=CE=AE=CF=84=CE=B1_3?=",
+            ")",
+            "<pilot@example.net>"
+        ]
+    );
+    // [1.1]
+    fits("A (é) <a@b>", &["A", "(", E, ")", "<a@b>"]);
+    fits("g (é): a@b;", &["g", "(", E, ")", ":", "a@b", ";"]);
+    fits("a@b (é)", &["a@b", "(", E, ")"]);
+    fits("(é) a@b", &["(", E, ")", "a@b"]);
+    fits("(é) <a@b> (c)", &["(", E, ")", "<a@b>", "(", "c", ")"]);
+    fits("(é) g:;", &["(", E, ")", "g", ":", ";"]);
+    fits("a@b (c) , (é) b@c", &["a@b", "(", "c", "),", "(", E, ")", "b@c"]);
+    fits(
+        "g:(1)é <a@b>(2),(3)<b@c>(4);(5),(6)d@e(7)",
+        &[
+            "g", ":", "(", "1", ")", E, "<a@b>", "(", "2", "),", "(", "3", ")", "<b@c>", "(", "4", ")", ";", "(", "5",
+            "),", "(", "6", ")", "d@e", "(", "7", ")",
+        ],
+    );
+    fits("<é@x <a@b>> (c)", &["<a@b>", "(", "c", ")"]);
+    fits("é@x (c)", &["Internationalized Address", "=?UTF-8?Q?=C3=A9=40x?=", "Removed:;", "(", "c", ")"]);
+    // [1.2]
+    for text in [
+        "a (é) b <x@y>", "é <(c)x@y>", "é < (c)x@y>", "é <x@y(c)>", "é <x@y (c)>", "<é@y (c) <x@y>>", "<é@y(c)<x@y>>",
+        "<é@y <(c)x@y>>", "<é@y <x@y(c)>>", "<é@y <x@y>(c)>", "é(c)@y", "é@(c)y", "é@y.(c)z", "é.(c)e@y", "é(c).e@y",
+    ] {
+        unfit(text);
+    }
+    // [1.3]
+    fits("a@b(é)", &["a@b", "(", E, ")"]);
+    fits("é(c)<a@b>", &[E, "(", "c", ")", "<a@b>"]);
+    fits("(a)(b) é <c@d>", &["(", "a", ")", "(", "b", ")", E, "<c@d>"]);
+    fits("(a) \t(é)\tc@d", &["(", "a", ")", "(", E, ")", "c@d"]);
+    fits("\"é\"(c)<a@b>", &[E, "(", "c", ")", "<a@b>"]);
+    unfit("é(c)b <x@y>");
+    // [1.4]
+    for text in ["(é)", "(é) ", "(c),é@x", "é@x,(c)", "é@x,(c),a@b", "g:(é),a@b;", "g:a@b,(é);", "(é) <>", "(é):;"]
+    {
+        unfit(text);
+    }
+    fits("g:(é);", &["g", ":", "(", E, ")", ";"]);
+    fits("g: (é) (c) ;", &["g", ":", "(", E, ")", "(", "c", ")", ";"]);
+    // "An unclosed parenthesis encapsulates an address field"
+    for text in ["é <a@b> (", "é <a@b> (c", "é <a@b> ((c)", "é <a@b> (c\\)", "(é a@b", "é <a@b> )", "é <a@b> (c))"]
+    {
+        unfit(text);
+    }
+}
+
+#[test]
+fn runs_of_an_address_field() {
+    // [1.5]
+    fits("a@b ( é )", &["a@b", "(", "=?UTF-8?Q?_=C3=A9_?=", ")"]);
+    fits("é <a@b> ( c )", &[E, "<a@b>", "(", " c ", ")"]);
+    fits("é <a@b> ()", &[E, "<a@b>", "(", ")"]);
+    fits("a@b (c(é)(()d)\té)", &["a@b", "(", "c", "(", E, ")", "(", "(", ")", "d", ")", "=?UTF-8?Q?=09=C3=A9?=", ")"]);
+    // [1.6]
+    fits("é <a@b> ( \t )", &[E, "<a@b>", "(", ")"]);
+    fits("é <a@b> ( ( ) )", &[E, "<a@b>", "(", "(", ")", ")"]);
+    fits("é <a@b> (\\ )", &[E, "<a@b>", "(", "\\ ", ")"]);
+    fits("é <a@b> (\\\t)", &[E, "<a@b>", "(", "\\\t", ")"]);
+    // [1.9]
+    fits("é <a@b> (c), d@e", &[E, "<a@b>", "(", "c", "),", "d@e"]);
+    fits("a@b (é), d@e", &["a@b", "(", E, "),", "d@e"]);
+    // [1.11]: strings of phrases and addresses keep document 01's grammar, and no comment starts in them.
+    unfit("\"\\é\" (c) <a@b>");
+    fits("\"(é\" <a@b>", &["=?UTF-8?Q?=28=C3=A9?=", "<a@b>"]);
+    fits("\"(\"@b (é)", &["\"(\"@b", "(", E, ")"]);
+    fits("a@[(] (é)", &["a@[(]", "(", E, ")"]);
+    // [1.17]
+    fits("a@b (\"é)", &["a@b", "(", "=?UTF-8?Q?=22=C3=A9?=", ")"]);
+    fits("é <a@b> (\") (\")", &[E, "<a@b>", "(", "\"", ")", "(", "\"", ")"]);
+    fits("é <a@b> (\\(\\)\\\\)", &[E, "<a@b>", "(", "\\(\\)\\\\", ")"]);
+    // [1.18]
+    fits("a@b (\\(\\é\\\\\\a\\ )", &["a@b", "(", "=?UTF-8?Q?=28=C3=A9=5Ca_?=", ")"]);
+    fits("a@b (é\r\n x)", &["a@b", "(", "=?UTF-8?Q?=C3=A9_x?=", ")"]);
+    fits("a@b (é\\\r\n x)", &["a@b", "(", "=?UTF-8?Q?=C3=A9_x?=", ")"]);
+    fits("a@b (é\\\r\n\t(x))", &["a@b", "(", "=?UTF-8?Q?=C3=A9=09?=", "(", "x", ")", ")"]);
+    fits("é <a@b> (c\r\n d)", &[E, "<a@b>", "(", "c d", ")"]);
+    // [1.19]
+    fits("é <a@b> (=?UTF-8?Q?a?=)", &[E, "<a@b>", "(", "=?UTF-8?Q?a?=", ")"]);
+    fits("a@b (=?é)", &["a@b", "(", "=?UTF-8?Q?=3D=3F=C3=A9?=", ")"]);
+    let ascii = "To: a@b (((, (\r\n \"\r\n";
+    assert_eq!(out(ascii), ascii);
+    // [1.20]
+    assert_eq!(
+        lines(&format!("To: a@b ({})\r\n", "é".repeat(11)))[3..],
+        [format!("=?UTF-8?Q?{}?=", "=C3=A9".repeat(10)), E.to_string(), ")".to_string()]
+    );
+}
+
+#[test]
+fn copies_beside_comments() {
+    // [1.10]
+    assert!(!out("To: é (é) <a@b>\r\n").contains("Downgraded-"));
+    fits("<é@x <a@b>> (é\r\n \\x)", &["<a@b>", "(", "=?UTF-8?Q?=C3=A9_x?=", ")"]);
+    let with_copy = out("To: <é@x <a@b>> (é\r\n \\x)\r\n");
+    let (_, copy) = with_copy.split_once("Downgraded-To:").unwrap();
+    let (text, _) = read_row(copy.strip_suffix("\r\n").unwrap().as_bytes()).unwrap();
+    assert_eq!(text, "<é@x <a@b>> (é \\x)".as_bytes());
+}
+
+#[test]
+fn runs_of_900() {
+    // [1.8], folded since a line has at most 998 bytes.
+    let long = "b".repeat(900);
+    fits(&format!("é <a@b>\r\n ({long})"), &[E, "<a@b>", "(", &long, ")"]);
+    unfit(&format!("é <a@b>\r\n (b{long})"));
+    let two = format!("é <a@b>\r\n ({}\r\n b({long}", &long[2..]);
+    fits(&format!("{two}))"), &[E, "<a@b>", "(", &format!("{} b", &long[2..]), "(", &long, ")", ")"]);
+    unfit(&format!("{two}b))"));
+    let escaped = "\\b".repeat(450);
+    fits(&format!("é <a@b>\r\n ({escaped})"), &[E, "<a@b>", "(", &escaped, ")"]);
+    unfit(&format!("é <a@b>\r\n ({escaped}b)"));
+    // The CRLF of a fold does not count, its blank does.
+    let folded = format!("{}\r\n b", &long[2..]);
+    fits(&format!("é <a@b>\r\n ({folded})"), &[E, "<a@b>", "(", &folded.replace("\r\n", ""), ")"]);
+    unfit(&format!("é <a@b>\r\n ({folded}b)"));
+    let words = format!("To: a@b\r\n ({}", "é".repeat(450));
+    assert!(out(&format!("{words})\r\n")).starts_with("To:\r\n a@b\r\n (\r\n =?"));
+    assert!(out(&format!("{words}b)\r\n")).starts_with("Downgraded-To:"));
+    // A run that is dropped may be longer.
+    fits(&format!("é <a@b>\r\n ({})", " ".repeat(901)), &[E, "<a@b>", "(", ")"]);
+    unfit(&format!("é <a@b>\r\n ({}\\ )", " ".repeat(899)));
+}
+
+/// The value that is written for a value of Date.
+fn date(value: &str) -> String {
+    let got = out(&format!("Date:{value}\r\n"));
+    got.strip_prefix("Date:").unwrap().strip_suffix("\r\n").unwrap().to_string()
+}
+
+fn date_held(value: &str) {
+    assert_eq!(header(format!("Date:{value}\r\n").as_bytes()), (6, 0), "{value}");
+}
+
+#[test]
+fn comments_of_other_fields() {
+    let e = "\r\n =?UTF-8?Q?=C3=A9?=\r\n ";
+    // [1.12]
+    assert_eq!(out("Message-ID: <a(é)b@c>\r\n"), format!("Message-ID: <a({e})b@c>\r\n"));
+    assert_eq!(date("[(é)]"), format!("[({e})]"));
+    assert_eq!(date("(é)"), format!("({e})"));
+    date_held(" \"(é)\"");
+    assert_eq!(date(" \"(\" (é)"), format!(" \"(\" ({e})"));
+    // [1.13]
+    assert_eq!(date(" \\(é)"), format!(" \\({e})"));
+    date_held(" \\\"(é)");
+    date_held(" \"\\\"(é)");
+    date_held(" \"(é)");
+    assert_eq!(date(" \"\\\\\"(é)"), format!(" \"\\\\\"({e})"));
+    assert_eq!(date(" (é) \"(x"), format!(" ({e}) \"(x"));
+    date_held(" \"\\é\"(é)");
+    assert_eq!(date(" \"\\\r\n \"(é)"), format!(" \"\\\r\n \"({e})"));
+    // [1.14]
+    date_held(" (a (é) b");
+    date_held(" (é");
+    date_held(" (a) (é");
+    date_held(" (a\\) é");
+    date_held(" (é) é");
+    date_held(" é (é)");
+    date_held(" (é) (é");
+    assert_eq!(date(" (é) (a (b) c"), format!(" ({e}) (a (b) c"));
+    assert_eq!(date(" ) (é) )"), format!(" ) ({e}) )"));
+    // [1.15]
+    assert_eq!(date("\tMon (x) (a (é) b)\r\n\tc "), format!("\tMon (x) (a ({e}) b)\r\n\tc "));
+    assert_eq!(date(" (é(x)é)"), format!(" ({e}(x){e})"));
+    assert_eq!(date("\r\n \r\n (\r\n a\r\n\t)(é)\r\n "), format!("\r\n \r\n (\r\n a\r\n\t)({e})\r\n "));
+    assert_eq!(
+        date(&format!(" ({})x", "é".repeat(11))),
+        format!(" (\r\n =?UTF-8?Q?{}?=\r\n =?UTF-8?Q?=C3=A9?=\r\n )x", "=C3=A9".repeat(10))
+    );
+    // [1.7]
+    assert_eq!(date(" ( ) (é( ))"), format!(" ( ) ({e}( ))"));
+    let long = date(&format!("\r\n (é{0}\r\n {0})", "x".repeat(900)));
+    assert!(long.starts_with("\r\n (\r\n =?UTF-8?Q?=C3=A9xxx") && long.ends_with("?=\r\n )"));
+    // [1.17], [1.18]
+    assert_eq!(date(" (\") (é)"), format!(" (\") ({e})"));
+    assert_eq!(date(" (\\) é \\()"), " (\r\n =?UTF-8?Q?=29_=C3=A9_=28?=\r\n )");
+    assert_eq!(date(" (é\r\n x\\\r\n\ty\\é\\\\)"), " (\r\n =?UTF-8?Q?=C3=A9_x=09y=C3=A9=5C?=\r\n )");
+    assert_eq!(date(" (é\\\r\n (x))"), " (\r\n =?UTF-8?Q?=C3=A9_?=\r\n (x))");
+    // [1.19]
+    assert_eq!(date(" (((\" ) \\"), " (((\" ) \\");
+    assert_eq!(date(" (=?UTF-8?Q?a?= (é))"), format!(" (=?UTF-8?Q?a?= ({e}))"));
+    // The field's first line is the place.
+    assert_eq!(header("A: b\r\nDate: (é)\r\nDate: (é)\r\n é\r\n".as_bytes()), (6, 2));
+}
+
+#[test]
+fn lines_of_998_beside_a_comment() {
+    // [1.16]
+    let before = "b".repeat(998 - "Date:(é)".len());
+    let got = out(&format!("Date:{before}(é)\r\n (é){before}bbbb\r\n"));
+    assert!(got.split("\r\n").all(|line| line.len() <= 998));
+    let got = out(&format!("Date: (é\r\n ){}\r\n", "b".repeat(996)));
+    assert!(got.split("\r\n").any(|line| line.len() == 998));
+}
+
+#[test]
+fn deep_comments() {
+    let line = |b: &str| format!("\r\n {}", b.repeat(900));
+    let (open, close) = (line("(").repeat(17), line(")").repeat(17));
+    for name in ["To", "Date"] {
+        let closed = out(&format!("{name}:{open}é{close}\r\n a@b\r\n"));
+        assert_eq!(closed.matches('(').count(), 17 * 900);
+        assert_eq!(closed.matches(')').count(), 17 * 900);
+        assert_eq!(closed.matches("=?UTF-8?Q?=C3=A9_?=").count(), 1);
+    }
+    let unclosed = format!("{open}é{}", close.replacen(')', "", 1));
+    assert!(out(&format!("To:{unclosed}\r\n a@b\r\n")).starts_with("Downgraded-To:"));
+    date_held(&unclosed);
+}
+
+/// A comment by its grammar: `(`, then escapes, comments and other characters, then `)`.
+fn comment_by_grammar(s: &[u8]) -> Option<&[u8]> {
+    let mut rest = s.strip_prefix(b"(")?;
+    loop {
+        rest = match rest {
+            [b')', behind @ ..] => return Some(behind),
+            [b'(', ..] => comment_by_grammar(rest)?,
+            [b'\\', _, behind @ ..] => behind,
+            [b'\\'] | [] => return None,
+            [_, behind @ ..] => behind,
+        };
+    }
+}
+
+#[test]
+fn ends_of_comments() {
+    let bytes = b"()\\a";
+    for len in 0..=8u32 {
+        for n in 0..4usize.pow(len) {
+            let s: Vec<u8> = std::iter::once(b'(').chain((0..len).map(|at| bytes[n >> (2 * at) & 3])).collect();
+            let want = comment_by_grammar(&s).map(|behind| s.len() - behind.len());
+            assert_eq!(crate::comment::comment_end(&s, 0), want, "{s:?}");
+        }
+    }
 }

@@ -1,4 +1,5 @@
 //! Rows of encoded words.
+//! Written from document 01, Encoded words, and the requests named below.
 
 use crate::sink::Sink;
 use crate::utf8::char_len;

@@ -17,20 +17,23 @@ use Rattle.line.specs.Line.{blank}
 use Rattle.address.specs.Address.{isAtext, isAtomByte}
 use Rattle.address.specs.AddressLaws.{front-byte}
 use Rattle.address.specs.GrammarLaws.{Closed}
+use Rattle.comment.specs.Parts.{parts, fits as runFits}
+use Rattle.comment.specs.Grammar.{Comment as CommentForm}
+use Rattle.comment.specs.GrammarLaws.{comment-taken}
 use Rattle.rules.specs.Rules.{allowsAlternative}
 use Rattle.rules.specs.declared.Rules.{Rules}
 use Rattle.phrase.specs.Words.{addressLen}
-use Rattle.address_list.specs.Parts.{Part, front, angledAt, namedAt, partAt, partsFrom, partsOf}
-use Rattle.address_list.specs.PartsLaws.{parts-front, parts-end, named-address, named-phrase, angled-there, angled-more, alternative-there}
-use Rattle.address_list.specs.Grammar.{unlessBlank, kindsOf}
+use Rattle.address_list.specs.Parts.{Part, front, angledAt, commentAt, namedAt, partAt, partsFrom, partsOf}
+use Rattle.address_list.specs.PartsLaws.{parts-front, parts-end, named-address, named-phrase, comment-there, angled-there, angled-more, alternative-there}
+use Rattle.address_list.specs.Grammar.{unlessGap, kindsOf}
 use Rattle.address_list.specs.Table.{after, complete, fits, examined}
 use Rattle.address_list.specs.TableLaws.{after-stray, complete-unfit}
 use Rattle.address_list.specs.declared.PartKind.{PartKind}
-use Rattle.address_list.specs.declared.PartKind.the-variants.{Blank, Comma, Colon, Semicolon, Phrase, Address, Angled, Alternative, Stray}
+use Rattle.address_list.specs.declared.PartKind.the-variants.{Blank, Comment, Comma, Colon, Semicolon, Phrase, Address, Angled, Alternative, Stray}
 use Rattle.address_list.specs.declared.State.{State}
 use Rattle.address_list.specs.declared.State.the-variants.{ItemDue}
 use Rattle.address_list.specs.declared.Examined.the-variants.{DoesNotFit}
-use Rattle.address_grammar.specs.PartGrammar.{AddressText, Blanks, SomeBlanks, PhraseText, AngledText, AlternativeText, OneByte, IsPart, EachIsPart, joinedParts, AddressList}
+use Rattle.address_grammar.specs.PartGrammar.{CommentText, AddressText, Blanks, SomeBlanks, PhraseText, AngledText, AlternativeText, OneByte, IsPart, EachIsPart, joinedParts, AddressList}
 use Rattle.address_grammar.specs.PartGrammarLaws.{parts-made, parts-joined}
 use Rattle.address_grammar.specs.GrammarLaws.{false-true, isMark, opensWithMark, markBetween, items-marked, fits-made, made-complete, made-fits, examined-unfit, unfit-examined}
 use Rattle.address_grammar.specs.FoundLaws.{starting, starts, ending, Ended, ended-apart, stops-blanks, apart-closed, run-whole, some-length, phrase-starts, phrase-no-address, phrase-found, phrase-some, address-starts, address-some, address-found}
@@ -53,11 +56,20 @@ after-blank {t} {y} p r = record {
 after-mark : {t : List ℕ} (b : ℕ) (more y : List ℕ) → T (ending b) → t ≡ b ∷ more → Ended (t ++ y)
 after-mark {t} b more y m e = record { gap = []; tail = t ++ y; made = refl; blanks = tt; ends = rw e m }
 
--- the next part that is not blank opens with a mark
-ended-next : (rules : Rules) (k l : PartKind) (t : List ℕ) (ps : List Part) → isMark k ≡ false → T (markBetween (k ∷ unlessBlank l (kindsOf ps))) → IsPart rules l t
+-- a comment starts with `(`
+comment-opens : {t : List ℕ} → CommentForm t → (y : List ℕ) → getD (t ++ y) 0 0 ≡ 40
+comment-opens (CommentForm.comment i) y = refl
+
+after-comment : {t : List ℕ} → CommentText t → (y : List ℕ) → Ended (t ++ y)
+unfolding ending
+after-comment {t} p y = record { gap = []; tail = t ++ y; made = refl; blanks = tt; ends = rw (comment-opens (p .form) y) tt }
+
+-- the next part that is not blank opens with a mark, or is a comment
+ended-next : (rules : Rules) (k l : PartKind) (t : List ℕ) (ps : List Part) → isMark k ≡ false → T (markBetween (k ∷ unlessGap l (kindsOf ps))) → IsPart rules l t
     → (T (markBetween (k ∷ kindsOf ps)) → Ended (joinedParts ps)) → Ended (t ++ joinedParts ps)
-unfolding unlessBlank ending
+unfolding unlessGap ending
 ended-next rules k Blank t ps n m p more = after-blank p (more m)
+ended-next rules k Comment t ps n m p more = after-comment p (joinedParts ps)
 ended-next rules k Comma t ps n m p more = after-mark 44 [] (joinedParts ps) tt p
 ended-next rules k Colon t ps n m p more = after-mark 58 [] (joinedParts ps) tt p
 ended-next rules k Semicolon t ps n m p more = after-mark 59 [] (joinedParts ps) tt p
@@ -77,9 +89,10 @@ marked-more : (k : PartKind) (ks : List PartKind) → T (markBetween (k ∷ ks))
 marked-more k [] m = tt
 marked-more k (l ∷ ks) m = and-yes (isMark k || opensWithMark l) (markBetween (l ∷ ks)) m .1
 
-marked-rest : (k : PartKind) (ks : List PartKind) → T (markBetween (unlessBlank k ks)) → T (markBetween ks)
-unfolding unlessBlank
+marked-rest : (k : PartKind) (ks : List PartKind) → T (markBetween (unlessGap k ks)) → T (markBetween ks)
+unfolding unlessGap
 marked-rest Blank ks m = m
+marked-rest Comment ks m = m
 marked-rest Comma ks m = marked-more Comma ks m
 marked-rest Colon ks m = marked-more Colon ks m
 marked-rest Semicolon ks m = marked-more Semicolon ks m
@@ -107,7 +120,7 @@ mark-found k b p y e = rw p (whole-found k 1 e (omega arith))
 
 named-part : (rules : Rules) (s : List ℕ) → T (starting (getD s 0 0)) → namedAt s ≡ partAt rules s
 unfolding partAt
-named-part rules s t = let n = starts (getD s 0 0) t in rw (n .no-blank, n .no-comma, n .no-colon, n .no-semicolon, n .no-bracket)
+named-part rules s t = let n = starts (getD s 0 0) t in rw (n .no-blank, n .no-comma, n .no-colon, n .no-semicolon, n .no-bracket, n .no-paren)
 
 bare-found : {rules : Rules} {t : List ℕ} → AddressText t → (y : List ℕ) → Ended y → Found rules (t ++ y) Address (length t)
 bare-found {rules} {t} p y r =
@@ -120,6 +133,20 @@ phrase-part {rules} {t} p y r =
     whole-found Phrase (length t)
     (named-phrase (t ++ y) 0 (sym (phrase-no-address p y r)) refl (length t) (sym (phrase-found p y r)) (λ z. not-suc-le-zero {n = 0} (omega (arith, phrase-some p))) ∙ named-part rules (t ++ y) (phrase-starts p y r))
     (phrase-some p)
+
+comment-some : {t : List ℕ} → CommentForm t → 0 < length t
+comment-some (CommentForm.comment i) = omega arith
+
+comment-part : (rules : Rules) (s : List ℕ) → getD s 0 0 ≡ 40 → commentAt s ≡ partAt rules s
+unfolding partAt blank
+comment-part rules s e = rw e
+
+comment-found : {rules : Rules} {t : List ℕ} → CommentText t → (y : List ℕ) → Found rules (t ++ y) Comment (length t)
+comment-found {rules} {t} p y =
+    let runs : all runFits (parts (take (length t) (t ++ y))) ≡ true = rw (take-append-seam t y) (yes-true (all runFits (parts t)) (p .runs)) in
+    whole-found Comment (length t)
+    (comment-there (t ++ y) (length t) (omega (arith, comment-taken (p .form) y)) (λ z. not-suc-le-zero {n = 0} (omega (arith, comment-some (p .form)))) runs ∙ comment-part rules (t ++ y) (comment-opens (p .form) y))
+    (comment-some (p .form))
 
 bracket-part : (rules : Rules) (y : List ℕ) → angledAt rules (60 ∷ y) ≡ partAt rules (60 ∷ y)
 unfolding partAt blank
@@ -236,10 +263,11 @@ alternative-found {rules} {start} {size} {t} p y =
     ∙ angled-more rules s a n qs qn (no-address (p .first-is)) apart (yes-true (allowsAlternative rules) (p .allowed)) ∙ bracket-part rules (gap ++ (first ++ y₁)))
     (omega arith))
 
-part-found : (rules : Rules) (k : PartKind) (t : List ℕ) (state : State) (ps : List Part) → complete (after state k) ps ≡ true → T (markBetween (unlessBlank k (kindsOf ps)))
+part-found : (rules : Rules) (k : PartKind) (t : List ℕ) (state : State) (ps : List Part) → complete (after state k) ps ≡ true → T (markBetween (unlessGap k (kindsOf ps)))
     → IsPart rules k t → EachIsPart rules ps → Found rules (t ++ joinedParts ps) k (length t)
-unfolding unlessBlank partAt blank
+unfolding unlessGap partAt blank
 part-found rules Blank t state ps h m p e = blank-found p (joinedParts ps)
+part-found rules Comment t state ps h m p e = comment-found p (joinedParts ps)
 part-found rules Comma t state ps h m p e = mark-found Comma 44 p (joinedParts ps) refl
 part-found rules Colon t state ps h m p e = mark-found Colon 58 p (joinedParts ps) refl
 part-found rules Semicolon t state ps h m p e = mark-found Semicolon 59 p (joinedParts ps) refl

@@ -39,6 +39,7 @@ pub record Starts (b : ℕ) : Type 0 where
   pub no-colon : eqb b 58 ≡ false
   pub no-semicolon : eqb b 59 ≡ false
   pub no-bracket : eqb b 60 ≡ false
+  pub no-paren : eqb b 40 ≡ false
 
 pub starts : (b : ℕ) → T (starting b) → Starts b
 unfolding starting isWordByte isAtomByte isAtext blank
@@ -49,11 +50,12 @@ starts b t = record {
   no-colon = ne-eqb b 58 (λ e. rw e at t);
   no-semicolon = ne-eqb b 59 (λ e. rw e at t);
   no-bracket = ne-eqb b 60 (λ e. rw e at t);
+  no-paren = ne-eqb b 40 (λ e. rw e at t);
 }
 
--- a byte that ends a mailbox or a phrase, blanks before it left out: the end, or `, : ; <`
+-- a byte that ends a mailbox or a phrase, blanks before it left out: the end, or `, : ; < (`
 unfoldable pub ending : ℕ → Bool
-ending b = eqb b 0 || eqb b 44 || eqb b 58 || eqb b 59 || eqb b 60
+ending b = eqb b 0 || eqb b 44 || eqb b 58 || eqb b 59 || eqb b 60 || eqb b 40
 
 -- what follows a word does not go on with it, and does not make it an address
 pub record Apart (y : List ℕ) : Type 0 where
@@ -70,7 +72,7 @@ stops y t = record { word = by-test (isWordByte b) (λ w. absurd (other w)) (λ 
     other : T (isWordByte b) → ⊥
     other w =
         let s = starts b (rw (yes-true (isWordByte b) w) tt) in
-        rw (s .no-blank, s .no-end, s .no-comma, s .no-colon, s .no-semicolon, s .no-bracket) at t
+        rw (s .no-blank, s .no-end, s .no-comma, s .no-colon, s .no-semicolon, s .no-bracket, s .no-paren) at t
 
 pub stops-blanks : {gap : List ℕ} → SomeBlanks gap → (y : List ℕ) → Apart (gap ++ y)
 stops-blanks {gap} g y = go gap (g .some) (g .blanks)
@@ -191,7 +193,7 @@ word-no-address {w} h y a = rw (no-sign w y a (localScan (w ++ y)) (local-ends (
 
 -- ---- phrases
 
--- what follows a phrase or a bare address: blanks, perhaps none, and then the end or `, : ; <`
+-- what follows a phrase or a bare address: blanks, perhaps none, and then the end or `, : ; < (`
 pub record Ended (rest : List ℕ) : Type 0 where
   pub gap : List ℕ
   pub tail : List ℕ

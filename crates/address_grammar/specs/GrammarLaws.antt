@@ -7,13 +7,13 @@ use native.Mathlib.Omega.{arith}
 use lib.Dec.{T}
 use mir.Facts.{and-yes, yes-and}
 use Rattle.address_list.specs.declared.PartKind.{PartKind}
-use Rattle.address_list.specs.declared.PartKind.the-variants.{Blank, Comma, Colon, Semicolon, Phrase, Address, Angled, Alternative, Stray}
+use Rattle.address_list.specs.declared.PartKind.the-variants.{Blank, Comment, Comma, Colon, Semicolon, Phrase, Address, Angled, Alternative, Stray}
 use Rattle.address_list.specs.declared.State.{State}
 use Rattle.address_list.specs.declared.State.the-variants.{ItemDue, ItemNamed, ItemDone, GroupOpen, MemberDue, MemberNamed, MemberDone, Unfit}
 use Rattle.address_list.specs.declared.Examined.the-variants.{DoesNotFit, Kept, Changed}
 use Rattle.rules.specs.declared.Rules.{Rules}
 use Rattle.address_list.specs.Parts.{Part, partsOf, anyChanges}
-use Rattle.address_list.specs.Grammar.{InAngles, Mailbox, Mailboxes, Item, Items, unlessBlank, kindsOf}
+use Rattle.address_list.specs.Grammar.{InAngles, Mailbox, Mailboxes, Item, Items, unlessGap, kindsOf}
 use Rattle.address_list.specs.Table.{after, isDone, complete, fits, examinedFrom, examined}
 
 pub false-true : {A : Type 0} → false ≡ true → A
@@ -36,9 +36,10 @@ Left MemberNamed ks = (p : List PartKind) → Room p → Items (Phrase ∷ Colon
 Left MemberDone ks = (ms : List PartKind) → Mailboxes ms → Items (Phrase ∷ Colon ∷ (ms ++ ks))
 Left Unfit ks = ⊥
 
-back-item : (k : PartKind) (ks : List PartKind) → Left (after ItemDue k) ks → Left ItemDue (unlessBlank k ks)
-unfolding after unlessBlank Room
+back-item : (k : PartKind) (ks : List PartKind) → Left (after ItemDue k) ks → Left ItemDue (unlessGap k ks)
+unfolding after unlessGap Room
 back-item Blank ks x = x
+back-item Comment ks x = x
 back-item Comma ks x = absurd x
 back-item Colon ks x = absurd x
 back-item Semicolon ks x = absurd x
@@ -48,9 +49,10 @@ back-item (Angled start size) ks x = x _ (Item.mailbox (Mailbox.angled (InAngles
 back-item (Alternative start size) ks x = x _ (Item.mailbox (Mailbox.angled (InAngles.alternative start size)))
 back-item Stray ks x = absurd x
 
-back-named : (k : PartKind) (ks : List PartKind) → Left (after ItemNamed k) ks → Left ItemNamed (unlessBlank k ks)
-unfolding after unlessBlank Room
+back-named : (k : PartKind) (ks : List PartKind) → Left (after ItemNamed k) ks → Left ItemNamed (unlessGap k ks)
+unfolding after unlessGap Room
 back-named Blank ks x = x
+back-named Comment ks x = x
 back-named Comma ks x = absurd x
 back-named Colon ks x = x
 back-named Semicolon ks x = absurd x
@@ -60,9 +62,10 @@ back-named (Angled start size) ks x = x _ (Item.mailbox (Mailbox.named (InAngles
 back-named (Alternative start size) ks x = x _ (Item.mailbox (Mailbox.named (InAngles.alternative start size)))
 back-named Stray ks x = absurd x
 
-back-done : (k : PartKind) (ks : List PartKind) → Left (after ItemDone k) ks → Left ItemDone (unlessBlank k ks)
-unfolding after unlessBlank Room
+back-done : (k : PartKind) (ks : List PartKind) → Left (after ItemDone k) ks → Left ItemDone (unlessGap k ks)
+unfolding after unlessGap Room
 back-done Blank ks x = x
+back-done Comment ks x = x
 back-done Comma ks x = λ i e. Items.then e x
 back-done Colon ks x = absurd x
 back-done Semicolon ks x = absurd x
@@ -72,9 +75,10 @@ back-done (Angled start size) ks x = absurd x
 back-done (Alternative start size) ks x = absurd x
 back-done Stray ks x = absurd x
 
-back-open : (k : PartKind) (ks : List PartKind) → Left (after GroupOpen k) ks → Left GroupOpen (unlessBlank k ks)
-unfolding after unlessBlank Room
+back-open : (k : PartKind) (ks : List PartKind) → Left (after GroupOpen k) ks → Left GroupOpen (unlessGap k ks)
+unfolding after unlessGap Room
 back-open Blank ks x = x
+back-open Comment ks x = x
 back-open Comma ks x = absurd x
 back-open Colon ks x = absurd x
 back-open Semicolon ks x = x _ Item.emptyGroup
@@ -84,9 +88,10 @@ back-open (Angled start size) ks x = x _ (Mailboxes.one (Mailbox.angled (InAngle
 back-open (Alternative start size) ks x = x _ (Mailboxes.one (Mailbox.angled (InAngles.alternative start size)))
 back-open Stray ks x = absurd x
 
-back-member : (k : PartKind) (ks : List PartKind) → Left (after MemberDue k) ks → Left MemberDue (unlessBlank k ks)
-unfolding after unlessBlank Room
+back-member : (k : PartKind) (ks : List PartKind) → Left (after MemberDue k) ks → Left MemberDue (unlessGap k ks)
+unfolding after unlessGap Room
 back-member Blank ks x = x
+back-member Comment ks x = x
 back-member Comma ks x = absurd x
 back-member Colon ks x = absurd x
 back-member Semicolon ks x = absurd x
@@ -96,9 +101,10 @@ back-member (Angled start size) ks x = λ p r. rw (append-assoc p (Angled start 
 back-member (Alternative start size) ks x = λ p r. rw (append-assoc p (Alternative start size ∷ []) ks) at (x _ (r _ (Mailbox.angled (InAngles.alternative start size))))
 back-member Stray ks x = absurd x
 
-back-member-named : (k : PartKind) (ks : List PartKind) → Left (after MemberNamed k) ks → Left MemberNamed (unlessBlank k ks)
-unfolding after unlessBlank Room
+back-member-named : (k : PartKind) (ks : List PartKind) → Left (after MemberNamed k) ks → Left MemberNamed (unlessGap k ks)
+unfolding after unlessGap Room
 back-member-named Blank ks x = x
+back-member-named Comment ks x = x
 back-member-named Comma ks x = absurd x
 back-member-named Colon ks x = absurd x
 back-member-named Semicolon ks x = absurd x
@@ -108,9 +114,10 @@ back-member-named (Angled start size) ks x = λ p r. rw (append-assoc p (Phrase 
 back-member-named (Alternative start size) ks x = λ p r. rw (append-assoc p (Phrase ∷ Alternative start size ∷ []) ks) at (x _ (r _ (Mailbox.named (InAngles.alternative start size))))
 back-member-named Stray ks x = absurd x
 
-back-member-done : (k : PartKind) (ks : List PartKind) → Left (after MemberDone k) ks → Left MemberDone (unlessBlank k ks)
-unfolding after unlessBlank Room
+back-member-done : (k : PartKind) (ks : List PartKind) → Left (after MemberDone k) ks → Left MemberDone (unlessGap k ks)
+unfolding after unlessGap Room
 back-member-done Blank ks x = x
+back-member-done Comment ks x = x
 back-member-done Comma ks x = λ ms a. rw (append-assoc ms (Comma ∷ []) ks) at (x (ms ++ (Comma ∷ [])) (λ m b. rw (append-assoc ms (Comma ∷ []) m) (Mailboxes.then a b)))
 back-member-done Colon ks x = absurd x
 back-member-done Semicolon ks x = λ ms a. rw (append-assoc ms (Semicolon ∷ []) ks) at (x _ (Item.group a))
@@ -120,7 +127,7 @@ back-member-done (Angled start size) ks x = absurd x
 back-member-done (Alternative start size) ks x = absurd x
 back-member-done Stray ks x = absurd x
 
-back : (state : State) (k : PartKind) (ks : List PartKind) → Left (after state k) ks → Left state (unlessBlank k ks)
+back : (state : State) (k : PartKind) (ks : List PartKind) → Left (after state k) ks → Left state (unlessGap k ks)
 unfolding after
 back ItemDue k ks x = back-item k ks x
 back ItemNamed k ks x = back-named k ks x
@@ -158,33 +165,34 @@ leads : State → List PartKind → Bool
 leads state [] = isDone state
 leads state (k ∷ ks) = leads (after state k) ks
 
-blank-stays : (state : State) → after state Blank ≡ state
+gap-stays : (state : State) → (after state Blank ≡ state) × (after state Comment ≡ state)
 unfolding after
-blank-stays ItemDue = refl
-blank-stays ItemNamed = refl
-blank-stays ItemDone = refl
-blank-stays GroupOpen = refl
-blank-stays MemberDue = refl
-blank-stays MemberNamed = refl
-blank-stays MemberDone = refl
-blank-stays Unfit = refl
+gap-stays ItemDue = (refl, refl)
+gap-stays ItemNamed = (refl, refl)
+gap-stays ItemDone = (refl, refl)
+gap-stays GroupOpen = (refl, refl)
+gap-stays MemberDue = (refl, refl)
+gap-stays MemberNamed = (refl, refl)
+gap-stays MemberDone = (refl, refl)
+gap-stays Unfit = (refl, refl)
 
-leads-unless-blank : (state : State) (k : PartKind) (ks : List PartKind) → leads (after state k) ks ≡ leads state (unlessBlank k ks)
-unfolding leads unlessBlank
-leads-unless-blank state Blank ks = rw (blank-stays state)
-leads-unless-blank state Comma ks = refl
-leads-unless-blank state Colon ks = refl
-leads-unless-blank state Semicolon ks = refl
-leads-unless-blank state Phrase ks = refl
-leads-unless-blank state Address ks = refl
-leads-unless-blank state (Angled start size) ks = refl
-leads-unless-blank state (Alternative start size) ks = refl
-leads-unless-blank state Stray ks = refl
+leads-unless-gap : (state : State) (k : PartKind) (ks : List PartKind) → leads (after state k) ks ≡ leads state (unlessGap k ks)
+unfolding leads unlessGap
+leads-unless-gap state Blank ks = rw (gap-stays state .0)
+leads-unless-gap state Comment ks = rw (gap-stays state .1)
+leads-unless-gap state Comma ks = refl
+leads-unless-gap state Colon ks = refl
+leads-unless-gap state Semicolon ks = refl
+leads-unless-gap state Phrase ks = refl
+leads-unless-gap state Address ks = refl
+leads-unless-gap state (Angled start size) ks = refl
+leads-unless-gap state (Alternative start size) ks = refl
+leads-unless-gap state Stray ks = refl
 
 complete-leads : (state : State) (ps : List Part) → complete state ps ≡ leads state (kindsOf ps)
 unfolding complete leads kindsOf
 complete-leads state [] = refl
-complete-leads state (p ∷ ps) = complete-leads (after state (p .kind)) ps ∙ leads-unless-blank state (p .kind) (kindsOf ps)
+complete-leads state (p ∷ ps) = complete-leads (after state (p .kind)) ps ∙ leads-unless-gap state (p .kind) (kindsOf ps)
 
 mailbox-item : {m : List PartKind} → Mailbox m → (r : List PartKind) → leads ItemDue (m ++ r) ≡ leads ItemDone r
 unfolding leads after
@@ -242,6 +250,7 @@ isMark Comma = true
 isMark Colon = true
 isMark Semicolon = true
 isMark Blank = false
+isMark Comment = false
 isMark Phrase = false
 isMark Address = false
 isMark (Angled start size) = false
@@ -255,6 +264,7 @@ opensWithMark Comma = true
 opensWithMark Colon = true
 opensWithMark Semicolon = true
 opensWithMark Blank = false
+opensWithMark Comment = false
 opensWithMark Phrase = false
 opensWithMark Address = false
 opensWithMark Stray = false

@@ -3,14 +3,17 @@ use mathlib.Core.Path.{_≡_, refl}
 use mathlib.Core.List.{List, [], _∷_, _++_}
 use Prim.Native.Nat.{ℕ}
 use lib.ListN.{replicate}
+use Rattle.lists.specs.CutBy.{cutAfter, cutBy}
 use Rattle.lists.specs.Run.{run}
 use Rattle.letter_case.specs.LetterCase.{bytes}
 use Rattle.line.specs.Line.{blank}
 use Rattle.address.specs.Address.{later, byteThen, scanThen, isAtext, isAtomByte, isQuotedByte, isLiteralByte, dotAtomFrom, dotAtomScan, quotedFrom, quotedScan, literalFrom, literalScan, domainScan, localScan, addressScan}
+use Rattle.comment.specs.Comment.{past, depthAfter, closing, commentLen, runTo, runLen}
+use Rattle.comment.specs.Parts.{partLen, parts, isBlankRun, fits}
 use Rattle.rules.specs.declared.Rules.{Rules}
 use Rattle.rules.specs.declared.Rules.the-variants.{Spool, Current, Mailbox}
 use Rattle.phrase.specs.Words.{capped, isWordByte, addressLen, wordLen, nextWordLen, nextWordsLen, phraseLen}
-use Rattle.address_list.specs.Parts.{alternativeAt, angledAt, namedAt, partAt, partsFrom, partsOf, changes, anyChanges}
+use Rattle.address_list.specs.Parts.{alternativeAt, angledAt, commentAt, namedAt, partAt, partsFrom, partsOf, changes, anyChanges}
 use Rattle.address_list.specs.Table.{after, complete, examinedFrom, examined}
 use Rattle.address_list.specs.declared.Examined.{Examined}
 use Rattle.address_list.specs.declared.Examined.the-variants.{DoesNotFit, Kept, Changed}
@@ -100,7 +103,46 @@ cases =
     -- a word of dots
     ∷ Case.told (bytes "... <a@b>") Kept
     ∷ Case.told (bytes "a. .b <c@d>") Kept
-    ∷ Case.told (bytes "(a) <a@b>") DoesNotFit
+    -- where a comment may stand
+    ∷ Case.told (bytes "(a) <a@b>") Kept
+    ∷ Case.told (bytes "A (" ++ (é ++ bytes ") <a@b>")) Kept
+    ∷ Case.told (bytes "G (" ++ (é ++ bytes "): a@b;")) Kept
+    ∷ Case.told (bytes "a@b (" ++ (é ++ bytes ")")) Kept
+    ∷ Case.told (bytes "(" ++ (é ++ bytes ") a@b")) Kept
+    ∷ Case.told (bytes "a@b(" ++ (é ++ bytes ")")) Kept
+    ∷ Case.told (é ++ bytes "(c)<a@b>") Kept
+    ∷ Case.told (bytes "(a)(b) c@d") Kept
+    ∷ Case.told (bytes "G(c):(c)A(c)<a@b>(c),(c)c@d(c);(c),(c)e@f(c)") Kept
+    ∷ Case.told (bytes "G:(" ++ (é ++ bytes ");")) Kept
+    ∷ Case.told (bytes "(c) " ++ (é ++ bytes "@b")) Changed
+    -- where none may stand
+    ∷ Case.told (bytes "a (c) b <x@y>") DoesNotFit
+    ∷ Case.told (bytes "a(c)b <x@y>") DoesNotFit
+    ∷ Case.told (bytes "<(c)a@b>") DoesNotFit
+    ∷ Case.told (bytes "<a@b(c)>") DoesNotFit
+    ∷ Case.told (bytes "<" ++ (é ++ bytes "@b (c) <a@b>>")) DoesNotFit
+    ∷ Case.told (bytes "<" ++ (é ++ bytes "@b <(c)a@b>>")) DoesNotFit
+    ∷ Case.told (bytes "a(c)@b") DoesNotFit
+    ∷ Case.told (bytes "a@(c)b") DoesNotFit
+    ∷ Case.told (bytes "a@b.(c)d") DoesNotFit
+    -- it is no element of the list
+    ∷ Case.told (bytes "(" ++ (é ++ bytes ")")) DoesNotFit
+    ∷ Case.told (bytes "(c)," ++ (é ++ bytes "@x")) DoesNotFit
+    ∷ Case.told (bytes "G:(c),a@b;") DoesNotFit
+    -- closed or not
+    ∷ Case.told (bytes "(a (b) (c (d))) a@b") Kept
+    ∷ Case.told (bytes "() a@b") Kept
+    ∷ Case.told (bytes "a@b (a (b)") DoesNotFit
+    ∷ Case.told (bytes "a@b (a))") DoesNotFit
+    ∷ Case.told (bytes "(\") a@b") Kept
+    ∷ Case.told (bytes "(\\)) a@b") Kept
+    ∷ Case.told (bytes "(\\) a@b") DoesNotFit
+    ∷ Case.told (bytes "(\\\\) a@b") Kept
+    ∷ Case.told (bytes "\"(\" <a@b>") Kept
+    -- runs of 900 and 901 bytes
+    ∷ Case.told (bytes "(" ++ (replicate 900 97 ++ bytes ") a@b")) Kept
+    ∷ Case.told (bytes "(" ++ (replicate 901 97 ++ bytes ") a@b")) DoesNotFit
+    ∷ Case.told (bytes "(" ++ (replicate 901 32 ++ bytes ") a@b")) Kept
     -- words and addresses of 900 and 901 bytes
     ∷ Case.told (replicate 900 97 ++ bytes " <a@b>") Kept
     ∷ Case.told (replicate 901 97 ++ bytes " <a@b>") DoesNotFit
@@ -109,5 +151,5 @@ cases =
     ∷ []
 
 pub cases-right : AllRight cases
-unfolding bytes later byteThen scanThen isAtext isAtomByte isQuotedByte isLiteralByte dotAtomFrom dotAtomScan quotedFrom quotedScan literalFrom literalScan domainScan localScan addressScan run blank capped isWordByte addressLen wordLen nextWordLen nextWordsLen phraseLen alternativeAt angledAt namedAt partAt partsFrom partsOf changes anyChanges after complete examinedFrom examined
-cases-right = (refl, (refl, (refl, (refl, (refl, (refl, (refl, (refl, (refl, (refl, (refl, (refl, (refl, (refl, (refl, (refl, (refl, (refl, (refl, (refl, (refl, (refl, (refl, (refl, (refl, (refl, (refl, (refl, (refl, (refl, (refl, (refl, (refl, (refl, (refl, (refl, (refl, (refl, (refl, (refl, (refl, (refl, (refl, (refl, (refl, (refl, (refl, (refl, (refl, (refl, (refl, (refl, (refl, (refl, (refl, (refl, (refl, (refl, (refl, (refl, tt))))))))))))))))))))))))))))))))))))))))))))))))))))))))))))
+unfolding bytes later byteThen scanThen isAtext isAtomByte isQuotedByte isLiteralByte dotAtomFrom dotAtomScan quotedFrom quotedScan literalFrom literalScan domainScan localScan addressScan run blank capped isWordByte addressLen wordLen nextWordLen nextWordsLen phraseLen cutAfter cutBy past depthAfter closing commentLen runTo runLen partLen parts isBlankRun fits alternativeAt angledAt commentAt namedAt partAt partsFrom partsOf changes anyChanges after complete examinedFrom examined
+cases-right = (refl, (refl, (refl, (refl, (refl, (refl, (refl, (refl, (refl, (refl, (refl, (refl, (refl, (refl, (refl, (refl, (refl, (refl, (refl, (refl, (refl, (refl, (refl, (refl, (refl, (refl, (refl, (refl, (refl, (refl, (refl, (refl, (refl, (refl, (refl, (refl, (refl, (refl, (refl, (refl, (refl, (refl, (refl, (refl, (refl, (refl, (refl, (refl, (refl, (refl, (refl, (refl, (refl, (refl, (refl, (refl, (refl, (refl, (refl, (refl, (refl, (refl, (refl, (refl, (refl, (refl, (refl, (refl, (refl, (refl, (refl, (refl, (refl, (refl, (refl, (refl, (refl, (refl, (refl, (refl, (refl, (refl, (refl, (refl, (refl, (refl, (refl, (refl, (refl, (refl, (refl, (refl, (refl, (refl, tt))))))))))))))))))))))))))))))))))))))))))))))))))))))))))))))))))))))))))))))))))))))))))))))

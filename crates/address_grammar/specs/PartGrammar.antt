@@ -10,13 +10,15 @@ use Rattle.lists.specs.Lists.{all, nonempty}
 use Rattle.lists.specs.Byte.{isAscii}
 use Rattle.line.specs.Line.{blank}
 use Rattle.address.specs.Grammar.{QuotedString, Address as AddressForm}
+use Rattle.comment.specs.Grammar.{Comment as CommentForm}
+use Rattle.comment.specs.Parts.{parts, fits}
 use Rattle.rules.specs.Rules.{allowsAlternative}
 use Rattle.rules.specs.declared.Rules.{Rules}
 use Rattle.phrase.specs.Words.{isWordByte}
 use Rattle.address_list.specs.Parts.{Part}
 use Rattle.address_list.specs.Grammar.{Items, kindsOf}
 use Rattle.address_list.specs.declared.PartKind.{PartKind}
-use Rattle.address_list.specs.declared.PartKind.the-variants.{Blank, Comma, Colon, Semicolon, Phrase, Address, Angled, Alternative, Stray}
+use Rattle.address_list.specs.declared.PartKind.the-variants.{Blank, Comment, Comma, Colon, Semicolon, Phrase, Address, Angled, Alternative, Stray}
 
 -- "a word is a quoted string or a run of atext, dots and non-ASCII characters"
 pub data WordForm : List ℕ → Type 0 where
@@ -76,6 +78,11 @@ pub record AlternativeText (rules : Rules) (start size : ℕ) (text : List ℕ) 
   pub start-is : start ≡ 1 + length gap + length first + length between + 1 + length gap₂
   pub size-is : size ≡ length alternative
 
+-- a comment, in which "a run .. over 900 bytes" is one "of spaces and TABs only"
+pub record CommentText (text : List ℕ) : Type 0 where
+  pub form : CommentForm text
+  pub runs : T (all fits (parts text))
+
 -- a text of one byte that passes a test
 pub record OneByte (f : ℕ → Type 0) (text : List ℕ) : Type 0 where
   pub byte : ℕ
@@ -85,6 +92,7 @@ pub record OneByte (f : ℕ → Type 0) (text : List ℕ) : Type 0 where
 -- what the bytes of a part of each kind are: `,` is 44, `:` is 58, `;` is 59; of a stray byte nothing is said
 abbrev pub IsPart : Rules → PartKind → List ℕ → Type 0
 IsPart rules Blank text = OneByte (λ b. T (blank b)) text
+IsPart rules Comment text = CommentText text
 IsPart rules Comma text = text ≡ 44 ∷ []
 IsPart rules Colon text = text ≡ 58 ∷ []
 IsPart rules Semicolon text = text ≡ 59 ∷ []

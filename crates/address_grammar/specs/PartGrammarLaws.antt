@@ -20,6 +20,7 @@ use Rattle.address.specs.declared.Scan.the-variants.{To, Stop}
 use Rattle.address.specs.Address.{quotedScan, addressScan}
 use Rattle.address.specs.AddressLaws.{byte-within}
 use Rattle.address.specs.GrammarLaws.{quoted-string-sound, address-sound}
+use Rattle.comment.specs.GrammarLaws.{taken-comment}
 use Rattle.rules.specs.Rules.{allowsAlternative}
 use Rattle.rules.specs.declared.Rules.{Rules}
 use Rattle.phrase.specs.Words.{found, capped, isWordByte, addressLen, wordLen, nextWordLen, nextWordsLen, phraseLen}
@@ -277,6 +278,7 @@ part-made rules s h = part-has (Made rules s) rules s (record {
   semicolon = λ e. record { some = omega arith; is = mark 59 e };
   angled = λ start size o close. angled-made rules s start size o close;
   alternative = λ a n inner start size allowed o e. alternative-made rules s a n o inner start size e allowed;
+  comment = λ some runs. record { some = some; is = record { form = taken-comment s some; runs = runs } };
   address = λ some. record { some = some; is = address-made s some };
   phrase = λ some. record { some = some; is = phrase-made s some };
 })

@@ -1,11 +1,11 @@
--- "The text must be a comma list of mailboxes or groups": the grammar, as rules that make rows of parts. Blanks between parts are
--- left out first. Crate address_grammar says what the bytes of each part are, and proves that a text fits exactly if it is such a
+-- "The text must be a comma list of mailboxes or groups": the grammar, as rules that make rows of parts. Blanks and comments
+-- between parts are left out first. Crate address_grammar says what the bytes of each part are, and proves that a text fits exactly if it is such a
 -- row. Assumes nothing.
 use mathlib.Core.List.{List, [], _∷_, _++_}
 use Prim.Native.Nat.{ℕ}
 use Rattle.address_list.specs.Parts.{Part}
 use Rattle.address_list.specs.declared.PartKind.{PartKind}
-use Rattle.address_list.specs.declared.PartKind.the-variants.{Blank, Comma, Colon, Semicolon, Phrase, Address, Angled, Alternative, Stray}
+use Rattle.address_list.specs.declared.PartKind.the-variants.{Blank, Comment, Comma, Colon, Semicolon, Phrase, Address, Angled, Alternative, Stray}
 
 -- "`<address>`, or with an alternative `<address <ASCII address>>`"
 pub data InAngles : PartKind → Type 0 where
@@ -35,19 +35,21 @@ pub data Items : List PartKind → Type 0 where
   then : {i is : List PartKind} → Item i → Items is → Items (i ++ (Comma ∷ is))
 
 -- "runs of spaces and TABs allowed around `, : ; <` and at the end": such a mark stands between any two parts of a list
--- (items-marked in address_grammar), so blanks may stand between any two. A field's text starts with none.
-unfoldable pub unlessBlank : PartKind → List PartKind → List PartKind
-unlessBlank Blank ks = ks
-unlessBlank Comma ks = Comma ∷ ks
-unlessBlank Colon ks = Colon ∷ ks
-unlessBlank Semicolon ks = Semicolon ∷ ks
-unlessBlank Phrase ks = Phrase ∷ ks
-unlessBlank Address ks = Address ∷ ks
-unlessBlank (Angled start size) ks = Angled start size ∷ ks
-unlessBlank (Alternative start size) ks = Alternative start size ∷ ks
-unlessBlank Stray ks = Stray ∷ ks
+-- (items-marked in address_grammar), so blanks may stand between any two. Comments may stand "at the start of an address list and
+-- wherever spaces may stand in it outside `< >` and phrases", "spaces or TABs about them". A field's text starts with no blank.
+unfoldable pub unlessGap : PartKind → List PartKind → List PartKind
+unlessGap Blank ks = ks
+unlessGap Comment ks = ks
+unlessGap Comma ks = Comma ∷ ks
+unlessGap Colon ks = Colon ∷ ks
+unlessGap Semicolon ks = Semicolon ∷ ks
+unlessGap Phrase ks = Phrase ∷ ks
+unlessGap Address ks = Address ∷ ks
+unlessGap (Angled start size) ks = Angled start size ∷ ks
+unlessGap (Alternative start size) ks = Alternative start size ∷ ks
+unlessGap Stray ks = Stray ∷ ks
 
--- the kinds of the parts that are not blank
+-- the kinds of the parts that are neither blanks nor comments
 unfoldable pub kindsOf : List Part → List PartKind
 kindsOf [] = []
-kindsOf (p ∷ ps) = unlessBlank (p .kind) (kindsOf ps)
+kindsOf (p ∷ ps) = unlessGap (p .kind) (kindsOf ps)

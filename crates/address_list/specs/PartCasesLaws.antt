@@ -14,9 +14,11 @@ use Rattle.lists.specs.Run.{run}
 use Rattle.line.specs.Line.{blank}
 use Rattle.rules.specs.Rules.{allowsAlternative}
 use Rattle.rules.specs.declared.Rules.{Rules}
+use Rattle.comment.specs.Comment.{commentLen}
+use Rattle.comment.specs.Parts.{parts, fits}
 use Rattle.phrase.specs.Words.{addressLen, phraseLen}
-use Rattle.address_list.specs.Parts.{front, stray, alternativeAt, angledAt, namedAt, partAt}
-use Rattle.address_list.specs.declared.PartKind.the-variants.{Blank, Comma, Colon, Semicolon, Phrase, Address, Angled, Alternative}
+use Rattle.address_list.specs.Parts.{front, stray, alternativeAt, angledAt, commentAt, namedAt, partAt}
+use Rattle.address_list.specs.declared.PartKind.the-variants.{Blank, Comment, Comma, Colon, Semicolon, Phrase, Address, Angled, Alternative}
 use Rattle.address_list.specs.declared.Front.{Front}
 
 -- `<`, blanks up to start, and an address
@@ -48,6 +50,7 @@ pub record Cases (P : Front → Type 0) (rules : Rules) (s : List ℕ) : Type 0 
   pub semicolon : getD s 0 0 ≡ 59 → P (front Semicolon 1)
   pub angled : (start size : ℕ) → Opened s start size → getD s (start + size) 0 ≡ 62 → P (front (Angled start size) (start + size + 1))
   pub alternative : (a n inner start size : ℕ) → T (allowsAlternative rules) → Opened s a n → Replaced s a (a + n) inner start size → P (front (Alternative start size) (start + size + 2))
+  pub comment : 0 < commentLen s → T (all fits (parts (take (commentLen s) s))) → P (front Comment (commentLen s))
   pub address : 0 < addressLen s → P (front Address (addressLen s))
   pub phrase : 0 < phraseLen s → P (front Phrase (phraseLen s))
 
@@ -103,6 +106,13 @@ module _ (P : Front → Type 0) (rules : Rules) (s : List ℕ) (c : Cases P rule
       (λ u. c .angled start size opened (eqb→eq (getD s end 0) 62 u))
       (λ u. cond-has P (allowsAlternative rules) (alternativeAt s start end) stray (λ v. alternative-has start size v opened) (λ v. c .none)))
 
+  comment-has : P (commentAt s)
+  unfolding commentAt
+  comment-has =
+      let n : ℕ = commentLen s in
+      let fit : Bool = all fits (parts (take n s)) in
+      cond-has P (ltb 0 n && fit) (front Comment n) stray (λ t. let both = and-yes (ltb 0 n) fit t in c .comment (ltb-yes (both .0)) (both .1)) (λ t. c .none)
+
   named-has : P (namedAt s)
   unfolding namedAt
   named-has =
@@ -118,4 +128,5 @@ module _ (P : Front → Type 0) (rules : Rules) (s : List ℕ) (c : Cases P rule
       (λ _. cond-has P (eqb first 44) (front Comma 1) _ (λ t. c .comma (eqb→eq first 44 t))
       (λ _. cond-has P (eqb first 58) (front Colon 1) _ (λ t. c .colon (eqb→eq first 58 t))
       (λ _. cond-has P (eqb first 59) (front Semicolon 1) _ (λ t. c .semicolon (eqb→eq first 59 t))
-      (λ _. cond-has P (eqb first 60) (angledAt rules s) (namedAt s) (λ t. angled-has (eqb→eq first 60 t)) (λ _. named-has)))))
+      (λ _. cond-has P (eqb first 60) (angledAt rules s) _ (λ t. angled-has (eqb→eq first 60 t))
+      (λ _. cond-has P (eqb first 40) (commentAt s) (namedAt s) (λ _. comment-has) (λ _. named-has))))))

@@ -11,9 +11,11 @@ use Rattle.lists.specs.Run.{run}
 use Rattle.line.specs.Line.{blank}
 use Rattle.rules.specs.Rules.{allowsAlternative}
 use Rattle.rules.specs.declared.Rules.{Rules}
+use Rattle.comment.specs.Comment.{commentLen}
+use Rattle.comment.specs.Parts.{parts, fits}
 use Rattle.phrase.specs.Words.{addressLen, phraseLen}
 use Rattle.address_list.specs.declared.PartKind.{PartKind}
-use Rattle.address_list.specs.declared.PartKind.the-variants.{Blank, Comma, Colon, Semicolon, Phrase, Address, Angled, Alternative, Stray}
+use Rattle.address_list.specs.declared.PartKind.the-variants.{Blank, Comment, Comma, Colon, Semicolon, Phrase, Address, Angled, Alternative, Stray}
 use Rattle.address_list.specs.declared.Front.{Front}
 
 -- the part at the front, with its length
@@ -52,7 +54,13 @@ namedAt s =
     let phrase = phraseLen s in
     cond (ltb 0 address) (front Address address) (cond (ltb 0 phrase) (front Phrase phrase) stray)
 
--- the part at the front: `,` is 44, `:` is 58, `;` is 59
+-- "An unclosed parenthesis encapsulates an address field", and so does a run "over 900 bytes": no comment starts there
+unfoldable pub commentAt : List ℕ → Front
+commentAt s =
+    let size = commentLen s in
+    cond (ltb 0 size && all fits (parts (take size s))) (front Comment size) stray
+
+-- the part at the front: `(` is 40, `,` is 44, `:` is 58, `;` is 59
 unfoldable pub partAt : Rules → List ℕ → Front
 partAt rules s =
     let first = getD s 0 0 in
@@ -60,13 +68,15 @@ partAt rules s =
     (cond (eqb first 44) (front Comma 1)
     (cond (eqb first 58) (front Colon 1)
     (cond (eqb first 59) (front Semicolon 1)
-    (cond (eqb first 60) (angledAt rules s) (namedAt s)))))
+    (cond (eqb first 60) (angledAt rules s)
+    (cond (eqb first 40) (commentAt s) (namedAt s))))))
 
 -- ---- what is told of a part that is found
 
 -- where the address that a part names ends in it
 abbrev pub innerEnd : PartKind → ℕ
 innerEnd Blank = 0
+innerEnd Comment = 0
 innerEnd Comma = 0
 innerEnd Colon = 0
 innerEnd Semicolon = 0
@@ -110,6 +120,7 @@ partsOf rules text = partsFrom rules 0 text
 -- "If any address was replaced or removed": an alternative replaces an address, and one that is not ASCII without it is removed
 unfoldable pub changes : PartKind → List ℕ → Bool
 changes Blank t = false
+changes Comment t = false
 changes Comma t = false
 changes Colon t = false
 changes Semicolon t = false

@@ -1,6 +1,6 @@
 -- Laws of the parts of a text, as code finds them by position. Assumes nothing.
 use Rattle.line.specs.LineLaws.{part-rest}
-use mathlib.Core.Path.{_≡_, refl, ap, _∙_}
+use mathlib.Core.Path.{_≡_, refl, ap, sym, _∙_}
 use mathlib.Core.Bool.{true, false, cond, _&&_, not, and-false}
 use mathlib.Core.List.{List, [], _∷_}
 use Prim.Native.Nat.{ℕ, zero, suc, pred, _+_, _-_, _≤_, _<_, zero-le}
@@ -9,18 +9,21 @@ use native.Mathlib.Omega.{arith}
 use lib.Dec.{ltb, eqb}
 use borrow.Author.Tests.{lt-ltb, le-ltb, eq-eqb, ne-eqb}
 use lib.ListN.{length, take, drop, getD, drop-of-length-le, length-drop}
-use lib.Seq.{drop-drop}
+use lib.Seq.{drop-drop, length-take-le}
 use Rattle.lists.specs.Byte.{isAscii}
 use Rattle.lists.specs.Lists.{all}
 use Rattle.lists.specs.Run.{run}
 use Rattle.line.specs.Line.{blank}
 use Rattle.address.specs.Address.{addressScan, scanThen, localScan, dotAtomScan, dotAtomFrom}
+use Rattle.comment.specs.Comment.{commentLen}
+use Rattle.comment.specs.Parts.{parts, fits}
+use Rattle.comment.specs.CommentLaws.{comment-within}
 use Rattle.phrase.specs.Words.{capped, addressLen, wordLen, phraseLen}
 use Rattle.rules.specs.Rules.{allowsAlternative}
 use Rattle.rules.specs.declared.Rules.{Rules}
-use Rattle.address_list.specs.Parts.{front, stray, alternativeAt, angledAt, namedAt, partAt, innerEnd, Took, TookFrom, Part, partsFrom, changes}
+use Rattle.address_list.specs.Parts.{front, stray, alternativeAt, angledAt, commentAt, namedAt, partAt, innerEnd, Took, TookFrom, Part, partsFrom, changes}
 use Rattle.address_list.specs.declared.PartKind.{PartKind}
-use Rattle.address_list.specs.declared.PartKind.the-variants.{Blank, Comma, Colon, Semicolon, Phrase, Address, Angled, Alternative}
+use Rattle.address_list.specs.declared.PartKind.the-variants.{Blank, Comment, Comma, Colon, Semicolon, Phrase, Address, Angled, Alternative}
 use Rattle.address_list.specs.declared.Front.{Front}
 
 pub took-from : {rules : Rules} {s : List ℕ} {at : ℕ} {r : Front} → at < length s → Took (partAt rules (take (length s - at) (drop at s))) (take (length s - at) (drop at s)) r → TookFrom rules s at r
@@ -100,6 +103,27 @@ module _ (rules : Rules) (s : List ℕ) (start size : ℕ) (qs : start ≡ 1 + r
     unfolding angledAt
     angled-refused a = rw (← qs, ← qz, ne-eqb _ _ p, ne-eqb _ _ h, a)
 
+-- ---- a comment
+
+module _ (s : List ℕ) (n : ℕ) (q : n ≡ 0 + commentLen (drop 0 s)) where
+  size-is : n ≡ commentLen s
+  size-is = omega arith
+
+  pub comment-length : n ≡ length (take n s)
+  comment-length = sym (length-take-le n s (omega (arith, size-is, comment-within s)))
+
+  pub comment-none : n ≡ 0 → stray ≡ commentAt s
+  unfolding commentAt
+  comment-none z = rw (← size-is, z)
+
+  pub comment-long : all fits (parts (take n s)) ≡ false → stray ≡ commentAt s
+  unfolding commentAt
+  comment-long h = rw (← size-is, h) (simp and-false)
+
+  pub comment-there : (n ≡ 0 → ⊥) → all fits (parts (take n s)) ≡ true → front Comment n ≡ commentAt s
+  unfolding commentAt
+  comment-there p h = rw (← size-is, lt-ltb 0 n (omega arith), h)
+
 -- ---- a bare address, or a phrase
 
 module _ (s : List ℕ) (a : ℕ) (q : a ≡ addressLen (drop 0 s)) where
@@ -152,9 +176,14 @@ module _ (rules : Rules) (t : List ℕ) where
           unfolding partAt
           part-angled h = rw (n0, ne-eqb _ _ n1, ne-eqb _ _ n2, ne-eqb _ _ n3, eq-eqb _ _ h)
 
-          pub part-named : (getD t 0 0 ≡ 60 → ⊥) → namedAt t ≡ partAt rules t
-          unfolding partAt
-          part-named h = rw (n0, ne-eqb _ _ n1, ne-eqb _ _ n2, ne-eqb _ _ n3, ne-eqb _ _ h)
+          module _ (n4 : getD t 0 0 ≡ 60 → ⊥) where
+            pub part-comment : getD t 0 0 ≡ 40 → commentAt t ≡ partAt rules t
+            unfolding partAt
+            part-comment h = rw (n0, ne-eqb _ _ n1, ne-eqb _ _ n2, ne-eqb _ _ n3, ne-eqb _ _ n4, eq-eqb _ _ h)
+
+            pub part-named : (getD t 0 0 ≡ 40 → ⊥) → namedAt t ≡ partAt rules t
+            unfolding partAt
+            part-named h = rw (n0, ne-eqb _ _ n1, ne-eqb _ _ n2, ne-eqb _ _ n3, ne-eqb _ _ n4, ne-eqb _ _ h)
 
 -- ---- the parts of a text
 

@@ -6,15 +6,17 @@ use Prim.Native.Nat.{ℕ}
 use Rattle.rules.specs.declared.Rules.{Rules}
 use Rattle.address_list.specs.Parts.{Part, partsOf, anyChanges}
 use Rattle.address_list.specs.declared.PartKind.{PartKind}
-use Rattle.address_list.specs.declared.PartKind.the-variants.{Blank, Comma, Colon, Semicolon, Phrase, Address, Angled, Alternative, Stray}
+use Rattle.address_list.specs.declared.PartKind.the-variants.{Blank, Comment, Comma, Colon, Semicolon, Phrase, Address, Angled, Alternative, Stray}
 use Rattle.address_list.specs.declared.State.{State}
 use Rattle.address_list.specs.declared.State.the-variants.{ItemDue, ItemNamed, ItemDone, GroupOpen, MemberDue, MemberNamed, MemberDone, Unfit}
 use Rattle.address_list.specs.declared.Examined.{Examined}
 use Rattle.address_list.specs.declared.Examined.the-variants.{DoesNotFit, Kept, Changed}
 
--- a row of the table: where a phrase, a bare address, `< >`, a comma, a colon and a semicolon lead from `here`; a blank stays
+-- a row of the table: where a phrase, a bare address, `< >`, a comma, a colon and a semicolon lead from `here`; a blank or a
+-- comment stays
 abbrev pub lead : PartKind → State → State → State → State → State → State → State → State
 lead Blank here phrase address angled comma colon semicolon = here
+lead Comment here phrase address angled comma colon semicolon = here
 lead Phrase here phrase address angled comma colon semicolon = phrase
 lead Address here phrase address angled comma colon semicolon = address
 lead (Angled start size) here phrase address angled comma colon semicolon = angled

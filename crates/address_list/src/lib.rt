@@ -8,6 +8,7 @@ pub use part::part_from;
 // A part of an address field's text.
 pub enum PartKind {
     Blank,
+    Comment,
     Comma,
     Colon,
     Semicolon,

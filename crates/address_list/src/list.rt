@@ -27,6 +27,7 @@ fn lead(
 {
     match kind {
         PartKind::Blank => here,
+        PartKind::Comment => here,
         PartKind::Phrase => phrase,
         PartKind::Address => address,
         PartKind::Angled(_, _) => angled,
@@ -99,6 +100,7 @@ fn changes(t: &[u8], kind: PartKind) -> bool
 {
     match kind {
         PartKind::Blank => false,
+        PartKind::Comment => false,
         PartKind::Comma => false,
         PartKind::Colon => false,
         PartKind::Semicolon => false,

@@ -2,9 +2,11 @@
 ghost use mathlib.Core.Path.{_≡_};
 ghost use Prim.Native.Nat.{_+_, _≤_, _<_};
 ghost use lib.ListN.{length};
-ghost use Rattle.address_list.specs.Parts.{alternativeAt, angledAt, namedAt, partAt, stray, Took, TookFrom};
+ghost use Rattle.address_list.specs.Parts.{alternativeAt, angledAt, commentAt, namedAt, partAt, stray, Took, TookFrom};
 use crate::Front;
 use crate::PartKind;
+use comment::comment_end;
+use comment::parts_fit;
 use line::blanks_end;
 use line::byte_at;
 use phrase::address_len;
@@ -79,6 +81,24 @@ fn angled(t: &[u8], rules: Rules) -> Front
     alternative(t, start, end)
 }
 
+// The comment at the front, where it is closed and no run of it is too long.
+fn commented(t: &[u8]) -> Front
+    requires { ⌜ 0 < length (now t) ⌝ }
+    ensures { λ r. ⌜ Took (commentAt (now (t .entry))) (now (t .entry)) r ⌝ }
+{
+    let size = comment_end(t, 0);
+    if size == 0 {
+        return stray();
+    }
+    if !parts_fit(&t[..size]) {
+        return stray();
+    }
+    Front {
+        kind: PartKind::Comment,
+        size: size,
+    }
+}
+
 // A bare address at the front, or else a phrase.
 fn named(t: &[u8]) -> Front
     requires { ⌜ 0 < length (now t) ⌝ }
@@ -130,6 +150,9 @@ fn part_at(t: &[u8], rules: Rules) -> Front
     }
     if first == b'<' {
         return angled(t, rules);
+    }
+    if first == b'(' {
+        return commented(t);
     }
     named(t)
 }

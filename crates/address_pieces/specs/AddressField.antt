@@ -1,10 +1,9 @@
 -- What an address field becomes. Assumes nothing.
-use mathlib.Core.Bool.{true, cond, _&&_}
+use mathlib.Core.Bool.{true}
 use mathlib.Core.List.{List, [], _∷_, _++_}
-use Prim.Native.Nat.{ℕ, _*_}
-use lib.Dec.{leb}
-use lib.ListN.{length}
+use Prim.Native.Nat.{ℕ}
 use Rattle.rules.specs.declared.Rules.{Rules}
+use Rattle.piece.specs.Piece.{fitting as fittingScratch}
 use Rattle.encoded_word.specs.Segments.{Segment}
 use Rattle.encoded_word.specs.Segments.Segment.{raw}
 use Rattle.field.specs.Field.{encodedField}
@@ -29,6 +28,6 @@ fieldBy Changed rules name text = rewrittenField rules name text ++ encodedField
 unfoldable pub addressField : Rules → List ℕ → List ℕ → List Segment
 addressField rules name text = fieldBy (examined rules text) rules name text
 
--- a text that a scratch with so much room cannot serve counts as empty: one of more than 32,768 bytes, or of more than half the room
-unfoldable pub fitting : ℕ → List ℕ → List ℕ
-fitting room text = cond (leb (length text) 32768 && leb (2 * length text) room) text []
+-- a text that a scratch with so much room cannot serve counts as empty
+abbrev pub fitting : ℕ → List ℕ → List ℕ
+fitting room text = fittingScratch room text

@@ -29,6 +29,8 @@ use Rattle.address.specs.TakenLaws.{Taken, taken-address}
 use Rattle.phrase.specs.Words.{found, capped, addressLen, phraseLen}
 use Rattle.phrase.specs.Phrase.{wordSize, wordsFrom, phraseWords, phraseText}
 use Rattle.phrase.specs.PhraseLaws.{word-size-some, length-phrase-text}
+use Rattle.comment.specs.Comment.{commentLen}
+use Rattle.piece.specs.CommentPiecesLaws.{comment-le}
 use Rattle.address_list.specs.Parts.{partAt, partsFrom, partsOf}
 use Rattle.address_list.specs.PartCasesLaws.{part-has}
 use Rattle.address_list.specs.declared.Front.{Front}
@@ -36,9 +38,10 @@ use Rattle.address_list.specs.Table.{examined}
 use Rattle.address_list.specs.declared.Examined.{Examined}
 use Rattle.address_list.specs.declared.Examined.the-variants.{DoesNotFit, Kept, Changed}
 use Rattle.address_list.specs.declared.PartKind.{PartKind}
-use Rattle.address_list.specs.declared.PartKind.the-variants.{Blank, Comma, Colon, Semicolon, Phrase, Address, Angled, Alternative, Stray}
-use Rattle.address_pieces.specs.Pieces.{piece, phrasePieces, removed, inAngles, addressPieces, pieces, piecesOf}
-use Rattle.address_pieces.specs.PiecesLaws.{rendered-one}
+use Rattle.address_list.specs.declared.PartKind.the-variants.{Blank, Comment, Comma, Colon, Semicolon, Phrase, Address, Angled, Alternative, Stray}
+use Rattle.piece.specs.Piece.{piece}
+use Rattle.address_pieces.specs.Pieces.{phrasePieces, removed, inAngles, addressPieces, pieces, piecesOf}
+use Rattle.piece.specs.PieceLaws.{rendered-one}
 use Rattle.address_pieces.specs.AddressField.{rewrittenField, fieldBy, addressField}
 
 either-le : (b : Bool) (x y : List Segment) (n : ℕ) → length (rendered x) ≤ n → length (rendered y) ≤ n → length (rendered (cond b x y)) ≤ n
@@ -92,6 +95,7 @@ part-le start size t = omega (arith, length-take size (drop start t), length-dro
 -- how many bytes a part has at least: a bare address 3, one in `< >` 5, any other part 1
 abbrev least : PartKind → ℕ
 least Blank = 1
+least Comment = 1
 least Comma = 1
 least Colon = 1
 least Semicolon = 1
@@ -105,6 +109,7 @@ least Stray = 1
 pieces-le : (rules : Rules) (kind : PartKind) (t : List ℕ) → least kind ≤ length t → length (rendered (pieces rules kind t)) ≤ 25 * length t
 unfolding pieces rendered
 pieces-le rules Blank t h = zero-le
+pieces-le rules Comment t h = omega (arith, comment-le t)
 pieces-le rules Comma t h = omega arith
 pieces-le rules Colon t h = omega arith
 pieces-le rules Semicolon t h = omega arith
@@ -152,6 +157,7 @@ part-enough rules s h = part-has (Enough s) rules s (record {
       let inside : start + size < length s = byte-within s (start + size) 61 close in
       record { some = omega arith; bytes = front-length (start + size + 1) 5 s (omega (arith, o .start-is)) (omega (arith, o .start-is)) };
   alternative = λ a n inner start size allowed o r. record { some = omega arith; bytes = front-length (start + size + 2) 1 s (omega arith) h };
+  comment = λ some runs. record { some = some; bytes = front-length (commentLen s) 1 s some h };
   address = λ some. let a = address-least s some in record { some = some; bytes = front-length (addressLen s) 3 s (a .0) (omega (arith, a .0, a .1)) };
   phrase = λ some. record { some = some; bytes = front-length (phraseLen s) 1 s some h };
 })

@@ -11,13 +11,11 @@ use Rattle.rules.specs.declared.Rules.{Rules}
 use Rattle.encoded_word.specs.Segments.{Segment}
 use Rattle.encoded_word.specs.Segments.Segment.{raw, words}
 use Rattle.phrase.specs.Phrase.{phraseWords, phraseText}
+use Rattle.piece.specs.Piece.{piece}
+use Rattle.piece.specs.CommentPieces.{commentPieces}
 use Rattle.address_list.specs.Parts.{Part}
 use Rattle.address_list.specs.declared.PartKind.{PartKind}
-use Rattle.address_list.specs.declared.PartKind.the-variants.{Blank, Comma, Colon, Semicolon, Phrase, Address, Angled, Alternative, Stray}
-
--- "CRLF, space, piece"
-abbrev pub piece : List ℕ → Segment
-piece text = raw (13 ∷ 10 ∷ 32 ∷ text)
+use Rattle.address_list.specs.declared.PartKind.the-variants.{Blank, Comment, Comma, Colon, Semicolon, Phrase, Address, Angled, Alternative, Stray}
 
 -- ---- a phrase
 
@@ -46,6 +44,7 @@ addressPieces rules asPiece address = cond (all isAscii address) (asPiece addres
 -- it." Blanks are not written; a text that fits has no stray byte.
 unfoldable pub pieces : Rules → PartKind → List ℕ → List Segment
 pieces rules Blank t = []
+pieces rules Comment t = commentPieces t
 pieces rules Comma t = raw (44 ∷ []) ∷ []
 pieces rules Colon t = piece (58 ∷ []) ∷ []
 pieces rules Semicolon t = piece (59 ∷ []) ∷ []

@@ -1,7 +1,7 @@
 -- Laws of the pieces, as code writes them. Assumes nothing.
 use mathlib.Core.Path.{_≡_, sym, _∙_}
 use mathlib.Core.Bool.{true, false}
-use mathlib.Core.List.{List, [], _∷_, _++_, append-nil, map}
+use mathlib.Core.List.{List, [], _++_, map}
 use Prim.Native.Nat.{ℕ, _+_, _-_, _*_, _≤_, _<_}
 use native.Mathlib.Omega.{arith}
 use lib.ListN.{length, take, drop, length-drop}
@@ -21,13 +21,9 @@ use Rattle.address_list.specs.Parts.{innerEnd, TookFrom, partsFrom}
 use Rattle.address_list.specs.PartsLaws.{parts-step, parts-end}
 use Rattle.address_list.specs.declared.Front.{Front}
 use Rattle.address_list.specs.declared.PartKind.the-variants.{Angled, Alternative}
-use Rattle.address_pieces.specs.Pieces.{piece, phrasePieces, removed, inAngles, addressPieces, pieces, piecesOf}
-
--- ---- rendered segments
-
-pub rendered-one : (s : Segment) → rendered (s ∷ []) ≡ bytesOf s
-unfolding rendered
-rendered-one s = append-nil (bytesOf s)
+use Rattle.piece.specs.Piece.{piece}
+use Rattle.piece.specs.PieceLaws.{rendered-one}
+use Rattle.address_pieces.specs.Pieces.{phrasePieces, removed, inAngles, addressPieces, pieces, piecesOf}
 
 -- ---- a phrase, word by word
 

@@ -24,18 +24,21 @@ use Rattle.field.specs.Field.{encodedField}
 use Rattle.field.specs.FieldLaws.{encoded-sound}
 use Rattle.phrase.specs.Phrase.{wordSize, wordsFrom, phraseWords, phraseText}
 use Rattle.phrase.specs.BoundaryLaws.{Boundary, boundary-then, boundary-first, boundary-byte, address-boundary, blank-low, blanks-boundary, phrase-boundary, phrase-text-utf8}
+use Rattle.comment.specs.BoundaryLaws.{comment-cut}
+use Rattle.piece.specs.CommentPiecesLaws.{comment-sound}
 use Rattle.address_list.specs.Parts.{partAt, Part, partsFrom, partsOf, anyChanges}
 use Rattle.address_list.specs.PartCasesLaws.{Opened, part-has}
 use Rattle.address_list.specs.Table.{after, complete, examinedFrom, examined}
 use Rattle.address_list.specs.TableLaws.{after-stray, complete-unfit}
 use Rattle.address_list.specs.declared.Front.{Front}
 use Rattle.address_list.specs.declared.PartKind.{PartKind}
-use Rattle.address_list.specs.declared.PartKind.the-variants.{Blank, Comma, Colon, Semicolon, Phrase, Address, Angled, Alternative, Stray}
+use Rattle.address_list.specs.declared.PartKind.the-variants.{Blank, Comment, Comma, Colon, Semicolon, Phrase, Address, Angled, Alternative, Stray}
 use Rattle.address_list.specs.declared.State.{State}
 use Rattle.address_list.specs.declared.State.the-variants.{ItemDue}
 use Rattle.address_list.specs.declared.Examined.{Examined}
 use Rattle.address_list.specs.declared.Examined.the-variants.{DoesNotFit, Kept, Changed}
-use Rattle.address_pieces.specs.Pieces.{piece, phrasePieces, removed, inAngles, addressPieces, pieces, piecesOf}
+use Rattle.piece.specs.Piece.{piece}
+use Rattle.address_pieces.specs.Pieces.{phrasePieces, removed, inAngles, addressPieces, pieces, piecesOf}
 use Rattle.address_pieces.specs.AddressField.{rewrittenField, fieldBy, addressField}
 
 -- ---- a phrase
@@ -89,6 +92,7 @@ angled-sound rules t h =
 -- what is known of the address in a part
 abbrev addressKnown : PartKind → List ℕ → Type 0
 addressKnown Blank t = Unit
+addressKnown Comment t = Unit
 addressKnown Comma t = Unit
 addressKnown Colon t = Unit
 addressKnown Semicolon t = Unit
@@ -101,6 +105,7 @@ addressKnown Stray t = Unit
 -- a part other than a stray byte ends at a boundary
 abbrev endKnown : PartKind → List ℕ → ℕ → Type 0
 endKnown Blank s n = Boundary s n
+endKnown Comment s n = Boundary s n
 endKnown Comma s n = Boundary s n
 endKnown Colon s n = Boundary s n
 endKnown Semicolon s n = Boundary s n
@@ -158,6 +163,7 @@ part-known rules s h = part-has (Known s) rules s (record {
       let twice = boundary-byte s (start + size + 1) 62 closed (r .close₂) (omega arith) in
       let two : start + size + 1 + 1 ≡ start + size + 2 = omega arith in
       record { some = omega arith; end = rw two at twice; address = rw (part-front start size (start + size + 2) s (omega arith)) (r .ascii) };
+  comment = λ some runs. record { some = some; end = (let cut = comment-cut s some h in record { before = cut .0; after = cut .1 }); address = tt };
   address = λ some. record { some = some; end = address-boundary s h; address = tt };
   phrase = λ some. record { some = some; end = phrase-boundary s h; address = tt };
 })
@@ -170,6 +176,7 @@ part-known rules s h = part-has (Known s) rules s (record {
 pieces-sound : (rules : Rules) (kind : PartKind) (s : List ℕ) (n : ℕ) → (kind ≡ Stray → ⊥) → endKnown kind s n → addressKnown kind (take n s) → T (all sound (pieces rules kind (take n s))) × T (utf8 (drop n s))
 unfolding pieces
 pieces-sound rules Blank s n p e a = (tt, e .after)
+pieces-sound rules Comment s n p e a = (comment-sound (take n s) (e .before), e .after)
 pieces-sound rules Comma s n p e a = (tt, e .after)
 pieces-sound rules Colon s n p e a = (tt, e .after)
 pieces-sound rules Semicolon s n p e a = (tt, e .after)

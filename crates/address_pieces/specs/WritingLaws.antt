@@ -1,16 +1,12 @@
 -- The writing of an address field, step by step. Assumes nothing.
-use mathlib.Core.Path.{_≡_, refl, ap, sym, _∙_}
-use mathlib.Core.Bool.{Bool, true, false, cond, _&&_}
+use mathlib.Core.Path.{_≡_, ap, sym, _∙_}
+use mathlib.Core.Bool.{true}
 use mathlib.Core.List.{List, [], _∷_, _++_, map}
-use Prim.Native.Nat.{ℕ, _+_, _-_, _*_, _≤_, _<_}
+use Prim.Native.Nat.{ℕ, _+_, _-_, _*_, _≤_}
 use native.Mathlib.Omega.{arith}
-use lib.Dec.{T, leb}
-use mir.Facts.{and-yes, leb-yes}
-use borrow.Author.Tests.{le-leb}
-use lib.ListN.{length, take, length-take, length-append}
-use lib.Seq.{take-all, length-take-le}
+use lib.ListN.{length, length-append}
 use Rattle.buffer.specs.Buffer.{Wrote, AppendedCapped, greatest}
-use Rattle.buffer.specs.BufferLaws.{overlay-front, appended-from, appended-of, appended-then, capped-then, capped-same, length-wrote, length-added, wrote-from, wrote-of}
+use Rattle.buffer.specs.BufferLaws.{appended-from, appended-of, appended-then, capped-then, capped-same, length-wrote, length-added, wrote-from}
 use Rattle.rules.specs.Rules.{removalStart, removalEnd}
 use Rattle.rules.specs.declared.Rules.{Rules}
 use Rattle.row.specs.Row.{row, bounded}
@@ -24,9 +20,11 @@ use Rattle.address_list.specs.Parts.{partsOf}
 use Rattle.address_list.specs.Table.{examined}
 use Rattle.address_list.specs.declared.Examined.{Examined}
 use Rattle.address_list.specs.declared.Examined.the-variants.{DoesNotFit, Kept, Changed}
-use Rattle.address_pieces.specs.Pieces.{piece, removed, piecesOf}
-use Rattle.address_pieces.specs.PiecesLaws.{rendered-one}
-use Rattle.address_pieces.specs.AddressField.{rewrittenField, fieldBy, addressField, fitting}
+use Rattle.piece.specs.Piece.{piece}
+use Rattle.address_pieces.specs.Pieces.{removed, piecesOf}
+use Rattle.piece.specs.PieceLaws.{rendered-one, wrote-same, MadeIn, made-in}
+pub use Rattle.piece.specs.PieceLaws.{fitting-short}
+use Rattle.address_pieces.specs.AddressField.{rewrittenField, fieldBy, addressField}
 use Rattle.address_pieces.specs.LengthLaws.{removed-le}
 
 -- ---- two writings, one after the other
@@ -34,15 +32,6 @@ use Rattle.address_pieces.specs.LengthLaws.{removed-le}
 pub wrote-then : {xs ys before mid after : List ℕ} {n r : ℕ} → Wrote xs before mid n → AppendedCapped ys n mid after r → length xs + length ys ≤ greatest
     → Wrote (xs ++ ys) before after r
 wrote-then w a h = wrote-from (appended-then (appended-from w) (appended-of a (omega (arith, w .size, h))))
-
-pub wrote-same : {x y before after : List ℕ} {r : ℕ} → x ≡ y → Wrote x before after r → Wrote y before after r
-wrote-same e w = rw (← e) w
-
--- ---- a turn of a loop over a text
-
--- what is left is less
-pub turn-less : {n i e : ℕ} → i < n → i < e → n - e < n - i
-turn-less h m = omega arith
 
 -- ---- the pieces in place of an address that is removed
 
@@ -62,20 +51,8 @@ module _ (rules : Rules) (address : List ℕ) where
 -- ---- a phrase's text in a scratch that has room for it
 
 module _ (t : List ℕ) {begun text : List ℕ} {n : ℕ} (u : AppendedCapped (phraseText t) 0 begun text n) (k : length t ≤ 32768) (h : 2 * length t ≤ length begun) where
-  held : Wrote (phraseText t) begun text n
-  held = wrote-of u (omega (arith, length-phrase-text t))
-
-  pub phrase-within : n ≤ length text
-  phrase-within = omega (arith, held .size, length-phrase-text t, length-wrote held)
-
-  pub phrase-size : n ≡ length (take n text)
-  phrase-size = rw length-take (omega (arith, phrase-within))
-
-  text-is : take n text ≡ phraseText t
-  text-is = rw (held .bytes, held .size) (overlay-front (phraseText t) begun (omega (arith, length-phrase-text t)))
-
-  pub phrase-encoded : {before after : List ℕ} {r : ℕ} → Wrote (row (bounded (take n text))) before after r → Wrote (row (phraseText t)) before after r
-  phrase-encoded w = rw (text-is, bounded-short (phraseText t) (omega (arith, length-phrase-text t))) at w
+  pub phrase-made : MadeIn text n (phraseText t)
+  phrase-made = made-in u (omega (arith, length-phrase-text t)) (omega (arith, length-phrase-text t))
 
 -- ---- the field
 
@@ -116,25 +93,3 @@ module _ (rules : Rules) (name text : List ℕ) where
       → AppendedCapped (rendered (fieldBy e rules name text)) at before after r → AppendedCapped (rendered (addressField rules name text)) at before after r
   unfolding addressField
   by-examined k x w = rw (← x, k) w
-
--- ---- a text that the scratch can serve
-
--- callers with enough room
-pub fitting-short : (room : ℕ) (text : List ℕ) → length text ≤ 32768 → 2 * length text ≤ room → fitting room text ≡ text
-unfolding fitting
-fitting-short room text h k = rw (le-leb _ _ h, le-leb _ _ k)
-
--- as many bytes of a text as the scratch can serve
-pub record Served (room : ℕ) (text part : List ℕ) (n : ℕ) : Type 0 where
-  pub size : n ≡ length (take n text)
-  pub small : n ≤ 32768
-  pub roomy : 2 * n ≤ room
-  pub is : take n text ≡ part
-
-pub served : (room : ℕ) (text : List ℕ) (n : ℕ) → n ≡ cond (leb (length text) 32768 && leb (2 * length text) room) (length text) 0 → Served room text (fitting room text) n
-unfolding fitting
-served room text n q = rw q (go (leb (length text) 32768 && leb (2 * length text) room) (λ t. and-yes (leb (length text) 32768) (leb (2 * length text) room) t))
-  where
-    go : (b : Bool) → (T b → T (leb (length text) 32768) × T (leb (2 * length text) room)) → Served room text (cond b text []) (cond b (length text) 0)
-    go true f = record { size = sym (length-take-le (length text) text (omega arith)); small = leb-yes (f tt .0); roomy = leb-yes (f tt .1); is = take-all (length text) text (omega arith) }
-    go false f = record { size = refl; small = omega arith; roomy = omega arith; is = refl }

@@ -1,12 +1,9 @@
 // Address fields, rewritten piece by piece.
+mod address_piece;
 mod part;
 mod phrase_pieces;
-mod piece;
 
-ghost use mathlib.Core.Path.{_≡_};
-ghost use mathlib.Core.Bool.{cond, _&&_};
 ghost use Prim.Native.Nat.{_*_, _≤_};
-ghost use lib.Dec.{leb};
 ghost use lib.ListN.{length};
 ghost use Rattle.buffer.specs.Buffer.{AppendedCapped};
 ghost use Rattle.encoded_word.specs.Segments.{rendered};
@@ -68,21 +65,8 @@ fn add_by_text(
     }
 }
 
-// The length of a text; none where a scratch with so much room cannot serve it.
-fn fitting_len(room: usize, n: usize) -> usize
-    ensures { λ r. ⌜ r ≡ cond (leb n 32768 && leb (2 * n) room) n 0 ⌝ }
-{
-    if 32768 < n {
-        return 0;
-    }
-    if room < 2 * n {
-        return 0;
-    }
-    n
-}
-
 // Writes what an address field becomes by the rules from a place on, as far as it fits; answers the place after it. The scratch is
-// where the text of a phrase is made: where it is shorter than twice the text, or the text longer than 32,768 bytes, the text counts
+// where the text of a phrase or of a run of a comment is made: where it is shorter than twice the text, or the text longer than 32,768 bytes, the text counts
 // as empty.
 pub fn add_field(
     out: &mut [u8],
@@ -94,6 +78,6 @@ pub fn add_field(
 ) -> usize
     ensures { λ r. ⌜ AppendedCapped (rendered (addressField rules (now (name .entry)) (fitting (length (now (scratch .entry))) (now (text .entry))))) at (now (out .entry)) (now (out .exit)) r ⌝ }
 {
-    let end = fitting_len(scratch.len(), text.len());
+    let end = piece::fitting_len(scratch.len(), text.len());
     add_by_text(out, at, rules, name, &text[..end], scratch)
 }

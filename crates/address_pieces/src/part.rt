@@ -4,11 +4,12 @@ ghost use lib.ListN.{length};
 ghost use Rattle.buffer.specs.Buffer.{Wrote, AppendedCapped};
 ghost use Rattle.encoded_word.specs.Segments.{rendered};
 ghost use Rattle.address_list.specs.Parts.{innerEnd, partsOf};
-ghost use Rattle.address_pieces.specs.Pieces.{piece, inAngles, addressPieces, pieces, piecesOf};
+ghost use Rattle.piece.specs.Piece.{piece};
+ghost use Rattle.address_pieces.specs.Pieces.{inAngles, addressPieces, pieces, piecesOf};
+use crate::address_piece::put_in_angles;
+use crate::address_piece::put_piece;
+use crate::address_piece::put_removed;
 use crate::phrase_pieces::put_phrase;
-use crate::piece::put_in_angles;
-use crate::piece::put_piece;
-use crate::piece::put_removed;
 use address_list::PartKind;
 use address_list::part_from;
 use rules::Rules;
@@ -42,6 +43,7 @@ fn put_part(out: &mut [u8], rules: Rules, t: &[u8], kind: PartKind, scratch: &mu
 {
     match kind {
         PartKind::Blank => 0,
+        PartKind::Comment => piece::put_comment(out, t, scratch),
         PartKind::Comma => buffer::put_byte(out, b','),
         PartKind::Colon => put_piece(out, b":"),
         PartKind::Semicolon => put_piece(out, b";"),

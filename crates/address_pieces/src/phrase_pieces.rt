@@ -6,8 +6,9 @@ ghost use Rattle.buffer.specs.Buffer.{Wrote};
 ghost use Rattle.row.specs.Row.{row};
 ghost use Rattle.encoded_word.specs.Segments.{rendered};
 ghost use Rattle.phrase.specs.Phrase.{phraseWords, phraseText};
-ghost use Rattle.address_pieces.specs.Pieces.{piece, phrasePieces};
-use crate::piece::put_piece;
+ghost use Rattle.piece.specs.Piece.{piece};
+ghost use Rattle.address_pieces.specs.Pieces.{phrasePieces};
+use crate::address_piece::put_piece;
 
 // Each word of a phrase as it stands, a piece each.
 fn put_words(out: &mut [u8], phrase: &[u8]) -> usize

@@ -1,8 +1,8 @@
 -- Laws of fields by position, as code finds them. Assumes nothing.
-use mathlib.Core.Path.{_≡_, refl, ap, sym, _∙_}
+use mathlib.Core.Path.{_≡_, refl, sym}
 use mathlib.Core.Bool.{Bool, true, false, cond, not, _&&_}
 use mathlib.Core.List.{List, [], _∷_, _++_}
-use Prim.Native.Nat.{ℕ, zero, suc, pred, _+_, _-_, _≤_, _<_}
+use Prim.Native.Nat.{ℕ, zero, suc, _+_, _-_, _≤_, _<_}
 use native.Mathlib.Nat.{not-suc-le-zero, suc-add, zero-add}
 use native.Mathlib.Numerals.{add-one}
 use native.Mathlib.Omega.{arith}
@@ -12,7 +12,6 @@ use lib.Seq.{drop-cons, drop-drop, getD-drop, length-take-le, take-nil}
 use mir.Facts.{and-yes}
 use Rattle.lists.specs.Lists.{all, joined}
 use Rattle.lists.specs.ListsLaws.{cond-has, yes-true, true-yes, no-false}
-use Rattle.lists.specs.Byte.{isAscii}
 use Rattle.lists.specs.CutByLaws.{cut-nil, cut-front, cut-next, cut-joined, cut-few}
 use Rattle.lists.specs.Run.{run}
 use Rattle.lists.specs.RunLaws.{run-le, run-all}
@@ -121,7 +120,7 @@ fields-few h = cut-few fieldLen h
 
 -- ---- a field's value
 
-pub value-none : (field : List ℕ) (n : ℕ) → n ≡ nameLen field → length field < n + 3 → true ≡ all isAscii (valueOf field)
+pub value-none : (field : List ℕ) (n : ℕ) → n ≡ nameLen field → length field < n + 3 → take (0 - 0) (drop 0 field) ≡ valueOf field
 unfolding valueOf
 value-none field n e k =
     let short : length (take (length field - 2) field) ≤ nameLen field + 1 = omega (arith, length-take (length field - 2) field) in
@@ -133,9 +132,13 @@ drop-take (suc m) zero xs = let e : zero - suc m ≡ 0 = omega arith in rw e
 drop-take (suc m) (suc n) [] = sym (take-nil (suc n - suc m))
 drop-take (suc m) (suc n) (x ∷ xs) = let e : suc n - suc m ≡ n - m = omega arith in rw e (drop-take m n xs)
 
-pub value-part : (field : List ℕ) (n : ℕ) (ok : Bool) → n ≡ nameLen field → ok ≡ all isAscii (take (length field - 2 - (n + 1)) (drop (n + 1) field)) → ok ≡ all isAscii (valueOf field)
+pub value-part : (field : List ℕ) (n : ℕ) → n ≡ nameLen field → take (length field - 2 - (n + 1)) (drop (n + 1) field) ≡ valueOf field
 unfolding valueOf
-value-part field n ok e k = k ∙ rw (drop-take (nameLen field + 1) (length field - 2) field, e)
+value-part field n e = rw (drop-take (nameLen field + 1) (length field - 2) field, e)
+
+pub length-value : (field : List ℕ) → length (valueOf field) ≤ length field
+unfolding valueOf
+length-value field = omega (arith, length-drop (nameLen field + 1) (take (length field - 2) field), length-take (length field - 2) field)
 
 pub name-le : (field : List ℕ) → nameLen field ≤ length field
 unfolding nameLen

@@ -388,6 +388,14 @@ joined-utf8 a (next ∷ more) t u =
     let both = and-yes (continued next) (all continued more) u in
     utf8-append a (joined (next ∷ more)) (piece-utf8 a t) (joined-utf8 next more (continued-piece next (both .0)) (both .1))
 
+folded-utf8 : (a : List ℕ) (more : List (List ℕ)) → T (piece a) → T (all continued more) → T (utf8 (folded a more))
+unfolding folded
+folded-utf8 a [] t u = piece-utf8 a t
+folded-utf8 a (next ∷ more) t u =
+    let both = and-yes (continued next) (all continued more) u in
+    utf8-append a (13 ∷ 10 ∷ folded next more) (piece-utf8 a t)
+    (utf8-append (13 ∷ 10 ∷ []) (folded next more) (utf8-ascii (13 ∷ 10 ∷ []) tt) (folded-utf8 next more (continued-piece next (both .0)) (both .1)))
+
 all-both : (f : ℕ → Bool) (a b : List ℕ) → all f (a ++ b) ≡ all f a && all f b
 all-both f [] b = refl
 all-both f (x ∷ a) b = rw (all-both f a b) (sym (and-assoc (f x) (all f a) (all f b)))
@@ -432,6 +440,10 @@ module _ {field : List ℕ} (s : Shaped field) where
   pub text-utf8 : T (utf8 (textOf field))
   unfolding textOf
   text-utf8 = trimmed-utf8 (unfoldedAfter 0 (valueOf field)) (rw unfolded (joined-utf8 (s .line) (s .more) (s .line-is) (s .more-are)))
+
+  -- and so is its value
+  pub value-utf8 : T (utf8 (valueOf field))
+  value-utf8 = rw (s .value) (folded-utf8 (s .line) (s .more) (s .line-is) (s .more-are))
 
   -- the text of a field is ASCII exactly where its value is
   pub text-ascii : all isAscii (textOf field) ≡ all isAscii (valueOf field)

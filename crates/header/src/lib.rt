@@ -63,17 +63,22 @@ pub fn ascii_fields_end(h: &[u8], at: usize) -> usize
     last_field_end(h, at, high)
 }
 
+// The value of a field.
+pub fn value(field: &[u8]) -> &[u8]
+    ensures { λ r. ⌜ now r ≡ valueOf (now (field .entry)) ⌝ }
+{
+    let n = name_len(field);
+    if field.len() < n + 3 {
+        return line::part(field, 0, 0);
+    }
+    line::part(field, n + 1, field.len() - 2)
+}
+
 // Whether the value of a field is ASCII.
 pub fn value_is_ascii(field: &[u8]) -> bool
     ensures { λ r. ⌜ r ≡ all isAscii (valueOf (now (field .entry))) ⌝ }
 {
-    let n = name_len(field);
-    if field.len() < n + 3 {
-        return true;
-    }
-    let from = n + 1;
-    let to = field.len() - 2;
-    utf8::is_ascii(&field[from..to])
+    utf8::is_ascii(value(field))
 }
 
 // How many lines end in some bytes.

@@ -15,6 +15,8 @@ use Rattle.header_name.specs.declared.Kind.{Kind}
 use Rattle.header_name.specs.declared.Kind.the-variants.{Address, PlainText, Received, Commented, Parameterized, Held, Other}
 use Rattle.field.specs.Field.{encodedField}
 use Rattle.address_pieces.specs.AddressField.{addressField}
+use Rattle.structured_field.specs.Tokens.{asciiOutsideComments}
+use Rattle.structured_field.specs.StructuredField.{structuredField}
 use Rattle.outgoing_field.specs.declared.HeldField.{HeldField}
 use Rattle.outgoing_field.specs.declared.HeldField.the-variants.{Absent, At}
 
@@ -22,21 +24,21 @@ pub data Fate : Type 0 where
   held : Fate
   written : List Segment → Fate
 
--- what becomes of a field whose value is not ASCII, by its kind, its name and its text. "Plain text: name, colon, encoded words of
--- the text. Every other name is encapsulated: `Downgraded-` before the name".
-unfoldable pub kindFate : Rules → Kind → List ℕ → List ℕ → Fate
-kindFate rules Address name text = written (addressField rules name text)
-kindFate rules PlainText name text = written (encodedField false name text)
-kindFate rules Received name text = held
-kindFate rules Commented name text = held
-kindFate rules Parameterized name text = held
-kindFate rules Held name text = held
-kindFate rules Other name text = written (encodedField true name text)
+-- what becomes of a field whose value is not ASCII, by the kind of its name. "Plain text: name, colon, encoded words of the text.
+-- Every other name is encapsulated: `Downgraded-` before the name". Date and the others with comments "are held only if non-ASCII
+-- stands outside their comments".
+unfoldable pub kindFate : Rules → Kind → List ℕ → Fate
+kindFate rules Address field = written (addressField rules (nameOf field) (textOf field))
+kindFate rules PlainText field = written (encodedField false (nameOf field) (textOf field))
+kindFate rules Received field = held
+kindFate rules Commented field = cond (asciiOutsideComments (valueOf field)) (written (structuredField (nameOf field) (valueOf field))) held
+kindFate rules Parameterized field = held
+kindFate rules Held field = held
+kindFate rules Other field = written (encodedField true (nameOf field) (textOf field))
 
 -- "A field whose value is ASCII is copied."
 unfoldable pub fateOf : Rules → List ℕ → Fate
-fateOf rules field =
-    cond (all isAscii (valueOf field)) (written (raw field ∷ [])) (kindFate rules (kindOf (nameOf field)) (nameOf field) (textOf field))
+fateOf rules field = cond (all isAscii (valueOf field)) (written (raw field ∷ [])) (kindFate rules (kindOf (nameOf field)) field)
 
 -- ---- what is written
 

@@ -22,7 +22,7 @@ use Rattle.encoded_word.specs.SegmentsLaws.{rendered-append}
 use Rattle.rules.specs.declared.Rules.{Rules}
 use Rattle.header_line.specs.Lines.{nameLen}
 use Rattle.header.specs.Fields.{fieldLen, fieldsOf, nameOf, valueOf, textOf, lineCount}
-use Rattle.header.specs.FieldLaws.{field-le, fields-nil, fields-next, name-part}
+use Rattle.header.specs.FieldLaws.{field-le, fields-nil, fields-next, name-part, length-value}
 use Rattle.header.specs.AsciiFieldsLaws.{AsciiFields, value-ascii}
 use Rattle.field_text.specs.TextPlace.{textPlace}
 use Rattle.field_text.specs.TextLaws.{wrote-front, length-text, text-there}
@@ -31,8 +31,11 @@ use Rattle.header_name.specs.Names.{kindOf}
 use Rattle.header_name.specs.declared.Kind.{Kind}
 use Rattle.header_name.specs.declared.Kind.the-variants.{Address, PlainText, Received, Commented, Parameterized, Held, Other}
 use Rattle.field.specs.Field.{encodedField}
-use Rattle.address_pieces.specs.AddressField.{addressField, fitting}
-use Rattle.address_pieces.specs.WritingLaws.{fitting-short}
+use Rattle.piece.specs.Piece.{fitting}
+use Rattle.piece.specs.PieceLaws.{fitting-short}
+use Rattle.address_pieces.specs.AddressField.{addressField}
+use Rattle.structured_field.specs.Tokens.{asciiOutsideComments}
+use Rattle.structured_field.specs.StructuredField.{structuredField}
 use Rattle.outgoing_field.specs.Fate.{Fate, kindFate, fateOf, segmentsOf, fieldSegments, headerSegments, limited, isHeld, heldFrom, heldOf}
 use Rattle.outgoing_field.specs.Fate.Fate.{held, written}
 use Rattle.outgoing_field.specs.declared.HeldField.the-variants.{Absent, At}
@@ -55,35 +58,45 @@ module _ (rules : Rules) (field : List ℕ) where
 
   -- a field whose value is not ASCII goes by the kind of its name
   fate-kind : (n : ℕ) {kind : Kind} → all isAscii (valueOf field) ≡ false → n ≡ nameLen field → kind ≡ kindOf (take n field)
-      → kindFate rules kind (nameOf field) (textOf field) ≡ fateOf rules field
+      → kindFate rules kind field ≡ fateOf rules field
   unfolding fateOf
   fate-kind n e k q = rw (e, q, name-part field n k)
 
 -- ---- held fields
 
 -- whether a field of a kind is held where its value is not ASCII
-unfoldable pub holds : Kind → Bool
-holds Address = false
-holds PlainText = false
-holds Received = true
-holds Commented = true
-holds Parameterized = true
-holds Held = true
-holds Other = false
+unfoldable pub holds : Kind → List ℕ → Bool
+holds Address field = false
+holds PlainText field = false
+holds Received field = true
+holds Commented field = not (asciiOutsideComments (valueOf field))
+holds Parameterized field = true
+holds Held field = true
+holds Other field = false
 
-holds-is : (rules : Rules) (kind : Kind) (name text : List ℕ) → holds kind ≡ isHeld (kindFate rules kind name text)
+held-unless : (b : Bool) (segments : List Segment) → not b ≡ isHeld (cond b (written segments) held)
+unfolding isHeld
+held-unless true segments = refl
+held-unless false segments = refl
+
+holds-is : (rules : Rules) (kind : Kind) (field : List ℕ) → holds kind field ≡ isHeld (kindFate rules kind field)
 unfolding holds isHeld kindFate
-holds-is rules Address name text = refl
-holds-is rules PlainText name text = refl
-holds-is rules Received name text = refl
-holds-is rules Commented name text = refl
-holds-is rules Parameterized name text = refl
-holds-is rules Held name text = refl
-holds-is rules Other name text = refl
+holds-is rules Address field = refl
+holds-is rules PlainText field = refl
+holds-is rules Received field = refl
+holds-is rules Commented field = held-unless (asciiOutsideComments (valueOf field)) (structuredField (nameOf field) (valueOf field))
+holds-is rules Parameterized field = refl
+holds-is rules Held field = refl
+holds-is rules Other field = refl
 
 pub held-by-kind : (rules : Rules) (field : List ℕ) (n : ℕ) {kind : Kind} {r : Bool} → all isAscii (valueOf field) ≡ false → n ≡ nameLen field → kind ≡ kindOf (take n field)
-    → r ≡ holds kind → r ≡ isHeld (fateOf rules field)
-held-by-kind rules field n {kind} e k q h = h ∙ holds-is rules kind (nameOf field) (textOf field) ∙ ap isHeld (fate-kind rules field n e k q)
+    → r ≡ holds kind field → r ≡ isHeld (fateOf rules field)
+held-by-kind rules field n {kind} e k q h = h ∙ holds-is rules kind field ∙ ap isHeld (fate-kind rules field n e k q)
+
+pub holds-commented : (kind : Kind) (field : List ℕ) {value : List ℕ} {clear : Bool} → kind ≡ Commented → value ≡ valueOf field → clear ≡ asciiOutsideComments value
+    → not clear ≡ holds kind field
+unfolding holds
+holds-commented kind field e v q = rw (e, q, v)
 
 -- what is left to look through from a place on
 pub record HeldLeft (rules : Rules) (h : List ℕ) (at : ℕ) : Type 0 where
@@ -131,48 +144,72 @@ unfoldable pub needsScratch : Kind → Bool
 needsScratch Address = true
 needsScratch PlainText = false
 needsScratch Received = false
-needsScratch Commented = false
+needsScratch Commented = true
 needsScratch Parameterized = false
 needsScratch Held = false
 needsScratch Other = false
 
--- The text is within the limit, and a scratch that a field of this kind needs is twice as long.
-pub record Served (kind : Kind) (text scratch : List ℕ) : Type 0 where
-  pub short : length text ≤ 32768
-  pub room : needsScratch kind ≡ true → 2 * length text ≤ length scratch
+-- The field is within the limit, its text is given, and a scratch that a field of this kind needs is twice as long.
+pub record Served (kind : Kind) (field text scratch : List ℕ) : Type 0 where
+  pub short : length field ≤ 32768
+  pub is : text ≡ textOf field
+  pub room : needsScratch kind ≡ true → 2 * length field ≤ length scratch
 
-module _ (rules : Rules) (kind : Kind) (name text : List ℕ) {before after : List ℕ} {at r : ℕ} where
-  pub kind-address : {scratch : List ℕ} → kind ≡ Address → Served kind text scratch
-      → AppendedCapped (rendered (addressField rules name (fitting (length scratch) text))) at before after r
-      → AppendedCapped (rendered (segmentsOf (kindFate rules kind name text))) at before after r
+length-served : {kind : Kind} {field text scratch : List ℕ} → Served kind field text scratch → length text ≤ length field
+length-served {field = field} s = rw (s .is) (length-text field)
+
+module _ (rules : Rules) {kind : Kind} {field text scratch : List ℕ} {n : ℕ} (s : Served kind field text scratch) (k : n ≡ nameLen field) where
+  pub kind-address : {before after : List ℕ} {at r : ℕ} → kind ≡ Address → AppendedCapped (rendered (addressField rules (take n field) (fitting (length scratch) text))) at before after r
+      → AppendedCapped (rendered (segmentsOf (kindFate rules kind field))) at before after r
   unfolding kindFate segmentsOf needsScratch
-  kind-address {scratch} e s a =
-      let room : 2 * length text ≤ length scratch = s .room (rw e) in
-      rw e (rw (fitting-short (length scratch) text (s .short) room) at a)
+  kind-address e a =
+      let room : 2 * length field ≤ length scratch = s .room (rw e) in
+      let given : fitting (length scratch) text ≡ text = fitting-short (length scratch) text (omega (arith, length-served s, s .short)) (omega (arith, length-served s)) in
+      rw e (rw (given, s .is, name-part field n k) at a)
 
-  pub kind-encoded : (downgraded : Bool) {scratch : List ℕ} → kindFate rules kind name text ≡ written (encodedField downgraded name text) → Served kind text scratch
-      → AppendedCapped (rendered (encodedField downgraded name (bounded text))) at before after r
-      → AppendedCapped (rendered (segmentsOf (kindFate rules kind name text))) at before after r
+  pub kind-encoded : {before after : List ℕ} {at r : ℕ} (downgraded : Bool) → kindFate rules kind field ≡ written (encodedField downgraded (nameOf field) (textOf field))
+      → AppendedCapped (rendered (encodedField downgraded (take n field) (bounded text))) at before after r
+      → AppendedCapped (rendered (segmentsOf (kindFate rules kind field))) at before after r
   unfolding segmentsOf
-  kind-encoded downgraded e s a = rw e (rw (bounded-short text (omega (arith, s .short))) at a)
+  kind-encoded downgraded e a = rw e (rw (bounded-short text (omega (arith, length-served s, s .short)), s .is, name-part field n k) at a)
 
-module _ (rules : Rules) (kind : Kind) (name text : List ℕ) where
-  pub plain-is : kind ≡ PlainText → kindFate rules kind name text ≡ written (encodedField false name text)
+module _ (rules : Rules) (kind : Kind) (field : List ℕ) where
+  pub plain-is : kind ≡ PlainText → kindFate rules kind field ≡ written (encodedField false (nameOf field) (textOf field))
   unfolding kindFate
   plain-is e = rw e
 
-  pub other-is : kind ≡ Other → kindFate rules kind name text ≡ written (encodedField true name text)
+  pub other-is : kind ≡ Other → kindFate rules kind field ≡ written (encodedField true (nameOf field) (textOf field))
   unfolding kindFate
   other-is e = rw e
 
-  pub kind-none : (before : List ℕ) (at : ℕ) → holds kind ≡ true → at ≤ greatest
-      → AppendedCapped (rendered (segmentsOf (kindFate rules kind name text))) at before before at
+  pub kind-none : (before : List ℕ) (at : ℕ) → holds kind field ≡ true → at ≤ greatest
+      → AppendedCapped (rendered (segmentsOf (kindFate rules kind field))) at before before at
   unfolding segmentsOf isHeld rendered
-  kind-none before at e h = none (kindFate rules kind name text) (sym (holds-is rules kind name text) ∙ e)
+  kind-none before at e h = none (kindFate rules kind field) (sym (holds-is rules kind field) ∙ e)
     where
       none : (fate : Fate) → isHeld fate ≡ true → AppendedCapped (rendered (segmentsOf fate)) at before before at
       none held e = capped-none at before h
       none (written segments) e = absurd (true-yes false e)
+
+pub commented-served : {kind : Kind} {field text scratch : List ℕ} → kind ≡ Commented → Served kind field text scratch
+    → (length field ≤ 32768) × (2 * length field ≤ length scratch)
+unfolding needsScratch
+commented-served e s = (s .short, s .room (rw e))
+
+-- a field with comments, whose value code has at hand
+module _ (rules : Rules) (field : List ℕ) {value : List ℕ} {clear : Bool} (v : value ≡ valueOf field) (q : clear ≡ asciiOutsideComments value) where
+  pub commented-none : (before : List ℕ) (at : ℕ) → clear ≡ false → at ≤ greatest → AppendedCapped (rendered (segmentsOf (kindFate rules Commented field))) at before before at
+  unfolding holds
+  commented-none before at e h = kind-none rules Commented field before at (rw (← v, ← q, e)) h
+
+  pub commented-written : {before after : List ℕ} {n room at r : ℕ} → n ≡ nameLen field → clear ≡ true → length field ≤ 32768 → 2 * length field ≤ room
+      → AppendedCapped (rendered (structuredField (take n field) (fitting room value))) at before after r
+      → AppendedCapped (rendered (segmentsOf (kindFate rules Commented field))) at before after r
+  unfolding kindFate segmentsOf
+  commented-written {n = n} {room = room} k e h l a =
+      let short : length value ≤ length field = rw v (length-value field) in
+      let test : asciiOutsideComments (valueOf field) ≡ true = rw (← v) (sym q ∙ e) in
+      rw test (rw (fitting-short room value (omega arith) (omega arith), v, name-part field n k) at a)
 
 -- ---- a field
 
@@ -183,8 +220,8 @@ pub record Roomy (field made scratch : List ℕ) : Type 0 where
   pub room : 2 * length field ≤ length scratch
 
 module _ {field made scratch : List ℕ} (s : Roomy field made scratch) where
-  pub served : (kind : Kind) {text : List ℕ} → text ≡ textOf field → Served kind text scratch
-  served kind e = record { short = rw e (omega (arith, s .short, length-text field)); room = λ k. rw e (omega (arith, s .room, length-text field)) }
+  pub served : (kind : Kind) {text : List ℕ} → text ≡ textOf field → Served kind field text scratch
+  served kind e = record { short = s .short; is = e; room = λ k. s .room }
 
   -- a text that was made in its buffer
   pub text-made : {after : List ℕ} {n : ℕ} → Wrote (textOf field) made after n → take n after ≡ textOf field
@@ -200,23 +237,15 @@ module _ {field made scratch : List ℕ} (s : Roomy field made scratch) where
 pub text-placed : (field : List ℕ) {text : List ℕ} {a b : ℕ} → textPlace field ≡ InPlace a b → text ≡ take (b - a) (drop a field) → text ≡ textOf field
 text-placed field {text} {a} {b} e q = q ∙ text-there field a b e
 
-pub served-placed : (kind : Kind) (field : List ℕ) {text scratch : List ℕ} → needsScratch kind ≡ false → length field ≤ 32768 → text ≡ textOf field → Served kind text scratch
-served-placed kind field n h e = record {
-  short = rw e (omega (arith, h, length-text field));
-  room = λ k. absurd (true-yes false (sym n ∙ k));
-}
-
-pub added-named : (rules : Rules) (kind : Kind) (field : List ℕ) {text before after : List ℕ} {n at r : ℕ} → n ≡ nameLen field → text ≡ textOf field
-    → AppendedCapped (rendered (segmentsOf (kindFate rules kind (take n field) text))) at before after r
-    → AppendedCapped (rendered (segmentsOf (kindFate rules kind (nameOf field) (textOf field)))) at before after r
-added-named rules kind field {n = n} e q a = rw (name-part field n e, q) at a
+pub served-placed : (kind : Kind) (field : List ℕ) {text scratch : List ℕ} → needsScratch kind ≡ false → length field ≤ 32768 → text ≡ textOf field → Served kind field text scratch
+served-placed kind field n h e = record { short = h; is = e; room = λ k. absurd (true-yes false (sym n ∙ k)) }
 
 module _ (rules : Rules) (field : List ℕ) {before after : List ℕ} {at r : ℕ} where
   pub added-copied : all isAscii (valueOf field) ≡ true → AppendedCapped field at before after r → AppendedCapped (rendered (fieldSegments rules field)) at before after r
   added-copied e a = rw (field-copied rules field (true-yes (all isAscii (valueOf field)) e)) a
 
   pub added-by-kind : (n : ℕ) {kind : Kind} → all isAscii (valueOf field) ≡ false → n ≡ nameLen field → kind ≡ kindOf (take n field)
-      → AppendedCapped (rendered (segmentsOf (kindFate rules kind (nameOf field) (textOf field)))) at before after r
+      → AppendedCapped (rendered (segmentsOf (kindFate rules kind field))) at before after r
       → AppendedCapped (rendered (fieldSegments rules field)) at before after r
   unfolding fieldSegments
   added-by-kind n e k q a = rw (fate-kind rules field n e k q) at a

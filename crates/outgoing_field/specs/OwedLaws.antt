@@ -1,5 +1,5 @@
 -- What every kind of field owes: what is written for it is sound, and no longer than 30 bytes for one. Assumes nothing.
-use mathlib.Core.Path.{_≡_, refl, sym, ap, _∙_}
+use mathlib.Core.Path.{_≡_, ap, _∙_}
 use mathlib.Core.Bool.{Bool, true, false}
 use mathlib.Core.List.{List, [], _∷_, _++_, append-nil, map}
 use Prim.Native.Nat.{ℕ, _+_, _*_, _≤_}
@@ -10,7 +10,7 @@ use mir.Facts.{yes-and}
 use Rattle.lists.specs.Byte.{isAscii}
 use Rattle.lists.specs.ListsLaws.{cond-has, all-append}
 use Rattle.lists.specs.Lists.{all, joined}
-use Rattle.encoded_word.specs.Segments.{Segment, rendered, sound}
+use Rattle.encoded_word.specs.Segments.{rendered, sound}
 use Rattle.encoded_word.specs.Segments.Segment.{raw}
 use Rattle.encoded_word.specs.SegmentsLaws.{rendered-append}
 use Rattle.rules.specs.declared.Rules.{Rules}
@@ -19,7 +19,7 @@ use Rattle.header_line.specs.Lines.{checkedLines}
 use Rattle.header.specs.Fields.{fieldsOf, nameOf, valueOf, textOf}
 use Rattle.header.specs.FieldLaws.{fields-joined}
 use Rattle.header.specs.FieldShape.{Shaped, Each}
-use Rattle.header.specs.FieldShapeLaws.{fields-shaped, text-utf8, name-ascii, field-ascii}
+use Rattle.header.specs.FieldShapeLaws.{fields-shaped, text-utf8, value-utf8, name-ascii, field-ascii}
 use Rattle.field_text.specs.TextLaws.{length-shaped}
 use Rattle.header_name.specs.Names.{kindOf}
 use Rattle.header_name.specs.declared.Kind.{Kind}
@@ -28,6 +28,9 @@ use Rattle.field.specs.Field.{encodedField}
 use Rattle.field.specs.FieldLaws.{encoded-sound, length-encoded}
 use Rattle.address_pieces.specs.SoundLaws.{address-field-sound}
 use Rattle.address_pieces.specs.LengthLaws.{address-field-within}
+use Rattle.structured_field.specs.Tokens.{asciiOutsideComments}
+use Rattle.structured_field.specs.StructuredField.{structuredField}
+use Rattle.structured_field.specs.StructuredFieldLaws.{structured-sound, length-structured}
 use Rattle.outgoing_field.specs.Fate.{Fate, kindFate, fateOf, segmentsOf, fieldSegments, headerSegments}
 use Rattle.outgoing_field.specs.Fate.Fate.{held, written}
 
@@ -52,7 +55,19 @@ module _ {field : List ℕ} (s : Shaped field) where
     short = omega (arith, length-encoded downgraded (nameOf field) (textOf field), length-shaped s);
   }
 
-  owed-kind : (rules : Rules) (kind : Kind) → Owed (length field) (kindFate rules kind (nameOf field) (textOf field))
+  length-parts : length field ≡ length (nameOf field) + length (valueOf field) + 3
+  length-parts =
+      ap length (s .parts)
+      ∙ (length-append (nameOf field) (58 ∷ (valueOf field ++ (13 ∷ 10 ∷ []))) ∙ omega (arith, length-append (valueOf field) (13 ∷ 10 ∷ [])))
+
+  owed-structured : T (asciiOutsideComments (valueOf field)) → Owed (length field) (written (structuredField (nameOf field) (valueOf field)))
+  unfolding segmentsOf
+  owed-structured t = record {
+    sound-all = structured-sound (nameOf field) (valueOf field) (name-ascii field) (value-utf8 s) t;
+    short = omega (arith, length-structured (nameOf field) (valueOf field), length-parts);
+  }
+
+  owed-kind : (rules : Rules) (kind : Kind) → Owed (length field) (kindFate rules kind field)
   unfolding kindFate segmentsOf
   owed-kind rules Address = record {
     sound-all = address-field-sound rules (nameOf field) (textOf field) (name-ascii field) (text-utf8 s);
@@ -60,7 +75,10 @@ module _ {field : List ℕ} (s : Shaped field) where
   }
   owed-kind rules PlainText = owed-encoded false
   owed-kind rules Received = owed-held (length field)
-  owed-kind rules Commented = owed-held (length field)
+  owed-kind rules Commented =
+      cond-has (Owed (length field)) (asciiOutsideComments (valueOf field)) (written (structuredField (nameOf field) (valueOf field))) held
+      owed-structured
+      (λ t. owed-held (length field))
   owed-kind rules Parameterized = owed-held (length field)
   owed-kind rules Held = owed-held (length field)
   owed-kind rules Other = owed-encoded true
@@ -68,7 +86,7 @@ module _ {field : List ℕ} (s : Shaped field) where
   owed-field : (rules : Rules) → Owed (length field) (fateOf rules field)
   unfolding fateOf
   owed-field rules =
-      cond-has (Owed (length field)) (all isAscii (valueOf field)) (written (raw field ∷ [])) (kindFate rules (kindOf (nameOf field)) (nameOf field) (textOf field))
+      cond-has (Owed (length field)) (all isAscii (valueOf field)) (written (raw field ∷ [])) (kindFate rules (kindOf (nameOf field)) field)
       owed-copied
       (λ t. owed-kind rules (kindOf (nameOf field)))
 

@@ -1,20 +1,20 @@
 // Held fields.
 ghost use mathlib.Core.Path.{_≡_};
-ghost use Rattle.outgoing_field.specs.Fate.{isHeld, kindFate, fateOf, heldOf};
+ghost use Rattle.outgoing_field.specs.Fate.{isHeld, fateOf, heldOf};
 ghost use Rattle.outgoing_field.specs.FateLaws.{holds};
 use crate::HeldField;
 use header_name::Kind;
 use rules::Rules;
 
 // Whether a field of a kind is held where its value is not ASCII.
-fn holds(kind: Kind) -> bool
-    ensures { λ r. ⌜ r ≡ holds kind ⌝ }
+fn holds(kind: Kind, field: &[u8]) -> bool
+    ensures { λ r. ⌜ r ≡ holds kind (now (field .entry)) ⌝ }
 {
     match kind {
         Kind::Address => false,
         Kind::PlainText => false,
         Kind::Received => true,
-        Kind::Commented => true,
+        Kind::Commented => !structured_field::ascii_outside_comments(header::value(field)),
         Kind::Parameterized => true,
         Kind::Held => true,
         Kind::Other => false,
@@ -29,7 +29,7 @@ pub fn is_held(rules: Rules, field: &[u8]) -> bool
         return false;
     }
     let n = header_line::name_len(field);
-    holds(header_name::kind_of(&field[..n]))
+    holds(header_name::kind_of(&field[..n]), field)
 }
 
 // The first held field of a header. Fields that are wholly ASCII are passed over together.

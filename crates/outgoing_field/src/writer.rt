@@ -1,10 +1,10 @@
 // What is written for the fields of a header.
 ghost use mathlib.Core.Path.{_≡_};
-ghost use Prim.Native.Nat.{_≤_};
+ghost use Prim.Native.Nat.{_*_, _≤_};
 ghost use lib.ListN.{length};
 ghost use Rattle.buffer.specs.Buffer.{AppendedCapped};
 ghost use Rattle.encoded_word.specs.Segments.{rendered};
-ghost use Rattle.header.specs.Fields.{nameOf, textOf};
+ghost use Rattle.header_name.specs.declared.Kind.the-variants.{Commented};
 ghost use Rattle.outgoing_field.specs.Fate.{kindFate, segmentsOf, fieldSegments, headerSegments, limited};
 ghost use Rattle.outgoing_field.specs.FateLaws.{needsScratch, limitedLen, Served, Roomy};
 use field_text::TextPlace;
@@ -14,24 +14,39 @@ use rules::Rules;
 // The most bytes that a header has, and so a field.
 const LIMIT: usize = 32768;
 
-// A field by its kind, its name and its text. A phrase of an address field needs a scratch.
+// A field with comments, where it is not held.
+fn add_commented(out: &mut [u8], at: usize, rules: Rules, field: &[u8], scratch: &mut [u8]) -> usize
+    requires { ⌜ (length (now field) ≤ 32768) × (2 * length (now field) ≤ length (now scratch)) ⌝ }
+    ensures { λ r. ⌜ AppendedCapped (rendered (segmentsOf (kindFate rules Commented (now (field .entry))))) at (now (out .entry)) (now (out .exit)) r ⌝ }
+{
+    let value = header::value(field);
+    if !structured_field::ascii_outside_comments(value) {
+        return at;
+    }
+    let n = header_line::name_len(field);
+    structured_field::add_field(out, at, &field[..n], value, scratch)
+}
+
+// A field by its kind and its text. An address field and one with comments need a scratch.
 fn add_by_kind(
     out: &mut [u8],
     at: usize,
     rules: Rules,
     kind: Kind,
-    name: &[u8],
+    field: &[u8],
     text: &[u8],
     scratch: &mut [u8],
 ) -> usize
-    requires { ⌜ Served kind (now text) (now scratch) ⌝ }
-    ensures { λ r. ⌜ AppendedCapped (rendered (segmentsOf (kindFate rules kind (now (name .entry)) (now (text .entry))))) at (now (out .entry)) (now (out .exit)) r ⌝ }
+    requires { ⌜ Served kind (now field) (now text) (now scratch) ⌝ }
+    ensures { λ r. ⌜ AppendedCapped (rendered (segmentsOf (kindFate rules kind (now (field .entry))))) at (now (out .entry)) (now (out .exit)) r ⌝ }
 {
+    let n = header_line::name_len(field);
+    let name = &field[..n];
     match kind {
         Kind::Address => address_pieces::add_field(out, at, rules, name, text, scratch),
         Kind::PlainText => field::add_encoded(out, at, name, text, false),
         Kind::Received => at,
-        Kind::Commented => at,
+        Kind::Commented => add_commented(out, at, rules, field, scratch),
         Kind::Parameterized => at,
         Kind::Held => at,
         Kind::Other => field::add_encoded(out, at, name, text, true),
@@ -49,9 +64,8 @@ fn add_with(
     scratch: &mut [u8],
 ) -> usize
     requires { ⌜ Roomy (now field) (now made) (now scratch) ⌝ }
-    ensures { λ r. ⌜ AppendedCapped (rendered (segmentsOf (kindFate rules kind (nameOf (now (field .entry))) (textOf (now (field .entry)))))) at (now (out .entry)) (now (out .exit)) r ⌝ }
+    ensures { λ r. ⌜ AppendedCapped (rendered (segmentsOf (kindFate rules kind (now (field .entry))))) at (now (out .entry)) (now (out .exit)) r ⌝ }
 {
-    let n = header_line::name_len(field);
     match field_text::place(field) {
         TextPlace::InPlace(from, to) => {
             add_by_kind(
@@ -59,14 +73,14 @@ fn add_with(
                 at,
                 rules,
                 kind,
-                &field[..n],
+                field,
                 line::part(field, from, to),
                 scratch,
             )
         }
         TextPlace::Folded => {
             let size = field_text::put(made, field);
-            add_by_kind(out, at, rules, kind, &field[..n], &made[..size], scratch)
+            add_by_kind(out, at, rules, kind, field, &made[..size], scratch)
         }
     }
 }
@@ -74,7 +88,7 @@ fn add_with(
 // A field of at most 1,024 bytes: small buffers take less time to clear.
 fn add_short(out: &mut [u8], at: usize, rules: Rules, kind: Kind, field: &[u8]) -> usize
     requires { ⌜ length (now field) ≤ 1024 ⌝ }
-    ensures { λ r. ⌜ AppendedCapped (rendered (segmentsOf (kindFate rules kind (nameOf (now (field .entry))) (textOf (now (field .entry)))))) at (now (out .entry)) (now (out .exit)) r ⌝ }
+    ensures { λ r. ⌜ AppendedCapped (rendered (segmentsOf (kindFate rules kind (now (field .entry))))) at (now (out .entry)) (now (out .exit)) r ⌝ }
 {
     let mut made = [0u8; 1024];
     let mut scratch = [0u8; 2048];
@@ -83,7 +97,7 @@ fn add_short(out: &mut [u8], at: usize, rules: Rules, kind: Kind, field: &[u8]) 
 
 fn add_long(out: &mut [u8], at: usize, rules: Rules, kind: Kind, field: &[u8]) -> usize
     requires { ⌜ length (now field) ≤ 32768 ⌝ }
-    ensures { λ r. ⌜ AppendedCapped (rendered (segmentsOf (kindFate rules kind (nameOf (now (field .entry))) (textOf (now (field .entry)))))) at (now (out .entry)) (now (out .exit)) r ⌝ }
+    ensures { λ r. ⌜ AppendedCapped (rendered (segmentsOf (kindFate rules kind (now (field .entry))))) at (now (out .entry)) (now (out .exit)) r ⌝ }
 {
     let mut made = [0u8; 32768];
     let mut scratch = [0u8; 65536];
@@ -98,7 +112,7 @@ fn needs_scratch(kind: Kind) -> bool
         Kind::Address => true,
         Kind::PlainText => false,
         Kind::Received => false,
-        Kind::Commented => false,
+        Kind::Commented => true,
         Kind::Parameterized => false,
         Kind::Held => false,
         Kind::Other => false,
@@ -108,18 +122,17 @@ fn needs_scratch(kind: Kind) -> bool
 // A field whose value is not ASCII. Most texts that are encoded whole have no fold, and need no buffer.
 fn add_non_ascii(out: &mut [u8], at: usize, rules: Rules, kind: Kind, field: &[u8]) -> usize
     requires { ⌜ length (now field) ≤ 32768 ⌝ }
-    ensures { λ r. ⌜ AppendedCapped (rendered (segmentsOf (kindFate rules kind (nameOf (now (field .entry))) (textOf (now (field .entry)))))) at (now (out .entry)) (now (out .exit)) r ⌝ }
+    ensures { λ r. ⌜ AppendedCapped (rendered (segmentsOf (kindFate rules kind (now (field .entry))))) at (now (out .entry)) (now (out .exit)) r ⌝ }
 {
     if !needs_scratch(kind) {
         if let TextPlace::InPlace(from, to) = field_text::place(field) {
-            let n = header_line::name_len(field);
             let mut none = [0u8; 0];
             return add_by_kind(
                 out,
                 at,
                 rules,
                 kind,
-                &field[..n],
+                field,
                 line::part(field, from, to),
                 &mut none,
             );

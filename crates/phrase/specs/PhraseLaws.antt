@@ -1,6 +1,6 @@
 -- Laws of the words of a phrase and of its text, as code goes over them. Assumes nothing.
 use mathlib.Core.Path.{_≡_, refl, ap, _∙_}
-use mathlib.Core.Bool.{cond, false}
+use mathlib.Core.Bool.{cond}
 use mathlib.Core.List.{List, [], _∷_, _++_, map}
 use Prim.Native.Nat.{ℕ, zero, suc, pred, _+_, _-_, _*_, _≤_, _<_, zero-le}
 use native.Mathlib.Nat.{not-suc-le-zero}
@@ -92,7 +92,7 @@ after-spaces-le (suc k) (b ∷ t) = after-spaces-le k t
 after-spaces-le zero (b ∷ t) =
     let n : ℕ = wordSize (b ∷ t) in
     let m : ℕ = pred (n + run blank (drop n (b ∷ t))) in
-    rw length-append (omega (arith, after-spaces-le m t, length-drop m t, length-take n (b ∷ t), word-size-some b t, length-unquoted false (take n (b ∷ t))))
+    rw length-append (omega (arith, after-spaces-le m t, length-drop m t, length-take n (b ∷ t), word-size-some b t, length-unquoted (take n (b ∷ t))))
 
 pub length-phrase-text : (t : List ℕ) → length (phraseText t) ≤ 2 * length t
 unfolding phraseText phraseWords joinedBySpaces afterSpaces

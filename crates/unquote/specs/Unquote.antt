@@ -4,17 +4,22 @@ use mathlib.Core.List.{List, [], _∷_, _++_}
 use Prim.Native.Nat.{ℕ}
 use lib.Dec.{eqb}
 
--- what stays of a byte: a quote (34) or a backslash (92) goes, unless it is escaped
-unfoldable pub kept : Bool → ℕ → List ℕ
-kept escaped b = cond (not escaped && (eqb b 34 || eqb b 92)) [] (b ∷ [])
-
-unfoldable pub escapes : Bool → ℕ → Bool
+-- whether the byte after b is escaped: a backslash (92) escapes it that is not escaped itself
+abbrev pub escapes : Bool → ℕ → Bool
 escapes escaped b = not escaped && eqb b 92
 
--- a text "without quoting and escapes"; neither quotes nor backslashes stand in a word that is no quoted string
-unfoldable pub unquotedFrom : Bool → List ℕ → List ℕ
-unquotedFrom escaped [] = []
-unquotedFrom escaped (b ∷ text) = kept escaped b ++ unquotedFrom (escapes escaped b) text
+unfoldable pub kept : Bool → ℕ → List ℕ
+kept stays b = cond stays (b ∷ []) []
 
+-- the bytes of a text that stay, by a test of each byte and whether it is escaped
+unfoldable pub keptFrom : (Bool → ℕ → Bool) → Bool → List ℕ → List ℕ
+keptFrom stays escaped [] = []
+keptFrom stays escaped (b ∷ text) = kept (stays escaped b) b ++ keptFrom stays (escapes escaped b) text
+
+-- a quote (34) or a backslash goes, unless it is escaped
+abbrev pub staysUnquoted : Bool → ℕ → Bool
+staysUnquoted escaped b = escaped || not (eqb b 34 || eqb b 92)
+
+-- a text "without quoting and escapes"; neither quotes nor backslashes stand in a word that is no quoted string
 unfoldable pub unquoted : List ℕ → List ℕ
-unquoted text = unquotedFrom false text
+unquoted text = keptFrom staysUnquoted false text

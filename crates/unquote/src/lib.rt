@@ -1,21 +1,20 @@
 // Text without quoting and escapes.
 ghost use mathlib.Core.Path.{_≡_};
 ghost use Rattle.buffer.specs.Buffer.{AppendedCapped};
-ghost use Rattle.unquote.specs.Unquote.{kept, escapes, unquoted};
+ghost use Rattle.unquote.specs.Unquote.{escapes, kept, unquoted};
 
 // Whether a byte escapes the next.
-fn escapes(escaped: bool, b: u8) -> bool
+pub fn escapes(escaped: bool, b: u8) -> bool
     ensures { λ r. ⌜ r ≡ escapes escaped b ⌝ }
 {
     !escaped & (b == b'\\')
 }
 
-// A byte, unless it is a quote or a backslash that is not escaped.
-fn add_kept(out: &mut [u8], at: usize, escaped: bool, b: u8) -> usize
-    ensures { λ r. ⌜ AppendedCapped (kept escaped b) at (now (out .entry)) (now (out .exit)) r ⌝ }
+// Writes a byte at a place where it stays.
+pub fn add_kept(out: &mut [u8], at: usize, stays: bool, b: u8) -> usize
+    ensures { λ r. ⌜ AppendedCapped (kept stays b) at (now (out .entry)) (now (out .exit)) r ⌝ }
 {
-    let goes = !escaped & ((b == b'"') | (b == b'\\'));
-    if goes {
+    if !stays {
         return at;
     }
     buffer::add_byte(out, at, b)
@@ -30,7 +29,8 @@ pub fn add_unquoted(out: &mut [u8], at: usize, text: &[u8]) -> usize
     let mut i = 0;
     while i < text.len() {
         let b = text[i];
-        next = add_kept(out, next, escaped, b);
+        let stays = escaped | !((b == b'"') | (b == b'\\'));
+        next = add_kept(out, next, stays, b);
         escaped = escapes(escaped, b);
         i += 1;
     }

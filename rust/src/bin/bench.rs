@@ -76,6 +76,20 @@ fn one_text(size: usize) -> Vec<u8> {
     out
 }
 
+/// One field of nested comments; the unclosed one has a last `)` less.
+fn nested(size: usize, name: &str, closed: bool) -> Vec<u8> {
+    let mut out = format!("{name}: (é) ").into_bytes();
+    let lines = (size - 50) / 950;
+    let half = (size - 50 - 3 * lines) / 2;
+    let parentheses = [vec![b'('; half], vec![b')'; half - !closed as usize]].concat();
+    for line in parentheses.chunks(950) {
+        out.extend_from_slice(b"\r\n ");
+        out.extend_from_slice(line);
+    }
+    out.extend_from_slice(b"\r\n a@b\r\n");
+    out
+}
+
 struct Buffers {
     envelope: Vec<u8>,
     header: Vec<u8>,
@@ -134,5 +148,11 @@ fn main() {
     }
     for size in [1, 4, 16, 32] {
         compare(&format!("nearly all ASCII, {size} KB"), &nearly_ascii(size * 1024));
+    }
+    for (name, closed) in [("To", true), ("To", false), ("Date", true), ("Date", false)] {
+        for size in [1, 4, 16, 32] {
+            let label = if closed { "nested comments" } else { "unclosed comment" };
+            compare(&format!("{label}, {name}, {size} KB"), &nested(size * 1024, name, closed));
+        }
     }
 }

@@ -2,6 +2,8 @@
 //!
 //!     fuzz [--seed N] [--count N] [--seconds N]
 
+use hennelaku_model::address_list::Parts;
+use hennelaku_model::comment::{self, Part};
 use hennelaku_model::generate::{self, Random};
 use hennelaku_model::header::{kind, next_non_ascii, Kind};
 use hennelaku_model::{address_list, downgrade, header, proved, Answer};
@@ -141,6 +143,7 @@ fn look(met: &mut Met, input: &Input, got: &Outcome) {
     met.count("header line of 998", lines(&input.header, 998) && matches!(number, 0 | 6..=8));
     met.count("header line of 999", lines(&input.header, 999) && number == 5);
     met.count("6 for an ORCPT", number == 6 && has(&input.envelope.to_ascii_uppercase(), b"ORCPT=UTF-8"));
+    met.count("6 for a field with a comment", number == 6 && held_beside_a_comment(&input.header));
     if number != 0 {
         return;
     }
@@ -150,6 +153,7 @@ fn look(met: &mut Met, input: &Input, got: &Outcome) {
     met.count("several RCPT lines, replaced", envelope_lines > 2 && got.answer.envelope_len < input.envelope.len());
     met.count("header copied whole", out == input.header);
     let mut fields = [0; 6];
+    let mut comments = Comments::default();
     let (mut names_of_76, mut folded, mut groups, mut words_of_900) = (0, 0, 0, 0);
     let mut from = 0;
     while let Some(field) = next_non_ascii(&input.header, from) {
@@ -158,6 +162,15 @@ fn look(met: &mut Met, input: &Input, got: &Outcome) {
         let at = match kind(field.name) {
             Kind::Plain => 0,
             Kind::Other | Kind::Held => 1,
+            Kind::HeldOutsideComments => {
+                comment::stretches(field.value, |stretch, is_comment| {
+                    if is_comment {
+                        comments.look(stretch, false);
+                    }
+                });
+                from = field.end;
+                continue;
+            }
             Kind::Address => match address_list::replaces(&text) {
                 None => 2,
                 Some(false) => 3,
@@ -167,6 +180,7 @@ fn look(met: &mut Met, input: &Input, got: &Outcome) {
         };
         fields[at] += 1;
         if at > 2 {
+            let _ = address_list::list(&text, &mut comments);
             groups += text.ends_with(b";") as usize;
             words_of_900 += text.split(|&b| b" \t<>,:;\"".contains(&b)).any(|word| word.len() == 900) as usize;
         }
@@ -186,6 +200,95 @@ fn look(met: &mut Met, input: &Input, got: &Outcome) {
     met.count("folded field", folded > 0);
     met.count("room that is not measured for", input.header_room >= ample(&input.header));
     met.count("room one short of that", input.header_room + 1 == ample(&input.header));
+    met.count("comment rewritten", comments.rewritten > 0);
+    met.count("comment rewritten in an address field", comments.rewritten_in_address_fields > 0);
+    met.count("comment rewritten in another field", comments.rewritten > comments.rewritten_in_address_fields);
+    met.count("comment rewritten inside another", comments.inner > 0);
+    met.count("comment rewritten without escapes", comments.escapes > 0);
+    met.count("comment rewritten without folds, outside address fields", comments.folds > 0);
+    met.count("comment with a blank run dropped", comments.blank_runs > 0);
+    met.count("comment with a run of 900 that fits", comments.runs_of_900 > 0);
+    met.count("comment more than 1,000 deep", comments.deepest > 1000);
+    met.count("comma after a comment", comments.commas > 0);
+}
+
+/// What stands in the comments of a header that is written.
+#[derive(Default)]
+struct Comments {
+    rewritten: usize,
+    rewritten_in_address_fields: usize,
+    /// Inside another one.
+    inner: usize,
+    escapes: usize,
+    folds: usize,
+    blank_runs: usize,
+    runs_of_900: usize,
+    deepest: usize,
+    /// Straight behind a comment of an address field.
+    commas: usize,
+    last_was_comment: bool,
+}
+
+impl Comments {
+    fn look(&mut self, comment: &[u8], address_field: bool) {
+        let mut depth = 0;
+        self.rewritten += !comment.is_ascii() as usize;
+        self.rewritten_in_address_fields += (!comment.is_ascii() && address_field) as usize;
+        comment::parts(comment, |part| match part {
+            Part::Parenthesis(b'(') => {
+                depth += 1;
+                self.deepest = self.deepest.max(depth);
+            }
+            Part::Parenthesis(_) => depth -= 1,
+            Part::Run(run) => {
+                self.blank_runs += (address_field && run.iter().all(|&b| b == b' ' || b == b'\t')) as usize;
+                self.runs_of_900 += (address_field && run.len() == 900) as usize;
+                if !run.is_ascii() {
+                    self.inner += (depth > 1) as usize;
+                    self.escapes += run.contains(&b'\\') as usize;
+                    self.folds += run.contains(&b'\r') as usize;
+                }
+            }
+        });
+    }
+}
+
+impl Parts for Comments {
+    fn phrase(&mut self, _phrase: &[u8]) {}
+    fn bare(&mut self, _address: &[u8]) {
+        self.last_was_comment = false;
+    }
+    fn angle(&mut self, _address: &[u8]) {
+        self.last_was_comment = false;
+    }
+    fn alternative(&mut self, _address: &[u8]) {
+        self.last_was_comment = false;
+    }
+    fn mark(&mut self, mark: u8) {
+        self.commas += (mark == b',' && self.last_was_comment) as usize;
+        self.last_was_comment = false;
+    }
+    fn comment(&mut self, comment: &[u8]) {
+        self.last_was_comment = true;
+        self.look(comment, true);
+    }
+}
+
+/// The first field that is held for non-ASCII outside its comments has a comment.
+fn held_beside_a_comment(header: &[u8]) -> bool {
+    let mut from = 0;
+    while let Some(field) = next_non_ascii(header, from) {
+        let (mut outside, mut inside) = (false, false);
+        comment::stretches(field.value, |stretch, is_comment| {
+            outside |= !is_comment && !stretch.is_ascii();
+            inside |= is_comment && !stretch.is_ascii();
+        });
+        if kind(field.name) == Kind::HeldOutsideComments && outside {
+            return inside;
+        }
+        from = field.end;
+    }
+    false
 }
 
 fn option(name: &str) -> Option<u64> {

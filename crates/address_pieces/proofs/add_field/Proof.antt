@@ -1,5 +1,5 @@
 use lib.ListN.{length}
-use Rattle.address_pieces.specs.WritingLaws.{served}
+use Rattle.piece.specs.PieceLaws.{served}
 use native.Mathlib.Omega.{arith}
 use borrow.Author.Needs.{needs}
 use Rattle.address_pieces.proofs.add_field.Statement.{statement}

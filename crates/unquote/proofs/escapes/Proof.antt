@@ -1,10 +1,8 @@
 use mathlib.Core.Path.{refl}
-use Rattle.unquote.specs.Unquote.{escapes}
 use Rattle.unquote.proofs.escapes.Statement.{statement}
 use Rattle.unquote.proofs.escapes.Tie as tie
 
 returns : tie.Need-returns
-unfolding escapes
 returns c = refl
 
 pub escapes-spec : {M : Type 1} → statement M

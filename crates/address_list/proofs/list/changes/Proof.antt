@@ -23,6 +23,9 @@ enum-told-5 c = search needs
 enum-told-6 : tie.Need-enum-told-6
 enum-told-6 c = search needs
 
+enum-told-7 : tie.Need-enum-told-7
+enum-told-7 c = search needs
+
 is-ascii-requires : tie.Need-is-ascii-requires
 is-ascii-requires c κs = search needs
 
@@ -44,11 +47,11 @@ part-is-ascii-end c = omega (arith, rw (c .before .kind .given .1) at (c .before
 is-ascii-requires-2 : tie.Need-is-ascii-requires-2
 is-ascii-requires-2 c κs = search needs
 
-enum-told-7 : tie.Need-enum-told-7
-enum-told-7 c = search needs
-
 enum-told-8 : tie.Need-enum-told-8
 enum-told-8 c = search needs
+
+enum-told-9 : tie.Need-enum-told-9
+enum-told-9 c = search needs
 
 returns : tie.Need-returns
 unfolding changes
@@ -72,18 +75,22 @@ returns-5 c = rw (c .enum-told5 .given .1)
 
 returns-6 : tie.Need-returns-6
 unfolding changes
-returns-6 c = rw (c .before .enum-told6 .given .1, c .is-ascii .ensures)
+returns-6 c = rw (c .enum-told6 .given .1)
 
 returns-7 : tie.Need-returns-7
-returns-7 c = rw (c .before .before .before .kind .given .1, c .is-ascii2 .ensures) (changes-angled _ _ _)
+unfolding changes
+returns-7 c = rw (c .before .enum-told7 .given .1, c .is-ascii .ensures)
 
 returns-8 : tie.Need-returns-8
-unfolding changes
-returns-8 c = rw (c .enum-told7 .given .1)
+returns-8 c = rw (c .before .before .before .kind .given .1, c .is-ascii2 .ensures) (changes-angled _ _ _)
 
 returns-9 : tie.Need-returns-9
 unfolding changes
 returns-9 c = rw (c .enum-told8 .given .1)
+
+returns-10 : tie.Need-returns-10
+unfolding changes
+returns-10 c = rw (c .enum-told9 .given .1)
 
 pub changes-spec : {M : Type 1} → statement M
 changes-spec =
@@ -95,6 +102,7 @@ changes-spec =
     enum-told-4
     enum-told-5
     enum-told-6
+    enum-told-7
     is-ascii-requires
     enum-known-kind
     add-end
@@ -102,8 +110,8 @@ changes-spec =
     part-is-ascii-start
     part-is-ascii-end
     is-ascii-requires-2
-    enum-told-7
     enum-told-8
+    enum-told-9
     returns
     returns-2
     returns-3
@@ -112,4 +120,5 @@ changes-spec =
     returns-6
     returns-7
     returns-8
-    returns-9)
+    returns-9
+    returns-10)

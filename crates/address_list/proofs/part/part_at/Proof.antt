@@ -1,6 +1,6 @@
 use mathlib.Core.Path.{refl, sym, _∙_}
 use Rattle.address_list.specs.declared.PartKind.the-variants.{Blank, Comma, Colon, Semicolon}
-use Rattle.address_list.specs.PartsLaws.{took-mark, took-as, part-blank, part-comma, part-colon, part-semicolon, part-angled, part-named}
+use Rattle.address_list.specs.PartsLaws.{took-mark, took-as, part-blank, part-comma, part-colon, part-semicolon, part-angled, part-comment, part-named}
 use borrow.Author.Needs.{needs}
 use Rattle.address_list.proofs.part.part_at.Statement.{statement}
 use Rattle.address_list.proofs.part.part_at.Tie as tie
@@ -41,11 +41,17 @@ angled-requires c κs = search needs
 returns-5 : tie.Need-returns-5
 returns-5 c = took-as (c .angled .ensures) (part-angled _ (c .before .before .before .before .before .before .before .before .before .args .t .now) (sym (c .before .before .before .before .before .before .is-blank .ensures) ∙ c .before .before .before .before .before .if1 .left) (c .before .before .before .before .if2 .left) (c .before .before .before .if3 .left) (c .before .before .if4 .left) (c .before .if5 .taken))
 
+commented-requires : tie.Need-commented-requires
+commented-requires c κs = search needs
+
+returns-6 : tie.Need-returns-6
+returns-6 c = took-as (c .commented .ensures) (part-comment _ (c .before .before .before .before .before .before .before .before .before .before .args .t .now) (sym (c .before .before .before .before .before .before .before .is-blank .ensures) ∙ c .before .before .before .before .before .before .if1 .left) (c .before .before .before .before .before .if2 .left) (c .before .before .before .before .if3 .left) (c .before .before .before .if4 .left) (c .before .before .if5 .left) (c .before .if6 .taken))
+
 named-requires : tie.Need-named-requires
 named-requires c κs = search needs
 
-returns-6 : tie.Need-returns-6
-returns-6 c = took-as (c .named .ensures) (part-named _ (c .before .before .before .before .before .before .before .before .before .args .t .now) (sym (c .before .before .before .before .before .before .is-blank .ensures) ∙ c .before .before .before .before .before .if1 .left) (c .before .before .before .before .if2 .left) (c .before .before .before .if3 .left) (c .before .before .if4 .left) (c .before .if5 .left))
+returns-7 : tie.Need-returns-7
+returns-7 c = took-as (c .named .ensures) (part-named _ (c .before .before .before .before .before .before .before .before .before .before .args .t .now) (sym (c .before .before .before .before .before .before .before .is-blank .ensures) ∙ c .before .before .before .before .before .before .if1 .left) (c .before .before .before .before .before .if2 .left) (c .before .before .before .before .if3 .left) (c .before .before .before .if4 .left) (c .before .before .if5 .left) (c .before .if6 .left))
 
 pub part-at-spec : {M : Type 1} → statement M
 part-at-spec =
@@ -63,5 +69,7 @@ part-at-spec =
     returns-4
     angled-requires
     returns-5
+    commented-requires
+    returns-6
     named-requires
-    returns-6)
+    returns-7)

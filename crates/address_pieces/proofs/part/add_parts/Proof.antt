@@ -1,5 +1,5 @@
 use borrow.Author.Needs.{needs}
-use Rattle.address_pieces.specs.WritingLaws.{turn-less}
+use Rattle.piece.specs.PieceLaws.{turn-less}
 use Rattle.address_pieces.specs.PiecesLaws.{pieces-step, pieces-end, part-fits}
 use Rattle.address_pieces.specs.Pieces.{piecesOf}
 use Rattle.address_list.specs.Parts.{partsOf, partsFrom}

@@ -1,4 +1,4 @@
-use Rattle.address_pieces.specs.WritingLaws.{wrote-same}
+use Rattle.piece.specs.PieceLaws.{wrote-same}
 use Rattle.address_pieces.specs.Pieces.{inAngles}
 use Rattle.address_pieces.specs.PiecesLaws.{address-ascii, address-high}
 use mathlib.Core.Path.{sym, _∙_}

@@ -1,5 +1,5 @@
-use Rattle.address_pieces.specs.WritingLaws.{wrote-same}
-use Rattle.address_pieces.specs.Pieces.{piece}
+use Rattle.piece.specs.PieceLaws.{wrote-same}
+use Rattle.piece.specs.Piece.{piece}
 use Rattle.address_pieces.specs.PiecesLaws.{address-ascii, address-high}
 use mathlib.Core.Path.{sym, _∙_}
 use borrow.Author.Needs.{needs}

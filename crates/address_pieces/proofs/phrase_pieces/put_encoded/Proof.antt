@@ -1,4 +1,4 @@
-use Rattle.address_pieces.specs.WritingLaws.{phrase-within, phrase-size, phrase-encoded}
+use Rattle.address_pieces.specs.WritingLaws.{phrase-made}
 use borrow.Author.Needs.{needs}
 use Rattle.address_pieces.proofs.phrase_pieces.put_encoded.Statement.{statement}
 use Rattle.address_pieces.proofs.phrase_pieces.put_encoded.Tie as tie
@@ -7,10 +7,10 @@ add-text-requires : tie.Need-add-text-requires
 add-text-requires c κs = search needs
 
 slice-reshare-prefix-write : tie.Need-slice-reshare-prefix-write
-slice-reshare-prefix-write c = phrase-within _ (c .before .before .before .add-text .ensures) (c .before .before .before .before .before .before .before .before .pre .0) (c .before .before .before .before .before .before .before .before .pre .1)
+slice-reshare-prefix-write c = phrase-made _ (c .before .before .before .add-text .ensures) (c .before .before .before .before .before .before .before .before .pre .0) (c .before .before .before .before .before .before .before .before .pre .1) .within
 
 slice-aggregate-write : tie.Need-slice-aggregate-write
-slice-aggregate-write c = phrase-size _ (c .before .before .before .before .add-text .ensures) (c .before .before .before .before .before .before .before .before .before .pre .0) (c .before .before .before .before .before .before .before .before .before .pre .1)
+slice-aggregate-write c = phrase-made _ (c .before .before .before .before .add-text .ensures) (c .before .before .before .before .before .before .before .before .before .pre .0) (c .before .before .before .before .before .before .before .before .before .pre .1) .size
 
 write-requires : tie.Need-write-requires
 write-requires c κs = search needs
@@ -22,7 +22,7 @@ same-length-2 : tie.Need-same-length-2
 same-length-2 c = search needs
 
 returns : tie.Need-returns
-returns c = phrase-encoded _ (c .before .before .before .before .before .before .before .add-text .ensures) (c .before .before .before .before .before .before .before .before .before .before .before .before .pre .0) (c .before .before .before .before .before .before .before .before .before .before .before .before .pre .1) (c .before .before .write .ensures)
+returns c = phrase-made _ (c .before .before .before .before .before .before .before .add-text .ensures) (c .before .before .before .before .before .before .before .before .before .before .before .before .pre .0) (c .before .before .before .before .before .before .before .before .before .before .before .before .pre .1) .encoded (c .before .before .write .ensures)
 
 pub put-encoded-spec : {M : Type 1} → statement M
 put-encoded-spec =

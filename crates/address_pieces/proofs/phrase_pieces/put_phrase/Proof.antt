@@ -1,4 +1,4 @@
-use Rattle.address_pieces.specs.WritingLaws.{wrote-same}
+use Rattle.piece.specs.PieceLaws.{wrote-same}
 use Rattle.address_pieces.specs.PiecesLaws.{phrase-ascii, phrase-high}
 use mathlib.Core.Path.{sym, _∙_}
 use borrow.Author.Needs.{needs}

@@ -1,8 +1,8 @@
 use Rattle.address_pieces.specs.LengthLaws.{part-le, phrase-words-le}
-use Rattle.address_pieces.specs.WritingLaws.{turn-less}
+use Rattle.piece.specs.PieceLaws.{turn-less}
 use borrow.Author.Needs.{needs}
 use Rattle.address_pieces.specs.PiecesLaws.{word-pieces-step, word-pieces-end}
-use Rattle.address_pieces.specs.Pieces.{piece}
+use Rattle.piece.specs.Piece.{piece}
 use Rattle.phrase.specs.Phrase.{wordsFrom, phraseWords}
 use Rattle.encoded_word.specs.Segments.{rendered}
 use Rattle.buffer.specs.BufferLaws.{added-by, capped-start, capped-turn, capped-end, length-capped, wrote-of}

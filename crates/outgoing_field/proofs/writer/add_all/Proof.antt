@@ -7,12 +7,6 @@ use native.Mathlib.Omega.{arith}
 use lib.ListN.{length}
 use Rattle.outgoing_field.proofs.writer.add_all.Statement.{statement}
 use Rattle.outgoing_field.proofs.writer.add_all.Tie as tie
-use Rattle.outgoing_field.proofs.writer.add_all.Reads as reads
-use Rattle.outgoing_field.proofs.writer.add_all.Lts as lts
-use Rattle.buffer.proofs.add_slice.Reads as add-slice-reads
-use Rattle.header.proofs.ascii_fields_end.Reads as ascii-fields-end-reads
-use Rattle.header.proofs.field_end.Reads as field-end-reads
-use Rattle.outgoing_field.proofs.writer.add_limited.Reads as add-limited-reads
 
 abbrev Inv-loop : tie.InvT-loop
 Inv-loop out₀ at rules h next₀ i₀ out next i = Fielding rules h i at out₀ out next
@@ -20,71 +14,54 @@ Inv-loop out₀ at rules h next₀ i₀ out next i = Fielding rules h i at out�
 abbrev μ-loop : tie.MeasureT-loop
 μ-loop out₀ at rules h next₀ i₀ out next i = length h - i
 
--- src/writer.rt:167:5
 loop-holds : tie.Need-loop-holds Inv-loop μ-loop
 loop-holds c = fielding-start _ _ _ _ (omega arith)
 
--- src/writer.rt:168:13
 ascii-fields-end-requires : tie.Need-ascii-fields-end-requires Inv-loop μ-loop
 ascii-fields-end-requires c κs = search needs
 
--- src/writer.rt:169:45
 sub-add-slice : tie.Need-sub-add-slice Inv-loop μ-loop
 sub-add-slice c = omega (arith, ascii-fields (c .before .ascii-fields-end .ensures) .up)
 
--- src/writer.rt:169:45
 part-add-slice-start : tie.Need-part-add-slice-start Inv-loop μ-loop
 part-add-slice-start c = omega (arith, ascii-fields (c .before .ascii-fields-end .ensures) .up)
 
--- src/writer.rt:169:45
 part-add-slice-end : tie.Need-part-add-slice-end Inv-loop μ-loop
 part-add-slice-end c = let k = ascii-fields (c .before .ascii-fields-end .ensures) .inside (omega (arith, c .before .before .loop-test .taken)) in omega (arith, k)
 
--- src/writer.rt:169:9
 add-slice-requires : tie.Need-add-slice-requires Inv-loop μ-loop
 add-slice-requires c κs = search needs
 
--- src/writer.rt:171:13
 same-length : tie.Need-same-length Inv-loop μ-loop
 same-length c = length-fielding (fielding-skip (c .before .before .before .before .before .before .before .before .loop .inv) (omega arith) (ascii-fields (c .before .before .before .before .before .before .ascii-fields-end .ensures)) (c .before .before .before .add-slice .ensures))
 
--- src/writer.rt:171:13
 returns : tie.Need-returns Inv-loop μ-loop
 returns c = fielding-end (fielding-skip (c .before .before .before .before .before .before .before .before .loop .inv) (omega arith) (ascii-fields (c .before .before .before .before .before .before .ascii-fields-end .ensures)) (c .before .before .before .add-slice .ensures)) (c .if1 .taken)
 
--- src/writer.rt:173:13
 field-end-requires : tie.Need-field-end-requires Inv-loop μ-loop
 field-end-requires c κs = search needs
 
--- src/writer.rt:174:46
 sub-add-limited : tie.Need-sub-add-limited Inv-loop μ-loop
 sub-add-limited c = let a = field-after _ _ _ (c .before .before .if1 .left) (c .before .field-end .ensures) in omega (arith, a .0)
 
--- src/writer.rt:174:46
 part-add-limited-start : tie.Need-part-add-limited-start Inv-loop μ-loop
 part-add-limited-start c = let a = field-after _ _ _ (c .before .before .if1 .left) (c .before .field-end .ensures) in omega (arith, a .0)
 
--- src/writer.rt:174:46
 part-add-limited-end : tie.Need-part-add-limited-end Inv-loop μ-loop
 part-add-limited-end c = let a = field-after _ _ _ (c .before .before .if1 .left) (c .before .field-end .ensures) in omega (arith, a .1)
 
--- src/writer.rt:174:9
 add-limited-requires : tie.Need-add-limited-requires Inv-loop μ-loop
 add-limited-requires c κs = let a = field-after _ _ _ (c .before .before .before .if1 .left) (c .before .before .field-end .ensures) in omega (arith, a .1, c .before .before .before .before .before .before .before .before .before .before .before .before .before .before .pre)
 
--- src/writer.rt:167:5
 loop-less : tie.Need-loop-less Inv-loop μ-loop
 loop-less c = let a = field-after _ _ _ (c .before .before .before .before .before .before .if1 .left) (c .before .before .before .before .before .field-end .ensures) in omega (arith, a .0, a .1, ascii-fields (c .before .before .before .before .before .before .before .before .before .before .before .before .ascii-fields-end .ensures) .up, c .before .before .before .before .before .before .before .before .before .before .before .before .before .loop-test .taken)
 
--- src/writer.rt:167:5
 loop-again : tie.Need-loop-again Inv-loop μ-loop
 loop-again c = fielding-next (fielding-skip (c .before .before .before .before .before .before .before .before .before .before .before .before .before .before .loop .inv) (omega arith) (ascii-fields (c .before .before .before .before .before .before .before .before .before .before .before .before .ascii-fields-end .ensures)) (c .before .before .before .before .before .before .before .before .before .add-slice .ensures)) (omega arith) (c .before .before .before .before .before .before .if1 .left) (c .before .before .before .before .before .field-end .ensures) (c .before .before .add-limited .ensures)
 
--- src/writer.rt:161:1
 same-length-2 : tie.Need-same-length-2 Inv-loop μ-loop
 same-length-2 c = length-fielding (c .before .loop .inv)
 
--- src/writer.rt:161:1
 returns-2 : tie.Need-returns-2 Inv-loop μ-loop
 returns-2 c = fielding-end (c .before .loop .inv) (c .loop-test .left)
 

@@ -2,28 +2,19 @@ use Rattle.outgoing_field.specs.FateLaws.{limited-size, limited-within, 
 use borrow.Author.Needs.{needs}
 use Rattle.outgoing_field.proofs.writer.add_fields.Statement.{statement}
 use Rattle.outgoing_field.proofs.writer.add_fields.Tie as tie
-use Rattle.outgoing_field.proofs.writer.add_fields.Reads as reads
-use Rattle.outgoing_field.proofs.writer.add_fields.Lts as lts
-use Rattle.outgoing_field.proofs.writer.add_all.Reads as add-all-reads
-use Rattle.outgoing_field.proofs.writer.limited_len.Reads as limited-len-reads
 
--- src/writer.rt:185:9
 limited-len-requires : tie.Need-limited-len-requires
 limited-len-requires c κs = search needs
 
--- src/writer.rt:186:29
 slice-aggregate-add-all : tie.Need-slice-aggregate-add-all
 slice-aggregate-add-all c = limited-size _ _ (c .before .before .limited-len .ensures)
 
--- src/writer.rt:186:5
 add-all-requires : tie.Need-add-all-requires
 add-all-requires c κs = limited-within _ _ (c .before .before .limited-len .ensures)
 
--- src/writer.rt:182:1
 same-length : tie.Need-same-length
 same-length c = search needs
 
--- src/writer.rt:182:1
 returns : tie.Need-returns
 returns c = rw (limited-part _ _ (c .before .before .before .before .before .limited-len .ensures)) at (c .before .before .add-all .ensures)
 

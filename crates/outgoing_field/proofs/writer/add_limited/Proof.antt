@@ -4,51 +4,34 @@ use mathlib.Core.Path.{sym, _∙_}
 use borrow.Author.Needs.{needs}
 use Rattle.outgoing_field.proofs.writer.add_limited.Statement.{statement}
 use Rattle.outgoing_field.proofs.writer.add_limited.Tie as tie
-use Rattle.outgoing_field.proofs.writer.add_limited.Reads as reads
-use Rattle.outgoing_field.proofs.writer.add_limited.Lts as lts
-use Rattle.buffer.proofs.add_slice.Reads as add-slice-reads
-use Rattle.header.proofs.value_is_ascii.Reads as value-is-ascii-reads
-use Rattle.header_line.proofs.name_len.Reads as name-len-reads
-use Rattle.header_name.proofs.kind_of.Reads as kind-of-reads
-use Rattle.outgoing_field.proofs.writer.add_non_ascii.Reads as add-non-ascii-reads
 
--- src/writer.rt:138:8
 value-is-ascii-requires : tie.Need-value-is-ascii-requires
 value-is-ascii-requires c κs = search needs
 
--- src/writer.rt:139:9
 add-slice-requires : tie.Need-add-slice-requires
 add-slice-requires c κs = search needs
 
--- src/writer.rt:139:9
 same-length : tie.Need-same-length
 same-length c = search needs
 
--- src/writer.rt:139:9
 returns : tie.Need-returns
 returns c = added-copied _ _ (sym (c .before .before .before .before .before .value-is-ascii .ensures) ∙ c .before .before .before .before .if1 .taken) (c .before .before .add-slice .ensures)
 
--- src/writer.rt:141:9
 name-len-requires : tie.Need-name-len-requires
 name-len-requires c κs = search needs
 
--- src/writer.rt:142:56
 slice-aggregate-kind-of : tie.Need-slice-aggregate-kind-of
 slice-aggregate-kind-of c = name-size _ _ (c .before .before .name-len .ensures)
 
--- src/writer.rt:142:35
 kind-of-requires : tie.Need-kind-of-requires
 kind-of-requires c κs = search needs
 
--- src/writer.rt:142:5
 add-non-ascii-requires : tie.Need-add-non-ascii-requires
 add-non-ascii-requires c κs = search needs
 
--- src/writer.rt:134:1
 same-length-2 : tie.Need-same-length-2
 same-length-2 c = search needs
 
--- src/writer.rt:134:1
 returns-2 : tie.Need-returns-2
 returns-2 c = added-by-kind _ _ _ (sym (c .before .before .before .before .before .before .before .before .value-is-ascii .ensures) ∙ c .before .before .before .before .before .before .before .if1 .left) (c .before .before .before .before .before .before .name-len .ensures) (c .before .before .before .kind-of .ensures) (c .before .before .add-non-ascii .ensures)
 

@@ -2,68 +2,52 @@ use Rattle.outgoing_field.specs.FateLaws.{needsScratch}
 use borrow.Author.Needs.{needs}
 use Rattle.outgoing_field.proofs.writer.needs_scratch.Statement.{statement}
 use Rattle.outgoing_field.proofs.writer.needs_scratch.Tie as tie
-use Rattle.outgoing_field.proofs.writer.needs_scratch.Reads as reads
-use Rattle.outgoing_field.proofs.writer.needs_scratch.Lts as lts
 
--- src/writer.rt:98:26
 enum-told : tie.Need-enum-told
 enum-told c = search needs
 
--- src/writer.rt:99:28
 enum-told-2 : tie.Need-enum-told-2
 enum-told-2 c = search needs
 
--- src/writer.rt:100:27
 enum-told-3 : tie.Need-enum-told-3
 enum-told-3 c = search needs
 
--- src/writer.rt:101:28
 enum-told-4 : tie.Need-enum-told-4
 enum-told-4 c = search needs
 
--- src/writer.rt:102:32
 enum-told-5 : tie.Need-enum-told-5
 enum-told-5 c = search needs
 
--- src/writer.rt:103:23
 enum-told-6 : tie.Need-enum-told-6
 enum-told-6 c = search needs
 
--- src/writer.rt:104:24
 enum-told-7 : tie.Need-enum-told-7
 enum-told-7 c = search needs
 
--- src/writer.rt:94:1
 returns : tie.Need-returns
 unfolding needsScratch
 returns c = rw (c .enum-told .given .1)
 
--- src/writer.rt:94:1
 returns-2 : tie.Need-returns-2
 unfolding needsScratch
 returns-2 c = rw (c .enum-told2 .given .1)
 
--- src/writer.rt:94:1
 returns-3 : tie.Need-returns-3
 unfolding needsScratch
 returns-3 c = rw (c .enum-told3 .given .1)
 
--- src/writer.rt:94:1
 returns-4 : tie.Need-returns-4
 unfolding needsScratch
 returns-4 c = rw (c .enum-told4 .given .1)
 
--- src/writer.rt:94:1
 returns-5 : tie.Need-returns-5
 unfolding needsScratch
 returns-5 c = rw (c .enum-told5 .given .1)
 
--- src/writer.rt:94:1
 returns-6 : tie.Need-returns-6
 unfolding needsScratch
 returns-6 c = rw (c .enum-told6 .given .1)
 
--- src/writer.rt:94:1
 returns-7 : tie.Need-returns-7
 unfolding needsScratch
 returns-7 c = rw (c .enum-told7 .given .1)

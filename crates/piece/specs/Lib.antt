@@ -1,0 +1,4 @@
+pub mod Piece
+pub mod PieceLaws
+pub mod CommentPieces
+pub mod CommentPiecesLaws

@@ -1,0 +1,5 @@
+pub mod Tokens
+pub mod TokensLaws
+pub mod StructuredField
+pub mod StructuredFieldLaws
+pub mod WritingLaws

@@ -1,0 +1,85 @@
+-- Laws of what a structured field becomes: it is sound, how long it can be, and its writing part by part. Assumes nothing.
+use mathlib.Core.Bool.{Bool, true, _&&_, _||_}
+use mathlib.Core.List.{List, [], _∷_, _++_, append-nil, map}
+use Prim.Native.Nat.{ℕ, _+_, _-_, _*_, _≤_, _<_}
+use native.Mathlib.Omega.{arith}
+use lib.Dec.{T}
+use lib.ListN.{length, length-append}
+use mir.Facts.{and-yes, yes-and}
+use Rattle.lists.specs.Byte.{isAscii}
+use Rattle.lists.specs.CutByLaws.{cut-some}
+use Rattle.lists.specs.Lists.{all, joined}
+use Rattle.lists.specs.ListsLaws.{cond-has, no-false, all-append}
+use Rattle.utf8.specs.Utf8.{utf8}
+use Rattle.row.specs.RowLaws.{length-row-le}
+use Rattle.encoded_word.specs.Segments.{Segment, rendered, sound}
+use Rattle.encoded_word.specs.Segments.Segment.{raw, words}
+use Rattle.encoded_word.specs.SegmentsLaws.{rendered-append}
+use Rattle.comment.specs.Parts.{partLen, parts, runText}
+use Rattle.comment.specs.PartsLaws.{parts-joined}
+use Rattle.comment.specs.BoundaryLaws.{parts-utf8, run-text-utf8, length-run-text}
+use Rattle.encoded_word.specs.MappedLaws.{mapped-le, mapped-sound}
+use Rattle.structured_field.specs.Tokens.{tokenLen, tokens, isComment, commentOrAscii, asciiOutsideComments}
+use Rattle.structured_field.specs.TokensLaws.{tokens-joined, tokens-utf8}
+use Rattle.structured_field.specs.StructuredField.{partSegments, tokenSegments, valueSegments, structuredField}
+
+-- ---- soundness
+
+part-sound : (part : List ℕ) → T (utf8 part) → T (all sound (partSegments part))
+unfolding partSegments
+part-sound part h =
+    cond-has (λ (ss : List Segment). T (all sound ss)) (all isAscii part) (raw part ∷ []) (words (runText part) ∷ raw (13 ∷ 10 ∷ 32 ∷ []) ∷ [])
+    (λ t. yes-and (all isAscii part) true t tt)
+    (λ t. yes-and (utf8 (runText part)) true (run-text-utf8 part h) tt)
+
+-- a comment that is UTF-8, or ASCII
+abbrev fair : List ℕ → Bool
+fair token = utf8 token && commentOrAscii token
+
+token-sound : (token : List ℕ) → T (fair token) → T (all sound (tokenSegments token))
+unfolding tokenSegments commentOrAscii
+token-sound token h =
+    let both = and-yes (utf8 token) (isComment token || all isAscii token) h in
+    cond-has (λ (ss : List Segment). T (all sound ss)) (isComment token) (joined (map partSegments (parts token))) (raw token ∷ [])
+    (λ t. mapped-sound partSegments utf8 part-sound (parts token) (parts-utf8 token (both .0)))
+    (λ t. yes-and (all isAscii token) true (rw (no-false (isComment token) t) at (both .1)) tt)
+
+all-fair : (ts : List (List ℕ)) → T (all utf8 ts) → T (all commentOrAscii ts) → T (all fair ts)
+all-fair [] h q = tt
+all-fair (t ∷ ts) h q =
+    let a = and-yes (utf8 t) (all utf8 ts) h in
+    let b = and-yes (commentOrAscii t) (all commentOrAscii ts) q in
+    yes-and (fair t) (all fair ts) (yes-and (utf8 t) (commentOrAscii t) (a .0) (b .0)) (all-fair ts (a .1) (b .1))
+
+-- what is written where no non-ASCII stands outside comments is sound
+pub structured-sound : (name value : List ℕ) → T (all isAscii name) → T (utf8 value) → T (asciiOutsideComments value) → T (all sound (structuredField name value))
+unfolding structuredField valueSegments asciiOutsideComments
+structured-sound name value a u q =
+    let label : T (all isAscii (name ++ (58 ∷ []))) = all-append isAscii name (58 ∷ []) a tt in
+    let segments = joined (map tokenSegments (tokens value)) in
+    let value-sound : T (all sound segments) = mapped-sound tokenSegments fair token-sound (tokens value) (all-fair (tokens value) (tokens-utf8 value u q) q) in
+    yes-and (all isAscii (name ++ (58 ∷ []))) (all sound (segments ++ (raw (13 ∷ 10 ∷ []) ∷ []))) label
+    (all-append sound segments (raw (13 ∷ 10 ∷ []) ∷ []) value-sound tt)
+
+-- ---- how long it can be
+
+part-le : (part : List ℕ) → 0 < length part → length (rendered (partSegments part)) ≤ 23 * length part
+unfolding partSegments rendered
+part-le part h =
+    cond-has (λ (ss : List Segment). length (rendered ss) ≤ 23 * length part) (all isAscii part) (raw part ∷ []) (words (runText part) ∷ raw (13 ∷ 10 ∷ 32 ∷ []) ∷ [])
+    (λ t. rw append-nil (omega arith))
+    (λ t. rw length-append (omega (arith, length-row-le (runText part), length-run-text part)))
+
+token-le : (token : List ℕ) → 0 < length token → length (rendered (tokenSegments token)) ≤ 23 * length token
+unfolding tokenSegments parts rendered
+token-le token h =
+    cond-has (λ (ss : List Segment). length (rendered ss) ≤ 23 * length token) (isComment token) (joined (map partSegments (parts token))) (raw token ∷ [])
+    (λ t. rw (parts-joined token) at (mapped-le partSegments 23 part-le (parts token) (cut-some partLen token)))
+    (λ t. rw append-nil (omega arith))
+
+pub length-structured : (name value : List ℕ) → length (rendered (structuredField name value)) ≤ 3 + length name + 23 * length value
+unfolding structuredField valueSegments tokens rendered
+length-structured name value =
+    let segments = joined (map tokenSegments (tokens value)) in
+    let most : length (rendered segments) ≤ 23 * length value = rw (tokens-joined value) at (mapped-le tokenSegments 23 token-le (tokens value) (cut-some tokenLen value)) in
+    rw (length-append, rendered-append segments (raw (13 ∷ 10 ∷ []) ∷ []), length-append (rendered segments)) (omega (arith, length-append name (58 ∷ [])))

@@ -1,0 +1,107 @@
+-- The writing of a structured field and the test of its value, step by step. Assumes nothing.
+use mathlib.Core.Path.{_≡_, sym, _∙_}
+use mathlib.Core.Bool.{Bool, true, false, _&&_}
+use mathlib.Core.List.{List, [], _∷_, _++_, append-nil, map}
+use Prim.Native.Nat.{ℕ, _+_, _-_, _≤_, _<_}
+use native.Mathlib.Omega.{arith}
+use lib.ListN.{length, take, drop, length-take, length-drop}
+use Rattle.lists.specs.Byte.{isAscii}
+use Rattle.lists.specs.Lists.{all, joined}
+use Rattle.buffer.specs.Buffer.{AppendedCapped, greatest}
+use Rattle.buffer.specs.BufferLaws.{capped-then, capped-same, length-added}
+use Rattle.row.specs.Row.{row, bounded}
+use Rattle.row.specs.RowLaws.{bounded-short}
+use Rattle.encoded_word.specs.Segments.{rendered}
+use Rattle.encoded_word.specs.SegmentsLaws.{rendered-append}
+use Rattle.comment.specs.Parts.{partLen, parts, runText}
+use Rattle.comment.specs.PartsLaws.{parts-next, parts-over}
+use Rattle.comment.specs.BoundaryLaws.{length-run-text}
+use Rattle.piece.specs.PieceLaws.{MadeIn}
+use Rattle.encoded_word.specs.MappedLaws.{mapped-next, mapped-none}
+use Rattle.structured_field.specs.Tokens.{isComment, commentOrAscii, asciiOutsideComments, TookToken}
+use Rattle.structured_field.specs.TokensLaws.{tokens-next, tokens-over}
+use Rattle.structured_field.specs.StructuredField.{partSegments, tokenSegments, valueSegments, structuredField}
+
+-- a part is no longer than the whole
+pub part-served : (s : List ℕ) (i e room : ℕ) → length s ≤ 32768 → length s ≤ room
+    → (length (take (e - i) (drop i s)) ≤ 32768) × (length (take (e - i) (drop i s)) ≤ room)
+part-served s i e room h k =
+    let size : length (take (e - i) (drop i s)) ≤ length s = omega (arith, length-take (e - i) (drop i s), length-drop i s) in
+    (omega arith, omega arith)
+
+-- ---- a parenthesis or a run
+
+pub part-stays : (part : List ℕ) → all isAscii part ≡ true → part ≡ rendered (partSegments part)
+unfolding partSegments rendered
+part-stays part h = rw h (sym (append-nil part))
+
+-- a run whose text is made in a scratch
+pub part-encoded : (run : List ℕ) {text before mid after : List ℕ} {n at m r : ℕ} → MadeIn text n (runText run) → all isAscii run ≡ false → length run ≤ 32768
+    → length before ≤ greatest → AppendedCapped (row (bounded (take n text))) at before mid m → AppendedCapped (13 ∷ 10 ∷ 32 ∷ []) m mid after r
+    → AppendedCapped (rendered (partSegments run)) at before after r
+unfolding partSegments rendered
+part-encoded run u e k g a b =
+    let words = rw (u .is, bounded-short (runText run) (omega (arith, length-run-text run))) at a in
+    rw e (capped-then words b g)
+
+-- ---- a comment, part by part
+
+module _ (s : List ℕ) (i : ℕ) where
+  pub comment-next : (e : ℕ) → i < length s → e ≡ i + partLen (drop i s)
+      → rendered (joined (map partSegments (parts (drop i s)))) ≡ rendered (partSegments (take (e - i) (drop i s))) ++ rendered (joined (map partSegments (parts (drop e s))))
+  comment-next e h r = mapped-next partSegments (parts-next s i h e r)
+
+  pub comment-none : length s ≤ i → rendered (joined (map partSegments (parts (drop i s)))) ≡ []
+  comment-none h = mapped-none partSegments (parts-over s i h)
+
+-- ---- a value, token by token
+
+module _ (token : List ℕ) {comment : Bool} (k : comment ≡ isComment token) where
+  pub token-comment : comment ≡ true → rendered (joined (map partSegments (parts token))) ≡ rendered (tokenSegments token)
+  unfolding tokenSegments
+  token-comment e = rw (sym k ∙ e)
+
+  pub token-stays : comment ≡ false → token ≡ rendered (tokenSegments token)
+  unfolding tokenSegments rendered
+  token-stays e = rw (sym k ∙ e) (sym (append-nil token))
+
+  pub passed-comment : comment ≡ true → true ≡ commentOrAscii token
+  unfolding commentOrAscii
+  passed-comment e = rw (sym k ∙ e)
+
+  pub passed-other : comment ≡ false → all isAscii token ≡ commentOrAscii token
+  unfolding commentOrAscii
+  passed-other e = rw (sym k ∙ e)
+
+module _ {s : List ℕ} {i e : ℕ} {comment : Bool} (h : i < length s) (t : TookToken s i e comment) where
+  pub value-next : rendered (valueSegments (drop i s)) ≡ rendered (tokenSegments (take (e - i) (drop i s))) ++ rendered (valueSegments (drop e s))
+  unfolding valueSegments
+  value-next = mapped-next tokenSegments (tokens-next h t)
+
+  pub outside-next : (r : Bool) → r ≡ commentOrAscii (take (e - i) (drop i s)) → asciiOutsideComments (drop i s) ≡ r && asciiOutsideComments (drop e s)
+  unfolding asciiOutsideComments
+  outside-next r q = rw (tokens-next h t, ← q)
+
+module _ (s : List ℕ) (i : ℕ) (h : length s ≤ i) where
+  pub value-none : rendered (valueSegments (drop i s)) ≡ []
+  unfolding valueSegments
+  value-none = mapped-none tokenSegments (tokens-over s i h)
+
+  pub outside-none : asciiOutsideComments (drop i s) ≡ true
+  unfolding asciiOutsideComments
+  outside-none = rw (tokens-over s i h)
+
+-- ---- the field
+
+module _ (name value : List ℕ) where
+  field-bytes : rendered (structuredField name value) ≡ (name ++ (58 ∷ [])) ++ (rendered (valueSegments value) ++ (13 ∷ 10 ∷ []))
+  unfolding structuredField rendered
+  field-bytes = rw (rendered-append (valueSegments value))
+
+  pub field-added : {before named marked valued after : List ℕ} {at n c v r : ℕ} → length before ≤ greatest
+      → AppendedCapped name at before named n → AppendedCapped (58 ∷ []) n named marked c → AppendedCapped (rendered (valueSegments value)) c marked valued v
+      → AppendedCapped (13 ∷ 10 ∷ []) v valued after r → AppendedCapped (rendered (structuredField name value)) at before after r
+  field-added k a b d f =
+      let label = capped-then a b k in
+      let rest = capped-then d f (omega (arith, k, length-added a, length-added b)) in
+      capped-same (sym field-bytes) (capped-then label rest k)
