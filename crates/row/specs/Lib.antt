@@ -12,3 +12,4 @@ pub mod Demand3Laws
 pub mod FieldRow
 pub mod FieldRowLaws
 pub mod CounterexampleLaws
+pub mod FieldCounterexampleLaws
