@@ -2,23 +2,24 @@
 use mathlib.Core.Path.{_≡_, refl, ap, _∙_}
 use mathlib.Core.List.{List, [], _∷_, _++_}
 use Prim.Native.Nat.{ℕ, _+_, _-_, _*_, _≤_, _<_}
-use native.Mathlib.Nat.{not-suc-le-zero}
+use native.Mathlib.Nat.{zero-add, not-suc-le-zero}
 use native.Mathlib.Omega.{arith}
-use lib.ListN.{length, length-append}
+use lib.ListN.{length, take, drop, getD, length-append, length-take}
 use lib.Dec.{T, leb}
 use mir.Facts.{and-yes, leb-yes, leb-no}
 use borrow.Author.Tests.{le-leb, lt-leb}
 use Rattle.lists.specs.Lists.{all, joined}
 use Rattle.lists.specs.ListsLaws.{by-test}
-use Rattle.utf8.specs.Utf8.{chars}
-use Rattle.utf8.specs.Utf8Laws.{chars-cons, chars-nil, chars-joined}
-use Rattle.word_spelling.specs.Spelling.{spell}
+use Rattle.utf8.specs.Utf8.{charLen, chars}
+use Rattle.utf8.specs.Utf8Laws.{chars-cons, chars-nil, chars-joined, chars-at, char-len-some}
+use Rattle.cut.specs.Cut.{cut}
+use Rattle.word_spelling.specs.Spelling.{opening, spell}
 use Rattle.word_spelling.specs.Cost.{cost}
 use Rattle.word_spelling.specs.SpellingLaws.{length-spell}
 use Rattle.word_spelling.specs.HighCharLaws.{both}
-use Rattle.row.specs.Row.{runs, lines, rowIn, bounded}
-use Rattle.row.specs.Stream.{start, gap, leftAfter, onwards, onwardsAt}
-use Rattle.row.specs.StreamLaws.{left-le, left-here, left-next, length-gap-here, length-gap-next, stream, chars-small, chars-fit}
+use Rattle.row.specs.Row.{runs, lines, rowIn, runsAfter, linesAfter, rowAfterIn, bounded}
+use Rattle.row.specs.Stream.{start, gap, leftAfter, onwards, onwardsAt, startAfter, roomAfter}
+use Rattle.row.specs.StreamLaws.{left-le, left-here, left-next, length-gap-here, length-gap-next, stream, stream-here, stream-below, chars-small, chars-fit}
 
 pub row-nil : (text : List ℕ) → length text ≡ 0 → rowIn 63 text ≡ []
 unfolding rowIn runs lines
@@ -33,6 +34,51 @@ row-start (b ∷ text) h = go (chars-cons b text) (chars-fit (b ∷ text))
     go : {c : List ℕ} {cs : List (List ℕ)} → chars (b ∷ text) ≡ c ∷ cs → T (all (λ c. leb (cost c) 63) (chars (b ∷ text)))
         → rowIn 63 (b ∷ text) ≡ start ++ onwards 63 63 (chars (b ∷ text))
     go {c} {cs} e t = rw e (stream 63 c cs (rw e at t))
+
+-- ---- after a name and its colon
+
+pub row-after-nil : (column : ℕ) (text : List ℕ) → length text ≡ 0 → rowAfterIn 63 column text ≡ []
+unfolding rowAfterIn runsAfter cut linesAfter lines
+row-after-nil column [] e = rw chars-nil refl
+row-after-nil column (b ∷ text) e = absurd (omega arith)
+
+module _ (column m : ℕ) where
+  pub start-here : m ≤ 63 - column → startAfter column m ≡ 32 ∷ opening
+  unfolding startAfter
+  start-here h = rw (le-leb m (63 - column) h)
+
+  pub start-below : 63 - column < m → startAfter column m ≡ start
+  unfolding startAfter
+  start-below h = rw (lt-leb m (63 - column) h)
+
+  pub room-here : m ≤ 63 - column → roomAfter column m ≡ 63 - column
+  unfolding roomAfter
+  room-here h = rw (le-leb m (63 - column) h)
+
+  pub room-below : 63 - column < m → roomAfter column m ≡ 63
+  unfolding roomAfter
+  room-below h = rw (lt-leb m (63 - column) h)
+
+-- the first character, and what it takes
+module _ (text : List ℕ) (some : 0 < length text) where
+  abbrev firstOf : List ℕ
+  firstOf = take (charLen (getD text 0 0)) text
+
+  first-some : 0 < length firstOf
+  first-some = rw length-take (omega (arith, some, char-len-some (getD text 0 0)))
+
+  chars-first : chars text ≡ firstOf ∷ chars (drop (charLen (getD text 0 0)) text)
+  chars-first = rw (zero-add (charLen (getD text 0 0))) at (chars-at text 0 some)
+
+  pub row-after-first : (column : ℕ) → rowAfterIn 63 column text ≡ startAfter column (cost firstOf) ++ onwardsAt text 0 (roomAfter column (cost firstOf))
+  unfolding rowAfterIn
+  row-after-first column =
+      let fit = rw chars-first at (chars-fit text) in
+      let rest = chars (drop (charLen (getD text 0 0)) text) in
+      rw chars-first
+      (by-test (leb (cost firstOf) (63 - column))
+      (λ t. rw (start-here column (cost firstOf) (leb-yes t), room-here column (cost firstOf) (leb-yes t)) (stream-here 63 column firstOf rest fit first-some (leb-yes t)))
+      (λ t. rw (start-below column (cost firstOf) (leb-no t), room-below column (cost firstOf) (leb-no t)) (stream-below 63 column firstOf rest fit (leb-no t))))
 
 -- the texts that are encoded
 pub bounded-short : (text : List ℕ) → length text ≤ 4294967296 → bounded text ≡ text

@@ -29,6 +29,14 @@ onwards room left (c ∷ cs) = (gap left (cost c) ++ spell c) ++ onwards room (l
 abbrev pub onwardsAt : List ℕ → ℕ → ℕ → List ℕ
 onwardsAt s i left = onwards 63 left (chars (drop i s))
 
+-- After a name and its colon of `column` characters, where the first character takes m: how the first word starts, after one space
+-- where the character fits the name's line, else on a line of its own; and its room.
+unfoldable pub startAfter : ℕ → ℕ → List ℕ
+startAfter column m = cond (leb m (63 - column)) (32 ∷ opening) start
+
+unfoldable pub roomAfter : ℕ → ℕ → ℕ
+roomAfter column m = cond (leb m (63 - column)) (63 - column) 63
+
 -- A turn of a loop over the characters of a text: from place i with room for `left`, to place i′ with room for `left′`.
 pub record Turned (s : List ℕ) (i left i′ left′ : ℕ) (text : List ℕ) : Type 0 where
   pub more : i < i′
