@@ -1,7 +1,7 @@
 -- Demand 3 holds of every text of UTF-8 and its row. Proved once over the room of a word. Assumes nothing.
 use mathlib.Core.Path.{_≡_, refl, sym, ap, _∙_}
 use mathlib.Core.List.{List, [], _∷_, _++_, append-nil, map, nil≢cons, List·Memᴰ, List·Memᴰ·head, List·Memᴰ·tail}
-use Prim.Native.Nat.{ℕ, suc, _+_, _≤_, _<_}
+use Prim.Native.Nat.{ℕ, suc, _+_, _≤_}
 use native.Mathlib.Omega.{arith}
 use lib.ListN.{length, length-append, length-map}
 use lib.Dec.{T, leb→le, le→leb, lit≤}
@@ -10,10 +10,10 @@ use Rattle.lists.specs.Lists.{all, nonempty, joined}
 use Rattle.lists.specs.ListsLaws.{all-append, all-joined, all-mem, joined-append, joined-map}
 use Rattle.lists.specs.Byte.{isByte}
 use Rattle.utf8.specs.Utf8.{isChar, chars, utf8}
-use Rattle.utf8.specs.Utf8Laws.{chars-joined, chars-of, utf8-of, utf8-bytes, char-length}
+use Rattle.utf8.specs.Utf8Laws.{chars-joined, chars-of, utf8-of, utf8-bytes, char-length, char-some}
 use Rattle.cut.specs.CutLaws.{AllFit, cut-joined, cut-fits, cut-some, fewest}
-use Rattle.word_spelling.specs.Spelling.{opening, closing, spellByte, spell}
-use Rattle.word_spelling.specs.SpellingLaws.{spell-byte-some, length-spell, length-spell-append, length-spell-joined}
+use Rattle.word_spelling.specs.Spelling.{opening, closing, spell}
+use Rattle.word_spelling.specs.SpellingLaws.{length-spell, length-spell-append, length-spell-joined, cost-some}
 use Rattle.row.specs.Row.{fitsRoom, runs, word, rowIn, row}
 use Rattle.row.specs.Layout.{Word, wordBytes, Laid, addedText}
 use Rattle.row.specs.LayoutLaws.{ours, lines-laid}
@@ -151,15 +151,10 @@ demand-3 text u = demand-3-in _ text (lit≤ tt) u
 
 -- ---- the length of a word, and of its line
 
-spell-some : (c : List ℕ) → T (isChar c) → 0 < length (spell c)
-unfolding spell isChar
-spell-some [] t = absurd t
-spell-some (b ∷ l) t = omega (arith, length-append (spellByte b) (spell l), spell-byte-some b)
-
 run-some : (run : List (List ℕ)) → T (nonempty run) → T (all isChar run) → 1 ≤ length (spell (joined run))
 run-some [] n t = absurd n
 run-some (c ∷ run) n t =
-    omega (arith, length-spell-append c (joined run), spell-some c (and-yes (isChar c) (all isChar run) t .0))
+    omega (arith, length-spell-append c (joined run), cost-some c (char-some c (and-yes (isChar c) (all isChar run) t .0)))
 
 fit-mem : (room k : ℕ) {rs : List (List (List ℕ))} {run : List (List ℕ)} → AllFit (fitsRoom room) k rs → List·Memᴰ run rs
     → length (spell (joined run)) ≤ room

@@ -4,9 +4,8 @@ use mathlib.Core.Path.{_≡_, refl, sym, ap, _∙_}
 use mathlib.Core.Bool.{Bool}
 use mathlib.Core.List.{List, [], _∷_, _++_, map}
 use Prim.Native.Nat.{ℕ, zero, suc, _+_, _-_, _≤_, _<_}
-use native.Mathlib.Nat.{not-suc-le-zero}
 use native.Mathlib.Omega.{arith}
-use lib.ListN.{length, length-append, length-map}
+use lib.ListN.{length, length-map}
 use lib.Dec.{T, leb→le, le→leb, lit≤}
 use mir.Facts.{and-yes}
 use Rattle.lists.specs.Lists.{all, nonempty, joined}
@@ -15,8 +14,8 @@ use Rattle.lists.specs.Byte.{isByte}
 use Rattle.utf8.specs.Utf8.{isChar, chars, utf8}
 use Rattle.utf8.specs.Utf8Laws.{chars-joined, utf8-bytes}
 use Rattle.cut.specs.CutLaws.{AllFit, cut-joined, cut-fits, cut-first, fewest}
-use Rattle.word_spelling.specs.Spelling.{spellByte, spell}
-use Rattle.word_spelling.specs.SpellingLaws.{spell-byte-some}
+use Rattle.word_spelling.specs.Spelling.{spell}
+use Rattle.word_spelling.specs.SpellingLaws.{cost-some}
 use Rattle.row.specs.Row.{fitsRoom, word, lines, roomsAfter, fitsAfter, runsAfter, linesAfter, rowAfterIn, rowAfter}
 use Rattle.row.specs.Layout.{Adds, Word, wordBytes, LaidAfter, Laid, addedText}
 use Rattle.row.specs.Layout.LaidAfter.{empty, space, crlf}
@@ -78,10 +77,6 @@ unfolding lines word
 own-ours [] h = OwnLines.none
 own-ours (l ∷ ls) h = let both = and-yes (all isByte l) (all (all isByte) ls) h in OwnLines.line {w = ours l} (spell-adds l (both .0)) (own-ours ls (both .1))
 
-spell-some : (b : ℕ) (bytes : List ℕ) → 0 < length (spell (b ∷ bytes))
-unfolding spell
-spell-some b bytes = omega (arith, length-append (spellByte b) (spell bytes), spell-byte-some b)
-
 module _ (room column : ℕ) where
   set-ours : (l : List ℕ) (ls : List (List ℕ)) → T (all (all isByte) (l ∷ ls)) → length (spell l) ≤ room - column
       → SetAfter (room + 12) column (linesAfter (l ∷ ls)) (afterWords (l ∷ ls)) (suc (length ls))
@@ -90,7 +85,7 @@ module _ (room column : ℕ) where
   set-ours (b ∷ bytes) ls h f =
       let both = and-yes (all isByte (b ∷ bytes)) (all (all isByte) ls) h in
       rw (← length-map ls ours)
-      (here {w = ours (b ∷ bytes)} (spell-adds (b ∷ bytes) (both .0)) (omega (arith, f, length-word (ours (b ∷ bytes)), spell-some b bytes)) (own-ours ls (both .1)))
+      (here {w = ours (b ∷ bytes)} (spell-adds (b ∷ bytes) (both .0)) (omega (arith, f, length-word (ours (b ∷ bytes)), cost-some (b ∷ bytes) (omega arith))) (own-ours ls (both .1)))
 
 after-text : (ls : List (List ℕ)) → addedText (afterWords ls) ≡ joined ls
 unfolding afterWords

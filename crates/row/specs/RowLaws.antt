@@ -1,7 +1,7 @@
 -- Laws of rows: none for an empty text, how a row starts, how long it is. Assumes nothing.
-use mathlib.Core.Path.{_≡_, refl, ap, _∙_}
+use mathlib.Core.Path.{_≡_, refl, sym, ap, _∙_}
 use mathlib.Core.List.{List, [], _∷_, _++_}
-use Prim.Native.Nat.{ℕ, _+_, _-_, _*_, _≤_, _<_}
+use Prim.Native.Nat.{ℕ, _+_, _-_, _*_, _≤_, _<_, min}
 use native.Mathlib.Nat.{zero-add, not-suc-le-zero}
 use native.Mathlib.Omega.{arith}
 use lib.ListN.{length, take, drop, getD, length-append, length-take}
@@ -15,8 +15,8 @@ use Rattle.utf8.specs.Utf8Laws.{chars-cons, chars-nil, chars-joined, chars-at, 
 use Rattle.cut.specs.Cut.{cut}
 use Rattle.word_spelling.specs.Spelling.{opening, spell}
 use Rattle.word_spelling.specs.Cost.{cost}
-use Rattle.word_spelling.specs.SpellingLaws.{length-spell}
-use Rattle.word_spelling.specs.HighCharLaws.{both}
+use Rattle.word_spelling.specs.SpellingLaws.{length-spell, cost-some}
+use Rattle.word_spelling.specs.HighCharLaws.{char-cut, char-cost}
 use Rattle.row.specs.Row.{runs, lines, rowIn, runsAfter, linesAfter, rowAfterIn, bounded}
 use Rattle.row.specs.Stream.{start, gap, leftAfter, onwards, onwardsAt, startAfter, roomAfter}
 use Rattle.row.specs.StreamLaws.{left-le, left-here, left-next, length-gap-here, length-gap-next, stream, stream-here, stream-below, chars-small, chars-fit}
@@ -80,6 +80,27 @@ module _ (text : List ℕ) (some : 0 < length text) where
       (λ t. rw (start-here column (cost firstOf) (leb-yes t), room-here column (cost firstOf) (leb-yes t)) (stream-here 63 column firstOf rest fit first-some (leb-yes t)))
       (λ t. rw (start-below column (cost firstOf) (leb-no t), room-below column (cost firstOf) (leb-no t)) (stream-below 63 column firstOf rest fit (leb-no t))))
 
+  -- the same as code finds it: the character ends at place e and takes m
+  module _ (e m : ℕ) (he : e ≡ min (0 + charLen (getD text 0 0)) (length text)) (hm : m ≡ cost (take (e - 0) (drop 0 text))) where
+    first-cost : m ≡ cost firstOf
+    first-cost = hm ∙ ap cost (char-cut text 0 e he)
+
+    pub first-cost-in : (1 ≤ m) × (m ≤ 63)
+    first-cost-in = (omega (arith, first-cost, cost-some firstOf first-some), omega (arith, char-cost text 0 e m he hm))
+
+    pub row-after-start : (column : ℕ) → rowAfterIn 63 column text ≡ startAfter column m ++ onwardsAt text 0 (roomAfter column m)
+    row-after-start column = rw first-cost (row-after-first column)
+
+-- with no room on the name's line
+pub row-after-none : (text : List ℕ) → rowAfterIn 63 63 text ≡ rowIn 63 text
+row-after-none text =
+    by-test (leb 1 (length text))
+    (λ t. let some = leb-yes {a = 1} {b = length text} t in
+    row-after-first text some 63
+    ∙ rw (start-below 63 (cost (firstOf text some)) (cost-some (firstOf text some) (first-some text some)), room-below 63 (cost (firstOf text some)) (cost-some (firstOf text some) (first-some text some)))
+    (sym (row-start text some)))
+    (λ t. let none : length text ≡ 0 = omega (arith, leb-no {a = 1} {b = length text} t) in row-after-nil 63 text none ∙ sym (row-nil text none))
+
 -- the texts that are encoded
 pub bounded-short : (text : List ℕ) → length text ≤ 4294967296 → bounded text ≡ text
 unfolding bounded
@@ -91,6 +112,13 @@ row-long text h = rw (lt-leb (length text) 4294967296 h) (row-nil [] refl)
 
 pub row-none : (text : List ℕ) → length text ≡ 0 → rowIn 63 (bounded text) ≡ []
 row-none text h = rw (bounded-short text (omega arith)) (row-nil text h)
+
+pub row-after-long : (column : ℕ) (text : List ℕ) → 4294967296 < length text → rowAfterIn 63 column (bounded text) ≡ []
+unfolding bounded
+row-after-long column text h = rw (lt-leb (length text) 4294967296 h) (row-after-nil column [] refl)
+
+pub row-after-empty : (column : ℕ) (text : List ℕ) → length text ≡ 0 → rowAfterIn 63 column (bounded text) ≡ []
+row-after-empty column text h = rw (bounded-short text (omega arith)) (row-after-nil column text h)
 
 pub length-row : (text : List ℕ) → 0 < length text → length (rowIn 63 text) ≡ 13 + length (onwardsAt text 0 63)
 unfolding start
@@ -122,3 +150,18 @@ length-row-le text =
     by-test (leb 1 (length text))
     (λ t. omega (arith, length-row text (leb-yes t), length-onwards 63 (chars text) (omega arith) (chars-small text), ap length (chars-joined text)))
     (λ t. let none : length text ≡ 0 = omega (arith, leb-no {a = 1} {b = length text} t) in omega (arith, ap length (row-nil text none)))
+
+-- after a name and its colon at most two thirds of their length more
+pub length-row-after-le : (column : ℕ) (text : List ℕ) → 3 * length (rowAfterIn 63 column text) ≤ 45 + 2 * column + 15 * length text
+unfolding start
+length-row-after-le column text =
+    by-test (leb 1 (length text))
+    (λ t.
+    let some = leb-yes {a = 1} {b = length text} t in
+    let m = cost (firstOf text some) in
+    let left = roomAfter column m in
+    let whole = ap length (row-after-first text some column) ∙ length-append (startAfter column m) (onwardsAt text 0 left) in
+    by-test (leb m (63 - column))
+    (λ u. omega (arith, whole, ap length (start-here column m (leb-yes u)), room-here column m (leb-yes u), length-onwards left (chars text) (rw (room-here column m (leb-yes u)) (omega arith)) (chars-small text), ap length (chars-joined text)))
+    (λ u. omega (arith, whole, ap length (start-below column m (leb-no u)), room-below column m (leb-no u), length-onwards left (chars text) (rw (room-below column m (leb-no u)) (omega arith)) (chars-small text), ap length (chars-joined text))))
+    (λ t. let none : length text ≡ 0 = omega (arith, leb-no {a = 1} {b = length text} t) in omega (arith, ap length (row-after-nil column text none)))
