@@ -2,14 +2,34 @@
 ghost use mathlib.Core.Path.{_≡_};
 ghost use Prim.Native.Nat.{_+_, _≤_};
 ghost use lib.ListN.{length};
-ghost use Rattle.buffer.specs.Buffer.{Appended};
+ghost use Rattle.buffer.specs.Buffer.{Wrote, Appended};
 ghost use Rattle.word_spelling.specs.Spelling.{closing};
-ghost use Rattle.row.specs.Stream.{start, gap, leftAfter};
+ghost use Rattle.row.specs.Stream.{start, gap, leftAfter, startAfter, roomAfter};
 
 // A place in the output, and the room that is left in the open word.
 pub(crate) struct Open {
     pub at: usize,
     pub left: usize,
+}
+
+// Starts the first word of a row after a name and its colon of `column` characters, its first character taking m: after one space where
+// that fits the name's line, else on the next line.
+pub(crate) fn put_first(out: &mut [u8], column: usize, m: usize) -> Open
+    requires { ⌜ (1 ≤ m) × (m ≤ 63) ⌝ }
+    ensures { λ r. ⌜ (r .left ≡ roomAfter column m) × Wrote (startAfter column m) (now (out .entry)) (now (out .exit)) (r .at) ⌝ }
+{
+    if column <= 63 - m {
+        let here = buffer::put_slice(out, b" =?UTF-8?Q?");
+        return Open {
+            at: here,
+            left: 63 - column,
+        };
+    }
+    let below = buffer::put_slice(out, b"\r\n =?UTF-8?Q?");
+    Open {
+        at: below,
+        left: 63,
+    }
 }
 
 // Writes CRLF, space and `=?UTF-8?Q?`.

@@ -5,7 +5,7 @@ use Prim.Native.Nat.{ℕ, _+_, _-_, _*_, _≤_, _<_, min}
 use native.Mathlib.Nat.{zero-add, not-suc-le-zero}
 use native.Mathlib.Omega.{arith}
 use lib.ListN.{length, take, drop, getD, length-append, length-take}
-use lib.Dec.{T, leb}
+use lib.Dec.{T, leb, lit≤}
 use mir.Facts.{and-yes, leb-yes, leb-no}
 use borrow.Author.Tests.{le-leb, lt-leb}
 use Rattle.lists.specs.Lists.{all, joined}
@@ -59,6 +59,13 @@ module _ (column m : ℕ) where
   unfolding roomAfter
   room-below h = rw (lt-leb m (63 - column) h)
 
+  pub room-after-le : roomAfter column m ≤ 63
+  room-after-le = by-test (leb m (63 - column)) (λ t. rw (room-here (leb-yes t)) (omega arith)) (λ t. rw (room-below (leb-no t)) (omega arith))
+
+  pub length-start-after : length (startAfter column m) ≤ 13
+  unfolding start
+  length-start-after = by-test (leb m (63 - column)) (λ t. rw (start-here (leb-yes t)) (lit≤ tt)) (λ t. rw (start-below (leb-no t)) (lit≤ tt))
+
 -- the first character, and what it takes
 module _ (text : List ℕ) (some : 0 < length text) where
   abbrev firstOf : List ℕ
@@ -90,6 +97,9 @@ module _ (text : List ℕ) (some : 0 < length text) where
 
     pub row-after-start : (column : ℕ) → rowAfterIn 63 column text ≡ startAfter column m ++ onwardsAt text 0 (roomAfter column m)
     row-after-start column = rw first-cost (row-after-first column)
+
+    pub length-row-after : (column : ℕ) → length (rowAfterIn 63 column text) ≡ length (startAfter column m) + length (onwardsAt text 0 (roomAfter column m))
+    length-row-after column = ap length (row-after-start column) ∙ length-append (startAfter column m) (onwardsAt text 0 (roomAfter column m))
 
 -- with no room on the name's line
 pub row-after-none : (text : List ℕ) → rowAfterIn 63 63 text ≡ rowIn 63 text

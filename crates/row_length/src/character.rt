@@ -3,7 +3,7 @@ ghost use mathlib.Core.Path.{_≡_};
 ghost use Prim.Native.Nat.{_+_, _≤_, _<_};
 ghost use lib.ListN.{length, getD};
 ghost use Rattle.word_spelling.specs.FirstChars.{firstChars};
-ghost use Rattle.row.specs.Stream.{gap, leftAfter, MeasuredTurn};
+ghost use Rattle.row.specs.Stream.{startAfter, roomAfter, gap, leftAfter, MeasuredTurn};
 use word_spelling::byte_cost;
 use word_spelling::char_cost;
 use word_spelling::high_size;
@@ -13,6 +13,26 @@ pub(crate) struct Measure {
     pub i: usize,
     pub left: usize,
     pub n: usize,
+}
+
+// The first word of a row after a name and its colon of `column` characters, its first character taking m: on the name's line where that
+// fits, else on the next. 11 and 13 are the lengths of its start.
+pub(crate) fn begin(column: usize, m: usize) -> Measure
+    requires { ⌜ (1 ≤ m) × (m ≤ 63) ⌝ }
+    ensures { λ r. ⌜ (r .i ≡ 0) × (r .left ≡ roomAfter column m) × (r .n ≡ length (startAfter column m)) ⌝ }
+{
+    if column <= 63 - m {
+        return Measure {
+            i: 0,
+            left: 63 - column,
+            n: 11,
+        };
+    }
+    Measure {
+        i: 0,
+        left: 63,
+        n: 13,
+    }
 }
 
 // m characters more, up to the place i of the text: in the open word, or in a new one.
