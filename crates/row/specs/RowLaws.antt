@@ -102,14 +102,15 @@ module _ (text : List ℕ) (some : 0 < length text) where
     length-row-after column = ap length (row-after-start column) ∙ length-append (startAfter column m) (onwardsAt text 0 (roomAfter column m))
 
 -- with no room on the name's line
-pub row-after-none : (text : List ℕ) → rowAfterIn 63 63 text ≡ rowIn 63 text
-row-after-none text =
+pub row-after-none : (column : ℕ) (text : List ℕ) → 63 ≤ column → rowAfterIn 63 column text ≡ rowIn 63 text
+row-after-none column text h =
     by-test (leb 1 (length text))
-    (λ t. let some = leb-yes {a = 1} {b = length text} t in
-    row-after-first text some 63
-    ∙ rw (start-below 63 (cost (firstOf text some)) (cost-some (firstOf text some) (first-some text some)), room-below 63 (cost (firstOf text some)) (cost-some (firstOf text some) (first-some text some)))
-    (sym (row-start text some)))
-    (λ t. let none : length text ≡ 0 = omega (arith, leb-no {a = 1} {b = length text} t) in row-after-nil 63 text none ∙ sym (row-nil text none))
+    (λ t.
+    let some = leb-yes {a = 1} {b = length text} t in
+    let m = cost (firstOf text some) in
+    let over : 63 - column < m = omega (arith, h, cost-some (firstOf text some) (first-some text some)) in
+    row-after-first text some column ∙ rw (start-below column m over, room-below column m over) (sym (row-start text some)))
+    (λ t. let none : length text ≡ 0 = omega (arith, leb-no {a = 1} {b = length text} t) in row-after-nil column text none ∙ sym (row-nil text none))
 
 -- the texts that are encoded
 pub bounded-short : (text : List ℕ) → length text ≤ 4294967296 → bounded text ≡ text

@@ -1,4 +1,5 @@
 use Rattle.row.specs.Row.{bounded}
+use lib.Dec.{lit≤}
 use Rattle.row.specs.RowLaws.{row-after-none}
 use borrow.Author.Needs.{needs}
 use Rattle.encoded_word.proofs.write.Statement.{statement}
@@ -11,7 +12,7 @@ same-length : tie.Need-same-length
 same-length c = search needs
 
 returns : tie.Need-returns
-returns c = rw (← row-after-none (bounded (c .before .before .before .before .before .before .args .text .now))) (c .before .before .write-after .ensures)
+returns c = rw (← row-after-none 63 (bounded (c .before .before .before .before .before .before .args .text .now)) (lit≤ tt)) (c .before .before .write-after .ensures)
 
 pub write-spec : {M : Type 1} → statement M
 write-spec = tie.close (tie.spec write-after-requires same-length returns)
