@@ -29,7 +29,7 @@ pub fn write_after(out: &mut [u8], column: usize, text: &[u8]) -> usize
         return 0;
     }
     let first = word_spelling::first_chars();
-    let open = put_first(out, column, word_spelling::char_cost(&first, text, 0).cost);
+    let open = put_first(out, row_length::room_here(&first, column, text));
     let begun = open.at;
     let room = open.left;
     let r = put_while_roomy(&first, out, begun, room, text);

@@ -12,23 +12,19 @@ pub(crate) struct Open {
     pub left: usize,
 }
 
-// Starts the first word of a row after a name and its colon of `column` characters, its first character taking m: after one space where
-// that fits the name's line, else on the next line.
-pub(crate) fn put_first(out: &mut [u8], column: usize, m: usize) -> Open
-    requires { ⌜ (1 ≤ m) × (m ≤ 63) ⌝ }
-    ensures { λ r. ⌜ (r .left ≡ roomAfter column m) × Wrote (startAfter column m) (now (out .entry)) (now (out .exit)) (r .at) ⌝ }
+// Starts the first word of a row after a name, by the room for it on the name's line: after one space, or on the next line where there is
+// none.
+pub(crate) fn put_first(out: &mut [u8], here: usize) -> Open
+    ensures { λ r. ⌜ (r .left ≡ roomAfter here) × Wrote (startAfter here) (now (out .entry)) (now (out .exit)) (r .at) ⌝ }
 {
-    if column <= 63 - m {
-        let here = buffer::put_slice(out, b" =?UTF-8?Q?");
-        return Open {
-            at: here,
-            left: 63 - column,
-        };
+    if here == 0 {
+        let next = buffer::put_slice(out, b"\r\n =?UTF-8?Q?");
+        return Open { at: next, left: 63 };
     }
-    let below = buffer::put_slice(out, b"\r\n =?UTF-8?Q?");
+    let after = buffer::put_slice(out, b" =?UTF-8?Q?");
     Open {
-        at: below,
-        left: 63,
+        at: after,
+        left: here,
     }
 }
 

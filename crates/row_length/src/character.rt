@@ -15,23 +15,21 @@ pub(crate) struct Measure {
     pub n: usize,
 }
 
-// The first word of a row after a name and its colon of `column` characters, its first character taking m: on the name's line where that
-// fits, else on the next. 11 and 13 are the lengths of its start.
-pub(crate) fn begin(column: usize, m: usize) -> Measure
-    requires { ⌜ (1 ≤ m) × (m ≤ 63) ⌝ }
-    ensures { λ r. ⌜ (r .i ≡ 0) × (r .left ≡ roomAfter column m) × (r .n ≡ length (startAfter column m)) ⌝ }
+// The first word of a row after a name, by the room for it on the name's line. 11 and 13 are the lengths of its start.
+pub(crate) fn begin(here: usize) -> Measure
+    ensures { λ r. ⌜ (r .i ≡ 0) × (r .left ≡ roomAfter here) × (r .n ≡ length (startAfter here)) ⌝ }
 {
-    if column <= 63 - m {
+    if here == 0 {
         return Measure {
             i: 0,
-            left: 63 - column,
-            n: 11,
+            left: 63,
+            n: 13,
         };
     }
     Measure {
         i: 0,
-        left: 63,
-        n: 13,
+        left: here,
+        n: 11,
     }
 }
 

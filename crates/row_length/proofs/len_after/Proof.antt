@@ -1,13 +1,13 @@
-use mathlib.Core.Path.{_≡_, sym, ap, _∙_}
+use mathlib.Core.Path.{_≡_, sym, ap}
 use lib.ListN.{length}
 use Prim.Native.Nat.{_+_, _-_, _*_, _≤_}
 use native.Mathlib.Omega.{arith}
-use Rattle.word_spelling.specs.FirstCharsLaws.{costs-in}
 use Rattle.row.specs.Row.{rowAfter}
 use Rattle.row.specs.Stream.{onwardsAt}
 use Rattle.row.specs.StreamLaws.{onwards-end}
-use Rattle.row.specs.RowLaws.{row-after-empty, row-after-long, first-cost-in, length-row-after, room-after-le, length-start-after, bounded-short}
-use Rattle.row_length.specs.LengthLaws.{measured-on}
+use Rattle.row.specs.RowLaws.{row-after-empty, row-after-long, length-row-after, room-here-le, room-after-le, length-start-after, bounded-short, firstOf}
+use Rattle.word_spelling.specs.Cost.{cost}
+use Rattle.row_length.specs.LengthLaws.{measured-on, room-by-table}
 use borrow.Author.Needs.{needs}
 use Rattle.row_length.proofs.len_after.Statement.{statement}
 use Rattle.row_length.proofs.len_after.Tie as tie
@@ -27,22 +27,22 @@ returns-2 c = sym (ap length (row-after-long _ _ (c .if2 .taken)))
 first-chars-requires : tie.Need-first-chars-requires Inv-loop μ-loop
 first-chars-requires c κs = search needs
 
-char-cost-requires : tie.Need-char-cost-requires Inv-loop μ-loop
-char-cost-requires c κs = search needs
+room-here-requires : tie.Need-room-here-requires Inv-loop μ-loop
+room-here-requires c κs = search needs
 
 begin-requires : tie.Need-begin-requires Inv-loop μ-loop
-begin-requires c κs = first-cost-in (c .before .before .before .before .before .before .args .text .now) (omega arith) _ _ (c .char-cost .ensures .0)
-    (c .char-cost .ensures .1 ∙ costs-in (c .before .before .first-chars .ensures) (c .before .before .before .before .before .before .args .text .now) (λ j. omega (arith, c .before .before .before .before .before .shared-slice-known .given j)) (c .char-cost .result .end - 0) 0)
+begin-requires c κs = search needs
 
 loop-holds : tie.Need-loop-holds Inv-loop μ-loop
 loop-holds c = let b = c .begin .ensures in
-    let k = c .before .char-cost .ensures in
-    let spent = k .1 ∙ costs-in (c .before .before .before .first-chars .ensures) (c .before .before .before .before .before .before .before .args .text .now) (λ j. omega (arith, c .before .before .before .before .before .before .shared-slice-known .given j)) (c .before .char-cost .result .end - 0) 0 in
-    let column = c .before .before .before .before .before .before .before .args .column in (
+    let s = c .before .before .before .before .before .before .before .args .text .now in
+    let column = c .before .before .before .before .before .before .before .args .column in
+    let here = room-by-table s column (c .before .room-here .result) (c .before .before .before .first-chars .ensures) (λ j. omega (arith, c .before .before .before .before .before .before .shared-slice-known .given j)) (c .before .room-here .ensures) in
+    let most : c .before .room-here .result ≤ 63 = omega (arith, here, room-here-le column (cost (firstOf s))) in (
       omega arith,
-      omega (arith, b .1, room-after-le column (c .before .char-cost .result .cost)),
-      omega (arith, b .2, length-start-after column (c .before .char-cost .result .cost)),
-      rw (b .1, b .2) (sym (length-row-after (c .before .before .before .before .before .before .before .args .text .now) (omega arith) _ _ (k .0) spent column)),
+      omega (arith, b .1, room-after-le (c .before .room-here .result) most),
+      omega (arith, b .2, length-start-after (c .before .room-here .result) most),
+      rw (b .1, b .2) (sym (length-row-after s (omega arith) column _ here)),
     )
 
 next-requires : tie.Need-next-requires Inv-loop μ-loop
@@ -69,7 +69,7 @@ len-after-spec =
     returns
     returns-2
     first-chars-requires
-    char-cost-requires
+    room-here-requires
     begin-requires
     loop-holds
     next-requires
