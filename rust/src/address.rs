@@ -1,4 +1,5 @@
 //! Addresses and xtext. Places in a slice whose bytes from 128 on are known to make UTF-8 characters.
+//! Written from document 01, Envelope lines and Address fields, and RFC 5322's atext.
 
 const ATOM: u8 = 1;
 const LITERAL: u8 = 2;

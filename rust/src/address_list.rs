@@ -1,4 +1,5 @@
 //! Address fields: the grammar of their text, and the pieces of the rewritten value.
+//! Written from document 01, Address fields, and the requests named below.
 
 use crate::address::{address, word};
 use crate::header::is_blank;

@@ -1,4 +1,5 @@
 //! The envelope: its lines checked (2, 3, 4, and 6 for ORCPT), what replaces their paths, and the writing.
+//! Written from document 01, Envelope lines and Address fields, and the requests named below.
 
 use crate::address::{address, decode_xtext, is_ascii_address, value_end, LINE};
 use crate::sink::Sink;
@@ -196,20 +197,20 @@ impl Envelope<'_> {
     pub fn first_fields(&self, sink: &mut impl Sink) {
         for swap in &self.swaps[..self.swapped] {
             if swap.line == 0 {
-                sink.put(b"Downgraded-Mail-From:");
-                self.old_and_new(sink, swap);
+                self.old_and_new(sink, b"Downgraded-Mail-From", swap);
             } else if self.lines == 2 {
-                sink.put(b"Downgraded-Rcpt-To:");
-                self.old_and_new(sink, swap);
+                self.old_and_new(sink, b"Downgraded-Rcpt-To", swap);
             }
         }
     }
 
     /// "They hold encoded words of `<old <new>>`, the new decoded."
-    fn old_and_new(&self, sink: &mut impl Sink, swap: &Swap) {
+    fn old_and_new(&self, sink: &mut impl Sink, name: &[u8], swap: &Swap) {
         let mut room = [0; LINE];
         let new = decode_xtext(&self.bytes[swap.value..swap.value_end], &mut room).unwrap_or_default();
-        let mut row = Row::new();
+        sink.put(name);
+        sink.put(b":");
+        let mut row = Row::after_name(name.len());
         row.add(sink, b"<");
         row.add(sink, &self.bytes[swap.path..swap.path_end]);
         row.add(sink, b" <");

@@ -1,4 +1,5 @@
 //! Header lines and fields: the check (5), names and their kinds, held names (6), and the text of a field.
+//! Written from document 01, Header lines, and the requests named below.
 
 use crate::utf8::{find, valid_len};
 

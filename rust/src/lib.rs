@@ -1,5 +1,6 @@
-//! The downgrade call in plain Rust, written from the scope paper alone: a second opinion on the proved call.
-//! The words in quotation marks are the paper's.
+//! The downgrade call in plain Rust, written from the papers alone: a second opinion on the proved call.
+//! Document 01 is the scope paper, 02 the change requests; [5] is the fifth of these, [5.2] the second of its settled
+//! readings. The words in quotation marks are theirs.
 
 pub mod address;
 pub mod address_list;

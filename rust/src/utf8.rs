@@ -1,4 +1,5 @@
 //! Characters: "UTF-8 is that of RFC 3629".
+//! Written from document 01, The work of one call.
 
 /// "A character is 1 to 4 bytes; past ASCII its length is the number of leading one bits of its first byte."
 pub const fn char_len(first: u8) -> usize {
