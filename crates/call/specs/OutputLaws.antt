@@ -113,6 +113,17 @@ both-fit e h room₁ room₂ q k l =
     q
     ∙ rw (over-no room₁ (length (written e)) (EnvelopeNeeds (length (written e))) k, over-no room₂ (length (outgoingHeader e h)) (HeaderNeeds (length (outgoingHeader e h))) l)
 
+pub header-short : (e h : List ℕ) (room₁ room₂ : ℕ) → firstOf (ofInput e h) ≡ Accept → length (written e) ≤ room₁ → room₂ < length (outgoingHeader e h)
+    → verdict e h room₁ room₂ ≡ Refuse (HeaderNeeds (length (outgoingHeader e h)))
+unfolding verdict firstOf
+header-short e h room₁ room₂ q k l =
+    first-accepted (ofInput e h)
+    (over room₁ (length (written e)) (EnvelopeNeeds (length (written e)))
+    ∷ over room₂ (length (outgoingHeader e h)) (HeaderNeeds (length (outgoingHeader e h)))
+    ∷ [])
+    q
+    ∙ rw (over-no room₁ (length (written e)) (EnvelopeNeeds (length (written e))) k, over-yes room₂ (length (outgoingHeader e h)) (HeaderNeeds (length (outgoingHeader e h))) l)
+
 -- no header line is malformed, and no ORCPT and no held field carries non-ASCII
 pub record Accepted (e h : List ℕ) : Type 0 where
   pub content : firstOf (ofLines (checkedLines h) ∷ ofOrcpt (orcptLine e) ∷ ofHeld (heldOf Spool h) ∷ []) ≡ Accept
