@@ -123,13 +123,6 @@ pub bounded-short : (text : List ℕ) → length text ≤ 4294967296 → bounded
 unfolding bounded
 bounded-short text h = rw (le-leb (length text) 4294967296 h)
 
-pub row-long : (text : List ℕ) → 4294967296 < length text → rowIn 63 (bounded text) ≡ []
-unfolding bounded
-row-long text h = rw (lt-leb (length text) 4294967296 h) (row-nil [] refl)
-
-pub row-none : (text : List ℕ) → length text ≡ 0 → rowIn 63 (bounded text) ≡ []
-row-none text h = rw (bounded-short text (omega arith)) (row-nil text h)
-
 pub row-after-long : (column : ℕ) (text : List ℕ) → 4294967296 < length text → rowAfterIn 63 column (bounded text) ≡ []
 unfolding bounded
 row-after-long column text h = rw (lt-leb (length text) 4294967296 h) (row-after-nil column [] refl)
