@@ -140,6 +140,10 @@ hennelaku_answer hennelaku_downgrade_slices(
  *                 Final-Recipient Keywords: refused by 6
  *     any other   Downgraded- before the name, text in encoded words
  *
+ * In plain text and Downgraded- fields the first encoded word stands after the
+ * colon and one space, as far as 76 characters allow; where no character fits
+ * there, the colon ends its line. Every other word has a line of its own.
+ *
  * After any other number no byte of either buffer has changed, and both
  * lengths are 0.
  *

@@ -157,17 +157,17 @@ static void test_whole_case(void)
     outcome o = call(AREA_GUARDED, e, h, 1000, 1000);
 
     expect_answer(&o, 0, 0);
-    if (o.answer.envelope_len != 54 || o.answer.header_len != 135) {
+    if (o.answer.envelope_len != 54 || o.answer.header_len != 146) {
         blame("lengths %zu and %zu", o.answer.envelope_len,
               o.answer.header_len);
     }
     outcome_free(&o);
-    report("whole case: lengths 54 and 135");
-    expect_refusal(AREA_GUARDED, e, h, 54, 134, 8, 135);
-    report("whole case: header buffer of 134 is 8 at 135");
-    expect_refusal(AREA_GUARDED, e, h, 53, 135, 7, 54);
+    report("whole case: lengths 54 and 146");
+    expect_refusal(AREA_GUARDED, e, h, 54, 145, 8, 146);
+    report("whole case: header buffer of 145 is 8 at 146");
+    expect_refusal(AREA_GUARDED, e, h, 53, 146, 7, 54);
     report("whole case: envelope buffer of 53 is 7 at 54");
-    expect_refusal(AREA_GUARDED, e, h, 53, 134, 7, 54);
+    expect_refusal(AREA_GUARDED, e, h, 53, 145, 7, 54);
     report("whole case: both short is 7");
 }
 

@@ -13,7 +13,9 @@
 #define E_WORD_10 E_WORD_5 E_WORD_5
 #define GRIN_WORD "=F0=9F=98=80"
 
+/* A word on a line of its own, and one on the name's line. */
 #define OPEN "\r\n =?UTF-8?Q?"
+#define HERE " =?UTF-8?Q?"
 #define CLOSE "?="
 
 #define MAIL "MAIL FROM:<a@example.org>\r\n"
@@ -27,14 +29,20 @@
 #define A_70 A_10 A_10 A_10 A_10 A_10 A_10 A_10
 
 #define DOWNGRADED_MAIL_FROM \
-    "Downgraded-Mail-From:" OPEN \
-    "=3C=C3=A9=40example=2Eorg_=3Ce+x=40example=2Eorg=3E=3E" CLOSE "\r\n"
+    "Downgraded-Mail-From:" HERE \
+    "=3C=C3=A9=40example=2Eorg_=3Ce+x=40example" CLOSE \
+    OPEN "=2Eorg=3E=3E" CLOSE "\r\n"
+
+#define DOWNGRADED_RCPT_TO \
+    "Downgraded-Rcpt-To:" HERE \
+    "=3C=C3=A9=40example=2Enet_=3Ce=40example=2En" CLOSE \
+    OPEN "et=3E=3E" CLOSE "\r\n"
 
 const test_case cases[] = {
     /* The paper's whole case. */
     {"whole case", E_MAIL RCPT, "Subject: " E_ACUTE "\r\nX-Note: ok\r\n", 0, 0,
      "MAIL FROM:<e+x@example.org>\r\n" RCPT,
-     DOWNGRADED_MAIL_FROM "Subject:" OPEN E_WORD CLOSE "\r\nX-Note: ok\r\n"},
+     DOWNGRADED_MAIL_FROM "Subject:" HERE E_WORD CLOSE "\r\nX-Note: ok\r\n"},
 
     /* Taken as they are. */
     {"all ASCII", PLAIN, "Subject: a\r\n b\r\n", 0, 0, PLAIN,
@@ -63,34 +71,47 @@ const test_case cases[] = {
     {"non-ASCII after an unclosed parenthesis", PLAIN,
      "Date: (a (" E_ACUTE ")\r\n", 6, 0, NULL, NULL},
 
-    /* Encoded words, by a plain text field. */
-    {"ten and abc in one word", PLAIN, "Subject:" E_10 "abc\r\n", 0, 0, PLAIN,
-     "Subject:" OPEN E_WORD_10 "abc" CLOSE "\r\n"},
-    {"eleven in two words", PLAIN, "Subject:" E_10 E_ACUTE "\r\n", 0, 0, PLAIN,
-     "Subject:" OPEN E_WORD_10 CLOSE OPEN E_WORD CLOSE "\r\n"},
-    {"abcd and ten in two words", PLAIN, "Subject:abcd" E_10 "\r\n", 0, 0,
-     PLAIN, "Subject:" OPEN "abcd" E_WORD_5 E_WORD E_WORD E_WORD E_WORD CLOSE
-     OPEN E_WORD CLOSE "\r\n"},
+    /* Encoded words, by a phrase. */
+    {"ten and abc in one word", PLAIN, "From:" E_10 "abc<a@x>\r\n", 0, 0, PLAIN,
+     "From:" OPEN E_WORD_10 "abc" CLOSE "\r\n <a@x>\r\n"},
+    {"eleven in two words", PLAIN, "From:" E_10 E_ACUTE "<a@x>\r\n", 0, 0, PLAIN,
+     "From:" OPEN E_WORD_10 CLOSE OPEN E_WORD CLOSE "\r\n <a@x>\r\n"},
+    {"abcd and ten in two words", PLAIN, "From:abcd" E_10 "<a@x>\r\n", 0, 0,
+     PLAIN, "From:" OPEN "abcd" E_WORD_5 E_WORD E_WORD E_WORD E_WORD CLOSE
+     OPEN E_WORD CLOSE "\r\n <a@x>\r\n"},
     {"six of four bytes: five, then one", PLAIN,
-     "Subject:" GRIN GRIN GRIN GRIN GRIN GRIN "\r\n", 0, 0, PLAIN,
-     "Subject:" OPEN GRIN_WORD GRIN_WORD GRIN_WORD GRIN_WORD GRIN_WORD CLOSE
-     OPEN GRIN_WORD CLOSE "\r\n"},
+     "From:" GRIN GRIN GRIN GRIN GRIN GRIN "<a@x>\r\n", 0, 0, PLAIN,
+     "From:" OPEN GRIN_WORD GRIN_WORD GRIN_WORD GRIN_WORD GRIN_WORD CLOSE
+     OPEN GRIN_WORD CLOSE "\r\n <a@x>\r\n"},
+
+    /* The first word on the name's line, by fields in plain text. */
+    {"Subject: nine on its line, then two", PLAIN,
+     "Subject:" E_10 E_ACUTE "\r\n", 0, 0, PLAIN,
+     "Subject:" HERE E_WORD_5 E_WORD E_WORD E_WORD E_WORD CLOSE
+     OPEN E_WORD E_WORD CLOSE "\r\n"},
+    {"a name of 45 leaves room for one", PLAIN,
+     A_10 A_10 A_10 A_10 "aaaaa: " E_ACUTE E_ACUTE "\r\n", 0, 0, PLAIN,
+     "Downgraded-" A_10 A_10 A_10 A_10 "aaaaa:" HERE E_WORD CLOSE
+     OPEN E_WORD CLOSE "\r\n"},
+    {"a name of 46 leaves none", PLAIN,
+     A_10 A_10 A_10 A_10 "aaaaaa: " E_ACUTE "\r\n", 0, 0, PLAIN,
+     "Downgraded-" A_10 A_10 A_10 A_10 "aaaaaa:" OPEN E_WORD CLOSE "\r\n"},
     {"fold taken out, space as _", PLAIN,
      "cOMMENTS: \t" E_ACUTE " a\r\n\tb.=?\r\n", 0, 0, PLAIN,
-     "cOMMENTS:" OPEN E_WORD "_a=09b=2E=3D=3F" CLOSE "\r\n"},
+     "cOMMENTS:" HERE E_WORD "_a=09b=2E=3D=3F" CLOSE "\r\n"},
     {"other names are encapsulated", PLAIN, "X-Berth: " E_ACUTE "\r\n", 0, 0,
-     PLAIN, "Downgraded-X-Berth:" OPEN E_WORD CLOSE "\r\n"},
+     PLAIN, "Downgraded-X-Berth:" HERE E_WORD CLOSE "\r\n"},
 
     /* Address fields. */
     {"removed address", PLAIN, "To: " E_ACUTE "@example.org\r\n", 0, 0, PLAIN,
      "To:\r\n Internationalized Address" OPEN "=C3=A9=40example=2Eorg" CLOSE
      "\r\n Removed:;\r\n"
-     "Downgraded-To:" OPEN "=C3=A9=40example=2Eorg" CLOSE "\r\n"},
+     "Downgraded-To:" HERE "=C3=A9=40example=2Eorg" CLOSE "\r\n"},
     {"replaced address", PLAIN,
      "Cc: \"J. " E_ACUTE "\" <" E_ACUTE "@x <e@x>>, c d <c@x>\r\n", 0, 0, PLAIN,
      "Cc:" OPEN "J=2E_" E_WORD CLOSE "\r\n <e@x>,\r\n c\r\n d\r\n <c@x>\r\n"
-     "Downgraded-Cc:" OPEN "=22J=2E_=C3=A9=22_=3C=C3=A9=40x_=3Ce=40x=3E=3E=2C_"
-     "c_d_=3Cc=40x" CLOSE OPEN "=3E" CLOSE "\r\n"},
+     "Downgraded-Cc:" HERE "=22J=2E_=C3=A9=22_=3C=C3=A9=40x_=3Ce=40x=3E=3E=2C"
+     CLOSE OPEN "_c_d_=3Cc=40x=3E" CLOSE "\r\n"},
     {"phrase alone needs no copy", PLAIN, "From: " E_ACUTE " <a@x>\r\n", 0, 0,
      PLAIN, "From:" OPEN E_WORD CLOSE "\r\n <a@x>\r\n"},
     {"group", PLAIN, "To: " E_ACUTE ": a@x, <b@x>;, c:;\r\n", 0, 0, PLAIN,
@@ -98,30 +119,28 @@ const test_case cases[] = {
      "\r\n ;\r\n"},
     {"text that does not fit is encapsulated", PLAIN,
      "To: " E_ACUTE "\r\n", 0, 0, PLAIN,
-     "Downgraded-To:" OPEN E_WORD CLOSE "\r\n"},
+     "Downgraded-To:" HERE E_WORD CLOSE "\r\n"},
     {"no space before the alternative does not fit", PLAIN,
      "To: <" E_ACUTE "@x<e@x>>\r\n", 0, 0, PLAIN,
-     "Downgraded-To:" OPEN "=3C" E_WORD "=40x=3Ce=40x=3E=3E" CLOSE "\r\n"},
+     "Downgraded-To:" HERE "=3C" E_WORD "=40x=3Ce=40x=3E=3E" CLOSE "\r\n"},
     {"an alternative of an ASCII address does not fit", PLAIN,
      "To: " E_ACUTE " <a@x <e@x>>\r\n", 0, 0, PLAIN,
-     "Downgraded-To:" OPEN E_WORD "_=3Ca=40x_=3Ce=40x=3E=3E" CLOSE "\r\n"},
+     "Downgraded-To:" HERE E_WORD "_=3Ca=40x_=3Ce=40x=3E=3E" CLOSE "\r\n"},
     {"an alternative that is not ASCII does not fit", PLAIN,
      "To: <" E_ACUTE "@x <" E_ACUTE "@x>>\r\n", 0, 0, PLAIN,
-     "Downgraded-To:" OPEN "=3C" E_WORD "=40x_=3C" E_WORD "=40x=3E=3E" CLOSE
+     "Downgraded-To:" HERE "=3C" E_WORD "=40x_=3C" E_WORD "=40x=3E=3E" CLOSE
      "\r\n"},
     {"an empty place in a list does not fit", PLAIN,
      "To: a@x,," E_ACUTE "@x\r\n", 0, 0, PLAIN,
-     "Downgraded-To:" OPEN "a=40x=2C=2C" E_WORD "=40x" CLOSE "\r\n"},
+     "Downgraded-To:" HERE "a=40x=2C=2C" E_WORD "=40x" CLOSE "\r\n"},
 
     /* New first fields. */
     {"one recipient replaced", MAIL E_RCPT, "", 0, 0,
      MAIL "RCPT TO:<e@example.net>\r\n",
-     "Downgraded-Rcpt-To:" OPEN
-     "=3C=C3=A9=40example=2Enet_=3Ce=40example=2Enet=3E=3E" CLOSE "\r\n"},
+     DOWNGRADED_RCPT_TO},
     {"both paths replaced", E_MAIL E_RCPT, "", 0, 0,
      "MAIL FROM:<e+x@example.org>\r\nRCPT TO:<e@example.net>\r\n",
-     DOWNGRADED_MAIL_FROM "Downgraded-Rcpt-To:" OPEN
-     "=3C=C3=A9=40example=2Enet_=3Ce=40example=2Enet=3E=3E" CLOSE "\r\n"},
+     DOWNGRADED_MAIL_FROM DOWNGRADED_RCPT_TO},
     {"two recipients: no Downgraded-Rcpt-To", MAIL E_RCPT E_RCPT, "", 0, 0,
      MAIL "RCPT TO:<e@example.net>\r\nRCPT TO:<e@example.net>\r\n", ""},
     {"parameters around ALT-ADDRESS stay",

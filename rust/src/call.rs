@@ -75,10 +75,7 @@ fn write_header(sink: &mut impl Sink, envelope: &Envelope, header: &[u8], scratc
         match header::kind(field.name) {
             Kind::Address => write_address_field(sink, &field, scratch),
             // "Plain text: name, colon, encoded words of the text."
-            Kind::Plain => {
-                sink.put(field.name);
-                write_words(sink, &field);
-            }
+            Kind::Plain => write_words(sink, b"", &field),
             Kind::Held => return Err(field.start),
             Kind::HeldOutsideComments if comment::non_ascii_outside(field.value) => return Err(field.start),
             Kind::HeldOutsideComments => {
@@ -98,15 +95,15 @@ fn write_header(sink: &mut impl Sink, envelope: &Envelope, header: &[u8], scratc
 
 /// "`Downgraded-` before the name, colon, encoded words of the text"
 fn encapsulate(sink: &mut impl Sink, field: &Field) {
-    sink.put(b"Downgraded-");
-    sink.put(field.name);
-    write_words(sink, field);
+    write_words(sink, b"Downgraded-", field);
 }
 
-/// Colon, encoded words of the text. "A field ends with CRLF."
-fn write_words(sink: &mut impl Sink, field: &Field) {
+/// Name, colon, encoded words of the text. "A field ends with CRLF." [5.4]: the name counts with its `Downgraded-`.
+fn write_words(sink: &mut impl Sink, before_name: &[u8], field: &Field) {
+    sink.put(before_name);
+    sink.put(field.name);
     sink.put(b":");
-    let mut row = Row::new();
+    let mut row = Row::after_name(before_name.len() + field.name.len());
     header::unfolded(field.folded_text(), |part| row.add(sink, part));
     row.end(sink);
     sink.put(b"\r\n");

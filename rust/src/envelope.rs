@@ -197,20 +197,20 @@ impl Envelope<'_> {
     pub fn first_fields(&self, sink: &mut impl Sink) {
         for swap in &self.swaps[..self.swapped] {
             if swap.line == 0 {
-                sink.put(b"Downgraded-Mail-From:");
-                self.old_and_new(sink, swap);
+                self.old_and_new(sink, b"Downgraded-Mail-From", swap);
             } else if self.lines == 2 {
-                sink.put(b"Downgraded-Rcpt-To:");
-                self.old_and_new(sink, swap);
+                self.old_and_new(sink, b"Downgraded-Rcpt-To", swap);
             }
         }
     }
 
     /// "They hold encoded words of `<old <new>>`, the new decoded."
-    fn old_and_new(&self, sink: &mut impl Sink, swap: &Swap) {
+    fn old_and_new(&self, sink: &mut impl Sink, name: &[u8], swap: &Swap) {
         let mut room = [0; LINE];
         let new = decode_xtext(&self.bytes[swap.value..swap.value_end], &mut room).unwrap_or_default();
-        let mut row = Row::new();
+        sink.put(name);
+        sink.put(b":");
+        let mut row = Row::after_name(name.len());
         row.add(sink, b"<");
         row.add(sink, &self.bytes[swap.path..swap.path_end]);
         row.add(sink, b" <");

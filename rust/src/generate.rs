@@ -702,6 +702,8 @@ fn name(r: &mut Random, out: &mut Vec<u8>, held: bool) -> bool {
             let len = match r.below(60) {
                 0 => 77,
                 1..=4 => r.from(75, 76),
+                // About where no character fits beside the name any more.
+                5..=24 => r.from(36, 54),
                 _ => r.from(1, 20),
             };
             for _ in 0..len {

@@ -1,5 +1,7 @@
 //! The papers' checked examples, each rule, and its near misses; a test of a settled reading tells its number.
 
+use crate::sink::Writer;
+use crate::words::row;
 use crate::{downgrade, Answer};
 
 const MAIL: &str = "MAIL FROM:<a@x>\r\n";
@@ -53,14 +55,14 @@ fn lines(header: &str) -> Vec<String> {
 /// An address field that is encapsulated.
 fn unfit(text: &str) {
     let got = out(&format!("To: {text}\r\n"));
-    assert!(got.starts_with("Downgraded-To:\r\n =?UTF-8?Q?"), "{text:?} gave {got:?}");
+    assert!(got.starts_with("Downgraded-To: =?UTF-8?Q?"), "{text:?} gave {got:?}");
 }
 
 /// An address field that is rewritten as these lines.
 fn fits(text: &str, pieces: &[&str]) {
     let mut got = lines(&format!("To: {text}\r\n"));
     assert_eq!(got.remove(0), "To:", "{text:?}");
-    if let Some(copy) = got.iter().position(|line| line == "Downgraded-To:") {
+    if let Some(copy) = got.iter().position(|line| line.starts_with("Downgraded-To: =?UTF-8?Q?")) {
         got.truncate(copy);
     }
     assert_eq!(got, pieces, "{text:?}");
@@ -106,19 +108,37 @@ fn read_row(row: &[u8]) -> Option<(Vec<u8>, Vec<Vec<u8>>)> {
     Some((text, words))
 }
 
-/// The words of a Subject with this text.
-fn subject_words(text: &str) -> Vec<String> {
-    let mut got = lines(&format!("Subject: {text}\r\n"));
-    assert_eq!(got.remove(0), "Subject:");
-    for line in &got {
-        assert!(line.len() <= 75, "{line}");
-    }
-    let row = out(&format!("Subject: {text}\r\n"));
-    let row = row.strip_prefix("Subject:").unwrap().strip_suffix("\r\n").unwrap();
+/// The words of a row, which has to read back as this text in whole characters.
+fn words_of(row: &str, text: &str) -> Vec<String> {
     let (read, words) = read_row(row.as_bytes()).unwrap();
     assert_eq!(read, text.as_bytes());
     assert!(words.iter().all(|word| std::str::from_utf8(word).is_ok()));
-    got
+    row.split("\r\n").filter(|line| !line.is_empty()).map(|line| line.strip_prefix(' ').unwrap().into()).collect()
+}
+
+/// The words of a text, each on a line of its own.
+fn row_words(text: &str) -> Vec<String> {
+    let mut buffer = vec![0; 20 * text.len() + 40];
+    let mut writer = Writer { buffer: &mut buffer, at: 0 };
+    row(&mut writer, text.as_bytes());
+    let len = writer.at;
+    let row = std::str::from_utf8(&buffer[..len]).unwrap();
+    assert!(row.starts_with("\r\n =?") && row.split("\r\n").all(|line| line.len() <= 76), "{row:?}");
+    words_of(row, text)
+}
+
+/// The words of the field that is written for a field of this name and text.
+fn field_words(name: &str, written_name: &str, text: &str) -> Vec<String> {
+    let field = out(&format!("{name}: {text}\r\n"));
+    let row = field.strip_prefix(written_name).unwrap().strip_prefix(':').unwrap().strip_suffix("\r\n").unwrap();
+    for line in field.split("\r\n") {
+        assert!(line.len() <= 76 || !line.contains("=?"), "{line}");
+    }
+    words_of(row, text)
+}
+
+fn subject_words(text: &str) -> Vec<String> {
+    field_words("Subject", "Subject", text)
 }
 
 // Checked examples
@@ -129,24 +149,25 @@ const WHOLE_HEADER: &str = "Subject: é\r\nX-Note: ok\r\n";
 #[test]
 fn whole_case() {
     let (answer, envelope, header) = call(WHOLE_ENVELOPE.as_bytes(), WHOLE_HEADER.as_bytes());
-    assert_eq!(answer, Answer { number: 0, place: 0, envelope_len: 54, header_len: 135 });
+    // [5.7]
+    assert_eq!(answer, Answer { number: 0, place: 0, envelope_len: 54, header_len: 146 });
     assert_eq!(envelope, "MAIL FROM:<e+x@example.org>\r\nRCPT TO:<b@example.net>\r\n");
     assert_eq!(
         header,
-        "Downgraded-Mail-From:\r\n =?UTF-8?Q?=3C=C3=A9=40example=2Eorg_=3Ce+x=40example=2Eorg=3E=3E?=\r\n\
-         Subject:\r\n =?UTF-8?Q?=C3=A9?=\r\nX-Note: ok\r\n"
+        "Downgraded-Mail-From: =?UTF-8?Q?=3C=C3=A9=40example=2Eorg_=3Ce+x=40example?=\r\n \
+         =?UTF-8?Q?=2Eorg=3E=3E?=\r\nSubject: =?UTF-8?Q?=C3=A9?=\r\nX-Note: ok\r\n"
     );
 }
 
 #[test]
 fn buffers_of_just_the_length() {
     for (envelope_room, header_room, want) in [
-        (54, 135, (0, 0, 54, 135)),
-        (54, 134, (8, 135, 0, 0)),
-        (53, 135, (7, 54, 0, 0)),
-        (53, 134, (7, 54, 0, 0)),
+        (54, 146, (0, 0, 54, 146)),
+        (54, 145, (8, 146, 0, 0)),
+        (53, 146, (7, 54, 0, 0)),
+        (53, 145, (7, 54, 0, 0)),
         (0, 0, (7, 54, 0, 0)),
-        (54, 0, (8, 135, 0, 0)),
+        (54, 0, (8, 146, 0, 0)),
     ] {
         let mut envelope_buffer = vec![0xEE; envelope_room];
         let mut header_buffer = vec![0xEE; header_room];
@@ -161,14 +182,14 @@ fn buffers_of_just_the_length() {
 #[test]
 fn word_cases() {
     let ten = "é".repeat(10);
-    assert_eq!(subject_words(&(ten.clone() + "abc")).len(), 1);
-    assert_eq!(subject_words(&(ten.clone() + "abc"))[0].len(), 75);
-    assert_eq!(subject_words(&(ten.clone() + "abcd")).len(), 2);
-    let eleven = subject_words(&"é".repeat(11));
+    assert_eq!(row_words(&(ten.clone() + "abc")).len(), 1);
+    assert_eq!(row_words(&(ten.clone() + "abc"))[0].len(), 75);
+    assert_eq!(row_words(&(ten.clone() + "abcd")).len(), 2);
+    let eleven = row_words(&"é".repeat(11));
     assert_eq!(eleven, [format!("=?UTF-8?Q?{}?=", "=C3=A9".repeat(10)), "=?UTF-8?Q?=C3=A9?=".into()]);
-    let abcd = subject_words(&("abcd".to_string() + &ten));
+    let abcd = row_words(&("abcd".to_string() + &ten));
     assert_eq!(abcd, [format!("=?UTF-8?Q?abcd{}?=", "=C3=A9".repeat(9)), "=?UTF-8?Q?=C3=A9?=".into()]);
-    let six = subject_words(&"😀".repeat(6));
+    let six = row_words(&"😀".repeat(6));
     assert_eq!(six, [format!("=?UTF-8?Q?{}?=", "=F0=9F=98=80".repeat(5)), "=?UTF-8?Q?=F0=9F=98=80?=".into()]);
 }
 
@@ -223,8 +244,11 @@ fn removed_address() {
     assert_eq!(
         lines("To: é@example.org\r\n"),
         [
-            "To:", "Internationalized Address", "=?UTF-8?Q?=C3=A9=40example=2Eorg?=", "Removed:;", "Downgraded-To:",
-            "=?UTF-8?Q?=C3=A9=40example=2Eorg?="
+            "To:",
+            "Internationalized Address",
+            "=?UTF-8?Q?=C3=A9=40example=2Eorg?=",
+            "Removed:;",
+            "Downgraded-To: =?UTF-8?Q?=C3=A9=40example=2Eorg?="
         ]
     );
 }
@@ -419,8 +443,8 @@ fn envelope_written() {
     assert_eq!(envelope, "mail From:<\"a b\"@x> BODY=8BITMIME SIZE=5\r\nRCPT TO:<c@y> X\r\n");
     assert_eq!(
         header,
-        "Downgraded-Mail-From:\r\n =?UTF-8?Q?=3C=C3=A9=40x_=3C=22a_b=22=40x=3E=3E?=\r\n\
-         Downgraded-Rcpt-To:\r\n =?UTF-8?Q?=3C=C3=A1=40y_=3Cc=40y=3E=3E?=\r\nA: b\r\n"
+        "Downgraded-Mail-From: =?UTF-8?Q?=3C=C3=A9=40x_=3C=22a_b=22=40x=3E=3E?=\r\n\
+         Downgraded-Rcpt-To: =?UTF-8?Q?=3C=C3=A1=40y_=3Cc=40y=3E=3E?=\r\nA: b\r\n"
     );
     // Two RCPT lines: no Downgraded-Rcpt-To, also for the same recipient.
     let (_, envelope, header) =
@@ -498,7 +522,7 @@ fn every_name() {
             assert_eq!(header(comment.as_bytes()), (6, 0), "{name}");
         }
         assert_eq!(header(format!("{name}: e\r\n").as_bytes()), (0, 0));
-        assert!(out(&format!("{name}s: é\r\n")).starts_with(&format!("Downgraded-{name}s:\r\n")));
+        assert!(out(&format!("{name}s: é\r\n")).starts_with(&format!("Downgraded-{name}s: =?")));
     }
     for name in addresses.iter().flat_map(|name| cases(name)) {
         assert_eq!(
@@ -507,18 +531,18 @@ fn every_name() {
         );
     }
     for name in ["Subject", "Comments", "Content-Description"].iter().flat_map(|name| cases(name)) {
-        assert_eq!(out(&format!("{name}: é\r\n")), format!("{name}:\r\n =?UTF-8?Q?=C3=A9?=\r\n"));
+        assert_eq!(out(&format!("{name}: é\r\n")), format!("{name}: =?UTF-8?Q?=C3=A9?=\r\n"));
     }
     for name in ["X", "Downgraded-X", "Content-Language", "Subjec", "Subject-", "Resent-Subject", "Resent-Return-Path"]
     {
-        assert_eq!(out(&format!("{name}: é\r\n")), format!("Downgraded-{name}:\r\n =?UTF-8?Q?=C3=A9?=\r\n"));
+        assert_eq!(out(&format!("{name}: é\r\n")), format!("Downgraded-{name}: =?UTF-8?Q?=C3=A9?=\r\n"));
     }
 }
 
 #[test]
 fn text_of_a_field() {
     assert_eq!(subject_words("=?UTF-8?Q?=C3=A9?= é")[0], "=?UTF-8?Q?=3D=3FUTF-8=3FQ=3F=3DC3=3DA9=3F=3D_=C3=A9?=");
-    assert_eq!(out("Subject:\r\n \t\r\n\té \r\n \tx\t\r\n"), "Subject:\r\n =?UTF-8?Q?=C3=A9__=09x=09?=\r\n");
+    assert_eq!(out("Subject:\r\n \t\r\n\té \r\n \tx\t\r\n"), "Subject: =?UTF-8?Q?=C3=A9__=09x=09?=\r\n");
     assert_eq!(
         out("To:\r\n \t\r\n\té\r\n <a@x>\r\n\t,\r\n b@y\r\n \r\n"),
         "To:\r\n =?UTF-8?Q?=C3=A9?=\r\n <a@x>,\r\n b@y\r\n"
@@ -539,6 +563,108 @@ fn spelling_of_every_byte() {
         };
         let text = format!("é{}", b as char);
         assert_eq!(subject_words(&text), [format!("=?UTF-8?Q?=C3=A9{want}?=")]);
+    }
+}
+
+// The name's own line
+
+/// The rooms between the brackets of the words that are written for a field of this name.
+fn word_sizes(name: &str, written_name: &str, text: &str) -> Vec<usize> {
+    field_words(name, written_name, text).iter().map(|word| word.len() - 12).collect()
+}
+
+#[test]
+fn first_word_beside_the_name() {
+    // [5.1]: 62 less the name's length, then 63.
+    assert_eq!(word_sizes("Subject", "Subject", &("é".to_string() + &"x".repeat(300)))[..3], [55, 63, 63]);
+    assert_eq!(word_sizes("cOMMENTS", "cOMMENTS", &("é".to_string() + &"x".repeat(300)))[..3], [54, 63, 63]);
+    assert_eq!(word_sizes("Content-Description", "Content-Description", &("é".to_string() + &"x".repeat(99)))[0], 43);
+    // [5.4]: the name counts with its `Downgraded-`; one that came in is another name.
+    assert_eq!(word_sizes("A", "Downgraded-A", &("é".to_string() + &"x".repeat(300)))[..2], [50, 63]);
+    assert_eq!(out("Downgraded-A: é\r\n"), "Downgraded-Downgraded-A: =?UTF-8?Q?=C3=A9?=\r\n");
+    assert_eq!(out("Downgraded-A: e\r\n"), "Downgraded-A: e\r\n");
+    // The first line is full to the last of its 76 characters, or has one more.
+    let full = out(&format!("Subject: é{}\r\n", "x".repeat(49)));
+    assert_eq!((full.len(), full.matches("=?UTF-8?Q?").count()), (78, 1));
+    let over = out(&format!("Subject: é{}\r\n", "x".repeat(50)));
+    assert_eq!(over, full.replace("?=\r\n", "?=\r\n =?UTF-8?Q?x?=\r\n"));
+    // A first character of each size, and names up to where it fits no more.
+    for (first, longest) in [("x", 50), (",", 48), ("é", 45), ("漢", 42), ("😀", 39)] {
+        for len in 1..=76 {
+            let name = "n".repeat(len);
+            let text = format!("{first}é");
+            let field = out(&format!("{name}: {text}\r\n"));
+            // [5.2]: no space after the colon. [5.3]: one character goes there, also if no line is saved.
+            let beside = field.starts_with(&format!("Downgraded-{name}: =?UTF-8?Q?"));
+            let below = field.starts_with(&format!("Downgraded-{name}:\r\n =?UTF-8?Q?"));
+            assert_eq!((beside, below), (len <= longest, len > longest), "{first} {len}");
+            field_words(&name, &format!("Downgraded-{name}"), &text);
+        }
+    }
+    assert_eq!(
+        out(&format!("{}: xé\r\n", "n".repeat(50))),
+        format!("Downgraded-{}: =?UTF-8?Q?x?=\r\n =?UTF-8?Q?=C3=A9?=\r\n", "n".repeat(50))
+    );
+    // Folds do not count.
+    assert_eq!(out("Subject:\r\n \r\n é\r\n x\r\n"), "Subject: =?UTF-8?Q?=C3=A9_x?=\r\n");
+}
+
+#[test]
+fn rows_of_address_fields_begin_on_the_next_line() {
+    // [5.5]
+    assert_eq!(
+        out("To: é <a@x>, ó@x\r\n"),
+        "To:\r\n =?UTF-8?Q?=C3=A9?=\r\n <a@x>,\r\n Internationalized Address\r\n =?UTF-8?Q?=C3=B3=40x?=\r\n \
+         Removed:;\r\nDowngraded-To: =?UTF-8?Q?=C3=A9_=3Ca=40x=3E=2C_=C3=B3=40x?=\r\n"
+    );
+    assert_eq!(row_words(&"x".repeat(64)).len(), 2);
+}
+
+/// The fewest lines of a field: the least number of words from each place on, tried in every way.
+fn fewest_lines(name_len: usize, text: &str) -> usize {
+    let sizes: Vec<usize> = text
+        .chars()
+        .map(|c| match c {
+            ' ' | '!' | '*' | '+' | '-' | '/' => 1,
+            _ if c.is_ascii_alphanumeric() => 1,
+            _ => 3 * c.len_utf8(),
+        })
+        .collect();
+    let mut words = vec![0; sizes.len() + 1];
+    for start in (0..sizes.len()).rev() {
+        words[start] = (start + 1..=sizes.len())
+            .filter(|&end| sizes[start..end].iter().sum::<usize>() <= 63)
+            .map(|end| 1 + words[end])
+            .min()
+            .unwrap();
+    }
+    (1..=sizes.len())
+        .filter(|&end| sizes[..end].iter().sum::<usize>() + name_len + 14 <= 76)
+        .map(|end| 1 + words[end])
+        .chain([1 + words[0]])
+        .min()
+        .unwrap()
+}
+
+#[test]
+fn no_other_row_has_fewer_lines() {
+    // [5.6]: the name's line counts.
+    let characters = ["x", " ", ",", "é", "漢", "😀"];
+    let mut state = 1u32;
+    let mut next = |limit: usize| {
+        state = state.wrapping_mul(1_664_525).wrapping_add(1_013_904_223);
+        (state >> 8) as usize % limit
+    };
+    for _ in 0..3000 {
+        let name = "n".repeat(1 + next(60));
+        let mut text = "x".repeat(next(2));
+        for _ in 0..next(80) {
+            text += characters[next(6)];
+        }
+        text += "é";
+        let text = text.trim_start();
+        let lines = out(&format!("{name}: {text}\r\n")).matches("\r\n").count();
+        assert_eq!(lines, fewest_lines(11 + name.len(), text), "{name} {text}");
     }
 }
 
@@ -582,10 +708,13 @@ fn groups_that_fit() {
 fn the_copy_follows_a_replaced_address() {
     assert_eq!(
         lines("Cc: é <é@x \t<a@x>>\r\n")[3..],
-        ["Downgraded-Cc:", "=?UTF-8?Q?=C3=A9_=3C=C3=A9=40x_=09=3Ca=40x=3E=3E?="]
+        ["Downgraded-Cc: =?UTF-8?Q?=C3=A9_=3C=C3=A9=40x_=09=3Ca=40x=3E=3E?="]
     );
     assert_eq!(lines("Cc: é <a@x>\r\n").len(), 3);
-    assert_eq!(lines("cC: é <a@x>, é@y \r\n").last().unwrap(), "=?UTF-8?Q?=C3=A9_=3Ca=40x=3E=2C_=C3=A9=40y_?=");
+    assert_eq!(
+        lines("cC: é <a@x>, é@y \r\n").last().unwrap(),
+        "Downgraded-cC: =?UTF-8?Q?=C3=A9_=3Ca=40x=3E=2C_=C3=A9=40y_?="
+    );
 }
 
 #[test]

@@ -6,6 +6,8 @@ use crate::utf8::char_len;
 
 /// "A word is `=?UTF-8?Q?`, 1 to 63 characters, `?=`."
 const ROOM: usize = 63;
+/// "such a line has at most 76 characters"
+const LINE: usize = 76;
 
 /// How each byte is spelled: "Letters, digits and `!*+-/` stand for themselves, space is `_`, each other byte is `=`
 /// and two uppercase hex digits." The fourth byte fills up.
@@ -56,13 +58,20 @@ const fn stands_for_itself(b: u8) -> bool {
 /// One row in the making; its text may come in several parts, each of whole characters.
 pub struct Row {
     open: bool,
-    used: usize,
+    /// What the open word still holds; before the first word, what one on the name's line would hold.
+    left: usize,
 }
 
 impl Row {
+    /// Every word on a line of its own, the first one too. [5.5]: so are the rows inside a rewritten address field.
     pub fn new() -> Row {
-        // Full, so that the first character opens a word.
-        Row { open: false, used: ROOM }
+        Row { open: false, left: 0 }
+    }
+
+    /// [5]: "put the first word after the colon and one space, as far as 76 characters allow." [5.1]: the 76 count the
+    /// name, the colon, the space and the whole word.
+    pub fn after_name(name_len: usize) -> Row {
+        Row { open: false, left: LINE.saturating_sub(name_len + ": =?UTF-8?Q?".len() + "?=".len()) }
     }
 
     /// "A word takes as many whole characters as fit."
@@ -70,10 +79,14 @@ impl Row {
     pub fn add(&mut self, sink: &mut impl Sink, text: &[u8]) {
         let mut rest = text;
         while !rest.is_empty() {
-            let (len, size) = fitting(rest, ROOM - self.used);
+            let (len, size) = fitting(rest, self.left);
             if len > 0 {
+                if !self.open {
+                    sink.put(b" =?UTF-8?Q?");
+                    self.open = true;
+                }
                 sink.spell(&rest[..len], size);
-                self.used += size;
+                self.left -= size;
                 rest = &rest[len..];
             } else {
                 self.next_word(sink);
@@ -81,7 +94,8 @@ impl Row {
         }
     }
 
-    /// "Every word has a line of its own: CRLF and one space come before it."
+    /// "Every word has a line of its own: CRLF and one space come before it." [5]: "If no character fits, begin on the
+    /// next line."
     fn next_word(&mut self, sink: &mut impl Sink) {
         if self.open {
             sink.put(b"?=\r\n =?UTF-8?Q?");
@@ -89,7 +103,7 @@ impl Row {
             sink.put(b"\r\n =?UTF-8?Q?");
         }
         self.open = true;
-        self.used = 0;
+        self.left = ROOM;
     }
 
     pub fn end(self, sink: &mut impl Sink) {
@@ -113,7 +127,7 @@ fn fitting(text: &[u8], room: usize) -> (usize, usize) {
     (text.len(), size)
 }
 
-/// The encoded words of a text.
+/// The encoded words of a text, each on a line of its own.
 pub fn row(sink: &mut impl Sink, text: &[u8]) {
     let mut row = Row::new();
     row.add(sink, text);

@@ -102,16 +102,28 @@ ofInput e h =
     ∷ ofHeld (heldOf Spool h)
     ∷ []
 
-pub both-fit : (e h : List ℕ) (room₁ room₂ : ℕ) → firstOf (ofInput e h) ≡ Accept → length (written e) ≤ room₁ → length (outgoingHeader e h) ≤ room₂
-    → verdict e h room₁ room₂ ≡ Accept
-unfolding verdict firstOf
-both-fit e h room₁ room₂ q k l =
-    first-accepted (ofInput e h)
-    (over room₁ (length (written e)) (EnvelopeNeeds (length (written e)))
-    ∷ over room₂ (length (outgoingHeader e h)) (HeaderNeeds (length (outgoingHeader e h)))
-    ∷ [])
-    q
-    ∙ rw (over-no room₁ (length (written e)) (EnvelopeNeeds (length (written e))) k, over-no room₂ (length (outgoingHeader e h)) (HeaderNeeds (length (outgoingHeader e h))) l)
+-- an input that none of them refuses is decided by the buffers
+module _ (e h : List ℕ) (room₁ room₂ : ℕ) (q : firstOf (ofInput e h) ≡ Accept) where
+  by-rooms : verdict e h room₁ room₂
+      ≡ firstOf
+      (over room₁ (length (written e)) (EnvelopeNeeds (length (written e)))
+      ∷ over room₂ (length (outgoingHeader e h)) (HeaderNeeds (length (outgoingHeader e h)))
+      ∷ [])
+  unfolding verdict
+  by-rooms = first-accepted (ofInput e h) _ q
+
+  module _ (k : length (written e) ≤ room₁) where
+    pub both-fit : length (outgoingHeader e h) ≤ room₂ → verdict e h room₁ room₂ ≡ Accept
+    unfolding firstOf
+    both-fit l =
+        by-rooms
+        ∙ rw (over-no room₁ (length (written e)) (EnvelopeNeeds (length (written e))) k, over-no room₂ (length (outgoingHeader e h)) (HeaderNeeds (length (outgoingHeader e h))) l)
+
+    pub header-short : room₂ < length (outgoingHeader e h) → verdict e h room₁ room₂ ≡ Refuse (HeaderNeeds (length (outgoingHeader e h)))
+    unfolding firstOf
+    header-short l =
+        by-rooms
+        ∙ rw (over-no room₁ (length (written e)) (EnvelopeNeeds (length (written e))) k, over-yes room₂ (length (outgoingHeader e h)) (HeaderNeeds (length (outgoingHeader e h))) l)
 
 -- no header line is malformed, and no ORCPT and no held field carries non-ASCII
 pub record Accepted (e h : List ℕ) : Type 0 where

@@ -1,7 +1,7 @@
 -- The checked examples that the paper marks P, as one table under one theorem about the definitions. Assumes nothing.
 use mathlib.Core.Path.{_≡_, refl}
 use mathlib.Core.List.{List, [], _∷_, _++_, map}
-use Prim.Native.Nat.{ℕ, _≤_}
+use Prim.Native.Nat.{ℕ, _≤_, _<_}
 use native.Mathlib.Omega.{arith}
 use lib.Dec.{T, leb}
 use mir.Facts.{leb-yes}
@@ -14,22 +14,24 @@ use Rattle.lists.specs.CutBy.{cutAfter, cutBy}
 use Rattle.letter_case.specs.LetterCase.{bytes, lower, sameAnyCase}
 use Rattle.cut.specs.Cut.{cut}
 use Rattle.word_spelling.specs.Spelling.{bare, spellByte, spell}
-use Rattle.row.specs.Row.{runs, word, lines, rowIn, row}
+use Rattle.row.specs.Row.{runs, word, lines, rowIn, row, runsAfter, linesAfter, rowAfterIn}
 use Rattle.envelope.specs.Envelope.{lines as envelopeLines, lineText, endedFault, faultOf, faultNumber, isFine, checkedFrom, checked, texts, orcptFrom, orcptLine, writtenEnded, writtenOf, written, mailOf, mailReplacement, onlyRcptOf, rcptReplacement}
 use Rattle.header_line.specs.Lines.{checkedLines, lineByte, nameByte, nameLen, named, continuation, wellFormed, lineOk, linesOf, linesFrom}
 use Rattle.line.specs.Line.{blank, crlf, lineLen}
 use Rattle.address.specs.Address.{later, byteThen, scanThen, isAtext, isAtomByte, isQuotedByte, isLiteralByte, dotAtomFrom, dotAtomScan, quotedFrom, quotedScan, literalFrom, literalScan, domainScan, localScan, addressScan, isAddress, isAsciiAddress}
 use Rattle.xtext.specs.Xtext.{isXchar, isHexchar, unitLen, unitByte, decodingAfter, decoding, isXtext, decoded, isAltAddress}
 use Rattle.hex.specs.Hex.{hexDigit, isHexDigit, hexValue}
-use Rattle.envelope_line.specs.EnvelopeLine.{verb, hasVerb, pathScan, pathLen, path, hasPath, tail, wellFormed as wellFormedLine, altFault, lineFault, orcptFault, writtenLine, replacement}
-use Rattle.header.specs.Fields.{fold, fieldLen, fieldsOf, valueOf}
-use Rattle.outgoing_field.specs.Fate.{fateOf, segmentsOf, fieldSegments, headerSegments, isHeld, heldFrom, heldOf}
+use Rattle.envelope_line.specs.EnvelopeLine.{verb, hasVerb, pathScan, pathLen, path, hasPath, tail, wellFormed as wellFormedLine, altFault, lineFault, orcptFault, newPath, withoutAlt, writtenLine, replacement}
+use Rattle.header.specs.Fields.{fold, fieldLen, fieldsOf, nameOf, valueOf, unfoldedAfter, trimmed, textOf, lineCount}
+use Rattle.header_name.specs.Names.{six, addressNames, groups, among, kindAmong, kindOf}
+use Rattle.field.specs.Field.{labelledField, prefix, encodedField}
+use Rattle.outgoing_field.specs.Fate.{kindFate, fateOf, segmentsOf, fieldSegments, headerSegments, isHeld, heldFrom, heldOf}
 use Rattle.encoded_word.specs.Segments.{rendered}
 use Rattle.call.specs.declared.Verdict.the-variants.{Accept}
 use Rattle.call.specs.OutgoingHeader.{newField, newFields, outgoingSegments, outgoingHeader}
 use Rattle.call.specs.Outcome.{numberOf, placeOf, over, ofEnvelope, ofLines, ofOrcpt, ofHeld, firstOf, verdict, Outcome, outcomeOf, outcome}
-use Rattle.call.specs.OutputLaws.{ofInput, both-fit}
-use Rattle.parameter.specs.Parameter.{params, spaced, isKeywordByte, keywordLen, keyword, hasValue, value, isOrcpt, isAlt, isValueByte, isParam, alts, altsOk}
+use Rattle.call.specs.OutputLaws.{ofInput, both-fit, header-short}
+use Rattle.parameter.specs.Parameter.{params, spaced, isKeywordByte, keywordLen, keyword, hasValue, value, isOrcpt, isAlt, isValueByte, isParam, alts, altsOk, alt, altPlace, orcptClean}
 
 -- a case and its answer
 pub data Case : Type 0 where
@@ -39,6 +41,8 @@ pub data Case : Type 0 where
   refused : List ℕ → List ℕ → ℕ → ℕ → Case
   -- an envelope and a header that it takes, where each buffer has 1,000 bytes or more
   taken : List ℕ → List ℕ → Case
+  -- an envelope and a header that it takes where the buffers have these lengths or more; where the header's has less, 8 at that length
+  needs : List ℕ → List ℕ → ℕ → ℕ → Case
 
 -- how many characters each word of a text's row holds, and its length between opening and closing
 abbrev pub wordSizes : List ℕ → List (ℕ × ℕ)
@@ -52,6 +56,8 @@ answer o = (o .number, o .place)
 abbrev pub Right : Case → Type 0
 Right (cutsTo text sizes) = wordSizes text ≡ sizes
 Right (refused e h number place) = (b c : List ℕ) → answer (outcome e h b c) ≡ (number, place)
+Right (needs e h n m) = (b c : List ℕ) → n ≤ length b
+    → (m ≤ length c → answer (outcome e h b c) ≡ (0, 0)) × (length c < m → answer (outcome e h b c) ≡ (8, m))
 Right (taken e h) = (b c : List ℕ) → 1000 ≤ length b → 1000 ≤ length c → answer (outcome e h b c) ≡ (0, 0)
 
 -- each of these cases is right
@@ -83,6 +89,13 @@ mailed path tail = bytes "MAIL FROM:<" ++ (path ++ (62 ∷ (tail ++ (end ++ (byt
 abbrev headerNamed : ℕ → List ℕ
 headerNamed n = replicate n 97 ++ (58 ∷ end)
 
+-- the whole case
+abbrev wholeEnvelope : List ℕ
+wholeEnvelope = mailed (é ++ bytes "@example.org") (bytes " ALT-ADDRESS=e+2Bx@example.org")
+
+abbrev wholeHeader : List ℕ
+wholeHeader = bytes "Subject: " ++ (é ++ (end ++ (bytes "X-Note: ok" ++ end)))
+
 -- the cases marked P
 abbrev pub cases : List Case
 cases =
@@ -110,6 +123,8 @@ cases =
     -- "name of 76 bytes taken; 77 is 5."
     ∷ Case.taken (mailed (bytes "a@x") []) (headerNamed 76)
     ∷ Case.refused (mailed (bytes "a@x") []) (headerNamed 77) 5 0
+    -- the whole case by request 5, not marked P: "a header of 146 bytes; a room of 146 is enough, 145 gives 8, place 146."
+    ∷ Case.needs wholeEnvelope wholeHeader 54 146
     ∷ []
 
 -- an input that no number from 1 to 6 refuses is taken where both outputs fit
@@ -121,8 +136,16 @@ taken-by e h q n m b c k l =
     let m′ : length (outgoingHeader e h) ≤ 1000 = leb-yes m in
     rw (both-fit e h (length b) (length c) q (omega arith) (omega arith))
 
+-- an input that no number from 1 to 6 refuses, whose outputs have these lengths
+needs-by : (e h : List ℕ) (n m : ℕ) → firstOf (ofInput e h) ≡ Accept → length (written e) ≡ n → length (outgoingHeader e h) ≡ m → Right (Case.needs e h n m)
+unfolding outcome outcomeOf numberOf placeOf
+needs-by e h n m q p r b c k = (
+  λ l. rw (both-fit e h (length b) (length c) q (omega arith) (omega arith)),
+  λ l. rw (header-short e h (length b) (length c) q (omega arith) (omega arith), r),
+)
+
 pub cases-right : AllRight cases
-unfolding rowIn runs cut lines word spell spellByte bare hexDigit bytes lower sameAnyCase crlf lineLen later byteThen scanThen isAtext isAtomByte isQuotedByte isLiteralByte dotAtomFrom dotAtomScan quotedFrom quotedScan literalFrom literalScan domainScan localScan addressScan isAddress isAsciiAddress run utf8 chars cutBy cutAfter charLen leadingOnes leadingZeros isChar secondLow secondHigh isXchar isHexDigit hexValue isHexchar unitLen unitByte decodingAfter decoding isXtext decoded isAltAddress verb hasVerb pathScan pathLen path hasPath tail params spaced isKeywordByte keywordLen keyword hasValue value isOrcpt isAlt isValueByte isParam alts altsOk wellFormed altFault lineFault envelopeLines lineText endedFault faultOf faultNumber isFine checkedFrom checked lineByte blank nameByte nameLen named continuation lineOk linesOf linesFrom checkedLines wellFormedLine numberOf placeOf over ofEnvelope ofLines ofOrcpt ofHeld firstOf verdict outcomeOf outcome texts orcptFrom orcptLine orcptFault writtenEnded writtenOf written writtenLine heldFrom heldOf isHeld fateOf fold fieldLen fieldsOf valueOf newField newFields outgoingSegments outgoingHeader mailOf mailReplacement onlyRcptOf rcptReplacement replacement segmentsOf fieldSegments headerSegments rendered
+unfolding alt altPlace orcptClean newPath withoutAlt rowAfterIn runsAfter linesAfter nameOf unfoldedAfter trimmed textOf six addressNames groups among kindAmong kindOf labelledField prefix encodedField kindFate lineCount rowIn runs cut lines word spell spellByte bare hexDigit bytes lower sameAnyCase crlf lineLen later byteThen scanThen isAtext isAtomByte isQuotedByte isLiteralByte dotAtomFrom dotAtomScan quotedFrom quotedScan literalFrom literalScan domainScan localScan addressScan isAddress isAsciiAddress run utf8 chars cutBy cutAfter charLen leadingOnes leadingZeros isChar secondLow secondHigh isXchar isHexDigit hexValue isHexchar unitLen unitByte decodingAfter decoding isXtext decoded isAltAddress verb hasVerb pathScan pathLen path hasPath tail params spaced isKeywordByte keywordLen keyword hasValue value isOrcpt isAlt isValueByte isParam alts altsOk wellFormed altFault lineFault envelopeLines lineText endedFault faultOf faultNumber isFine checkedFrom checked lineByte blank nameByte nameLen named continuation lineOk linesOf linesFrom checkedLines wellFormedLine numberOf placeOf over ofEnvelope ofLines ofOrcpt ofHeld firstOf verdict outcomeOf outcome texts orcptFrom orcptLine orcptFault writtenEnded writtenOf written writtenLine heldFrom heldOf isHeld fateOf fold fieldLen fieldsOf valueOf newField newFields outgoingSegments outgoingHeader mailOf mailReplacement onlyRcptOf rcptReplacement replacement segmentsOf fieldSegments headerSegments rendered
 cases-right = (
   refl,
   (
@@ -145,7 +168,7 @@ cases-right = (
                     λ b c. refl,
                     (
                       λ b c. refl,
-                      (taken-by (mailed (bytes "a@x") []) (headerNamed 76) refl tt tt, (λ b c. refl, tt)),
+                      (taken-by (mailed (bytes "a@x") []) (headerNamed 76) refl tt tt, (λ b c. refl, (needs-by wholeEnvelope wholeHeader 54 146 refl refl refl, tt))),
                     ),
                   ),
                 ),

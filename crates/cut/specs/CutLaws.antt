@@ -53,6 +53,15 @@ module _ {A : Type 0} where
         (λ u. rw (cut-more k run c cs u) (cut-fits good one k (run ++ (c ∷ [])) cs u (both .1)))
         (λ u. rw (cut-next k run c cs u) (t, cut-fits good one (suc k) (c ∷ []) cs (one k c (both .0)) (both .1)))
 
+    -- there is a first line
+    pub cut-first : (k : ℕ) (run cs : List A) → T (nonempty (cut fits k run cs))
+    unfolding cut
+    cut-first k run [] = tt
+    cut-first k run (c ∷ cs) =
+        by-test (fits k (run ++ (c ∷ [])))
+        (λ u. rw (cut-more k run c cs u) (cut-first k (run ++ (c ∷ [])) cs))
+        (λ u. rw (cut-next k run c cs u) tt)
+
     -- each line has something, if the first does
     pub cut-some : (k : ℕ) (run cs : List A) → T (nonempty run) → T (all nonempty (cut fits k run cs))
     unfolding cut

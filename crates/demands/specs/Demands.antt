@@ -9,8 +9,9 @@ use lib.ListN.{length, take, drop}
 use Rattle.lists.specs.Byte.{isAscii}
 use Rattle.lists.specs.Lists.{all, joined}
 use Rattle.row.specs.Demand3.{Demand3}
+use Rattle.row.specs.FieldRow.{FieldDemand3}
 use Rattle.encoded_word.specs.Segments.{Segment, rendered}
-use Rattle.encoded_word.specs.Segments.Segment.{words, labelled}
+use Rattle.encoded_word.specs.Segments.Segment.{raw, words, labelled}
 use Rattle.envelope_line.specs.declared.Fault.the-variants.{Malformed, NoAlternative, BadAlternative}
 use Rattle.envelope.specs.declared.Checked.the-variants.{Passed, Refused}
 use Rattle.envelope.specs.declared.Orcpt.the-variants.{Clean, At}
@@ -119,23 +120,23 @@ pub record Demand2 (e h : List ℕ) (o : Outcome) : Type 0 where
 -- ---- demand 3: "Every row of encoded words reads back, by RFC 2047, as exactly its text; each word is at most 75 characters and
 -- holds whole characters; no other row in our spelling that reads back as the same text has fewer words." "Wherever a rule asks for
 -- encoded words of something, that something .. is a text, and the bytes written there for it are its row. Each such occurrence
--- counts by itself."
+-- counts by itself." The rows of plain text fields and of all Downgraded fields are set after a label, the name with its colon: "Demand 3 for
+-- these fields now speaks of the fewest lines of the field, among rows set as ours are".
 
--- what a segment asks for: the encoded words of a text, by themselves or after a label
-pub data Asks : Segment → List ℕ → List ℕ → Type 0 where
-  unlabelled : (text : List ℕ) → Asks (words text) [] text
-  afterLabel : (label text : List ℕ) → Asks (labelled label text) label text
-
--- where a rule asks for encoded words of a text, between these segments and after a label, the header in the buffer has bytes that are
--- a row as demand 3 wants it
-pub record RowThere (o : Outcome) (before : List Segment) (label text : List ℕ) (after : List Segment) : Type 0 where
+-- between these segments and after a label, the header in the buffer has bytes that are a row as it is wanted
+pub record RowThere (o : Outcome) (before : List Segment) (label : List ℕ) (Wanted : List ℕ → Type 0) (after : List Segment) : Type 0 where
   pub row : List ℕ
   pub there : take (o .headerLen) (o .headerBuffer) ≡ rendered before ++ (label ++ (row ++ rendered after))
-  pub demand : Demand3 text row
+  pub demand : Wanted row
+
+-- what a segment between these asks for: the encoded words of a text, by themselves or after a label
+abbrev pub Asked : Outcome → List Segment → Segment → List Segment → Type 0
+Asked o before (raw bytes) after = Unit {0}
+Asked o before (words text) after = RowThere o before [] (λ row. Demand3 text row) after
+Asked o before (labelled label text) after = RowThere o before label (λ row. FieldDemand3 (length label) text row) after
 
 abbrev pub DemandThree : List ℕ → List ℕ → Outcome → Type 0
-DemandThree e h o = (before : List Segment) (s : Segment) (after : List Segment) → outgoingSegments e h ≡ before ++ (s ∷ after)
-    → (label text : List ℕ) → Asks s label text → RowThere o before label text after
+DemandThree e h o = (before : List Segment) (s : Segment) (after : List Segment) → outgoingSegments e h ≡ before ++ (s ∷ after) → Asked o before s after
 
 -- ---- all three
 

@@ -5,7 +5,7 @@ use mathlib.Core.List.{List, [], _∷_, _++_, append-assoc, map, List·Memᴰ, L
 use Prim.Native.Nat.{ℕ, zero, suc, _+_, _≤_}
 use native.Mathlib.Omega.{arith}
 use lib.Dec.{T, ltb}
-use lib.ListN.{length, drop}
+use lib.ListN.{length, take, drop}
 use mir.Facts.{ltb-yes, ltb-no, yes-and}
 use Rattle.lists.specs.Byte.{isAscii}
 use Rattle.utf8.specs.Utf8.{utf8}
@@ -13,10 +13,10 @@ use Rattle.lists.specs.Lists.{all, joined}
 use Rattle.lists.specs.ListsLaws.{by-test, all-append}
 use Rattle.buffer.specs.Buffer.{overlay}
 use Rattle.buffer.specs.BufferLaws.{length-overlay, overlay-front, overlay-past}
-use Rattle.row.specs.Row.{row}
-use Rattle.encoded_word.specs.Segments.{Segment, rendered, sound}
+use Rattle.row.specs.Row.{row, rowAfter}
+use Rattle.encoded_word.specs.Segments.{Segment, bytesOf, rendered, sound}
+use Rattle.encoded_word.specs.Segments.Segment.{raw, words, labelled}
 use Rattle.encoded_word.specs.SegmentsLaws.{rendered-append, rendered-ascii, words-demand-3, labelled-demand-3}
-use Rattle.row.specs.Demand3.{Demand3}
 use Rattle.letter_case.specs.LetterCase.{bytes}
 use Rattle.envelope_line.specs.declared.Fault.{Fault}
 use Rattle.envelope_line.specs.declared.Fault.the-variants.{Fine, Malformed, NoAlternative, BadAlternative}
@@ -47,8 +47,7 @@ use Rattle.call.specs.declared.Verdict.the-variants.{Accept, Refuse}
 use Rattle.call.specs.OutgoingHeader.{newField, newFields, outgoingSegments, outgoingHeader}
 use Rattle.call.specs.Outcome.{numberOf, placeOf, ofEnvelope, ofLines, ofOrcpt, ofHeld, firstOf, verdict, Outcome, outcomeOf, outcome}
 use Rattle.call.specs.OutputLaws.{over-yes, over-no}
-use Rattle.demands.specs.Demands.{InLimits, EnvelopePasses, HeaderPasses, OrcptPasses, Passes, Given, Untouched, KeptPast, Demand1, became, Demand2, Asks, RowThere, DemandThree, Demands}
-use Rattle.demands.specs.Demands.Asks.{unlabelled, afterLabel}
+use Rattle.demands.specs.Demands.{InLimits, EnvelopePasses, HeaderPasses, OrcptPasses, Passes, Given, Untouched, KeptPast, Demand1, became, Demand2, DemandThree, Demands}
 use Rattle.demands.specs.Demands.Given.{envelope-over, header-over, envelope-malformed, no-alternative, bad-alternative, header-malformed, orcpt-non-ascii, held-non-ascii, envelope-longer, header-longer, none-holds}
 
 -- ---- demand 1
@@ -216,21 +215,11 @@ mem-at : (before : List Segment) (s : Segment) (after : List Segment) → List·
 mem-at [] s after = List·Memᴰ·head refl
 mem-at (x ∷ before) s after = List·Memᴰ·tail (mem-at before s after)
 
-rendered-asked : {s : Segment} {label text : List ℕ} → Asks s label text → (after : List Segment) → rendered (s ∷ after) ≡ label ++ (row text ++ rendered after)
-unfolding rendered
-rendered-asked (unlabelled text) after = refl
-rendered-asked (afterLabel label text) after = append-assoc label (row text) (rendered after)
-
-asked-demand-3 : (ss : List Segment) {s : Segment} {label text : List ℕ} → Asks s label text → T (all sound ss) → List·Memᴰ s ss → Demand3 text (row text)
-asked-demand-3 ss (unlabelled text) h m = words-demand-3 ss text h m
-asked-demand-3 ss (afterLabel label text) h m = labelled-demand-3 ss label text h m
-
 module _ (e h : List ℕ) (p : Passes e h) where
-  rendered-at : (before : List Segment) (s : Segment) (after : List Segment) → outgoingSegments e h ≡ before ++ (s ∷ after) → {label text : List ℕ} → Asks s label text
-      → outgoingHeader e h ≡ rendered before ++ (label ++ (row text ++ rendered after))
-  unfolding outgoingHeader
-  rendered-at before s after q a =
-      ap rendered q ∙ rendered-append before (s ∷ after) ∙ ap (λ (l : List ℕ). rendered before ++ l) (rendered-asked a after)
+  rendered-at : (before : List Segment) (s : Segment) (after : List Segment) → outgoingSegments e h ≡ before ++ (s ∷ after)
+      → outgoingHeader e h ≡ rendered before ++ (bytesOf s ++ rendered after)
+  unfolding outgoingHeader rendered
+  rendered-at before s after q = ap rendered q ∙ rendered-append before (s ∷ after)
 
   segments-sound : T (all sound (outgoingSegments e h))
   unfolding outgoingSegments newFields bytes segmentsOf
@@ -270,11 +259,22 @@ module _ (e h : List ℕ) (p : Passes e h) where
           copied = field-copied Spool;
         })
 
+    segment-there : (before : List Segment) (s : Segment) (after : List Segment) → outgoingSegments e h ≡ before ++ (s ∷ after)
+        → let o = outcome e h b c in take (o .headerLen) (o .headerBuffer) ≡ rendered before ++ (bytesOf s ++ rendered after)
+    segment-there before s after q = outcome-demand-2 .header ∙ rendered-at before s after q
+
     outcome-demand-3 : DemandThree e h (outcome e h b c)
-    outcome-demand-3 before s after q label text a = record {
+    outcome-demand-3 before (raw bytes) after q = tt
+    outcome-demand-3 before (words text) after q = record {
       row = row text;
-      there = outcome-demand-2 .header ∙ rendered-at before s after q a;
-      demand = asked-demand-3 (outgoingSegments e h) a segments-sound (rw q (mem-at before s after));
+      there = segment-there before (words text) after q;
+      demand = words-demand-3 (outgoingSegments e h) text segments-sound (rw q (mem-at before (words text) after));
+    }
+    outcome-demand-3 before (labelled label text) after q = record {
+      row = rowAfter (length label) text;
+      there = segment-there before (labelled label text) after q
+          ∙ ap (λ (l : List ℕ). rendered before ++ l) (append-assoc label (rowAfter (length label) text) (rendered after));
+      demand = labelled-demand-3 (outgoingSegments e h) label text segments-sound (rw q (mem-at before (labelled label text) after));
     }
 
 -- All three, of every envelope, every header and every two buffers.

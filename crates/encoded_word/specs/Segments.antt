@@ -1,12 +1,13 @@
--- The outgoing header as a list of segments: bytes as they stand, the encoded words of a text, or a label with the encoded words of a
--- text set after it. Wherever a rule asks for encoded words of something there is one segment `words` or `labelled`. Assumes nothing.
+-- The outgoing header as a list of segments: bytes as they stand, the encoded words of a text, or a label, which is a name with its colon,
+-- with the encoded words of a text set after it. Wherever a rule asks for encoded words of something there is one segment `words` or `labelled`. Assumes nothing.
 use mathlib.Core.Bool.{Bool, _&&_}
 use mathlib.Core.List.{List, [], _∷_, _++_}
 use Prim.Native.Nat.{ℕ}
+use lib.ListN.{length}
 use Rattle.lists.specs.Byte.{isAscii}
 use Rattle.lists.specs.Lists.{all}
 use Rattle.utf8.specs.Utf8.{utf8}
-use Rattle.row.specs.Row.{row}
+use Rattle.row.specs.Row.{row, rowAfter}
 
 pub data Segment : Type 0 where
   raw : List ℕ → Segment
@@ -17,7 +18,7 @@ pub data Segment : Type 0 where
 abbrev pub bytesOf : Segment → List ℕ
 bytesOf (raw bytes) = bytes
 bytesOf (words text) = row text
-bytesOf (labelled label text) = label ++ row text
+bytesOf (labelled label text) = label ++ rowAfter (length label) text
 
 -- the bytes of segments one after another
 unfoldable pub rendered : List Segment → List ℕ

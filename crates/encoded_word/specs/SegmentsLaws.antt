@@ -2,6 +2,7 @@
 use mathlib.Core.Path.{_≡_, refl, sym}
 use mathlib.Core.List.{List, [], _∷_, _++_, append-assoc, List·Memᴰ, map}
 use Prim.Native.Nat.{ℕ, _+_, _<_}
+use lib.ListN.{length}
 use lib.Dec.{T, ltb→lt}
 use mir.Facts.{and-yes}
 use Rattle.lists.specs.Byte.{isByte, isAscii}
@@ -12,9 +13,11 @@ use Rattle.utf8.specs.Utf8.{chars, utf8}
 use Rattle.utf8.specs.Utf8Laws.{chars-joined, utf8-bytes}
 use Rattle.hex.specs.Hex.{hexDigit}
 use Rattle.word_spelling.specs.Spelling.{closing, bare, spellByte, spell}
-use Rattle.row.specs.Row.{runs, word, lines, rowIn, row}
+use Rattle.row.specs.Row.{runs, word, lines, rowIn, row, runsAfter, linesAfter, rowAfterIn, rowAfter}
 use Rattle.row.specs.Demand3.{Demand3}
 use Rattle.row.specs.Demand3Laws.{runs-joined, demand-3}
+use Rattle.row.specs.FieldRow.{FieldDemand3}
+use Rattle.row.specs.FieldRowLaws.{runs-after-joined, field-demand-3}
 use Rattle.encoded_word.specs.Segments.{Segment, bytesOf, rendered, sound}
 use Rattle.encoded_word.specs.Segments.Segment.{raw, words, labelled}
 
@@ -47,6 +50,19 @@ row-ascii room text h =
     (all-joined isByte (map joined (runs room (chars text)))
     (rw (joined-map (runs room (chars text)), runs-joined room (chars text), chars-joined text) h))
 
+lines-after-ascii : (ls : List (List ℕ)) → T (all (all isByte) ls) → T (all isAscii (linesAfter ls))
+unfolding linesAfter lines
+lines-after-ascii [] h = tt
+lines-after-ascii ([] ∷ ls) h = lines-ascii ls h
+lines-after-ascii ((b ∷ l) ∷ ls) h = lines-ascii ((b ∷ l) ∷ ls) h
+
+row-after-ascii : (room column : ℕ) (text : List ℕ) → T (all isByte text) → T (all isAscii (rowAfterIn room column text))
+unfolding rowAfterIn
+row-after-ascii room column text h =
+    lines-after-ascii (map joined (runsAfter room column (chars text)))
+    (all-joined isByte (map joined (runsAfter room column (chars text)))
+    (rw (joined-map (runsAfter room column (chars text)), runs-after-joined room column (chars text), chars-joined text) h))
+
 -- ---- segments
 
 pub rendered-append : (a b : List Segment) → rendered (a ++ b) ≡ rendered a ++ rendered b
@@ -59,7 +75,7 @@ bytes-ascii (raw bytes) h = h
 bytes-ascii (words text) h = row-ascii 63 text (utf8-bytes text h)
 bytes-ascii (labelled label text) h =
     let both = and-yes (all isAscii label) (utf8 text) h in
-    all-append isAscii label (row text) (both .0) (row-ascii 63 text (utf8-bytes text (both .1)))
+    all-append isAscii label (rowAfter (length label) text) (both .0) (row-after-ascii 63 (length label) text (utf8-bytes text (both .1)))
 
 pub rendered-ascii : (ss : List Segment) → T (all sound ss) → T (all isAscii (rendered ss))
 unfolding rendered
@@ -68,9 +84,9 @@ rendered-ascii (s ∷ ss) h =
     let both = and-yes (sound s) (all sound ss) h in
     all-append isAscii (bytesOf s) (rendered ss) (bytes-ascii s (both .0)) (rendered-ascii ss (both .1))
 
--- Demand 3 for every text that a rule asked to encode.
+-- Demand 3 for every text that a rule asked to encode, by itself or after a label.
 pub words-demand-3 : (ss : List Segment) (text : List ℕ) → T (all sound ss) → List·Memᴰ (words text) ss → Demand3 text (row text)
 words-demand-3 ss text h m = demand-3 text (all-mem sound h m)
 
-pub labelled-demand-3 : (ss : List Segment) (label text : List ℕ) → T (all sound ss) → List·Memᴰ (labelled label text) ss → Demand3 text (row text)
-labelled-demand-3 ss label text h m = demand-3 text (and-yes (all isAscii label) (utf8 text) (all-mem sound h m) .1)
+pub labelled-demand-3 : (ss : List Segment) (label text : List ℕ) → T (all sound ss) → List·Memᴰ (labelled label text) ss → FieldDemand3 (length label) text (rowAfter (length label) text)
+labelled-demand-3 ss label text h m = field-demand-3 (length label) text (and-yes (all isAscii label) (utf8 text) (all-mem sound h m) .1)

@@ -12,9 +12,9 @@ pub record PutTurn (s : List ℕ) (i left : ℕ) (at : ℕ) (before after : List
   pub small : length text ≤ 39
   pub wrote : Appended text at before after at′
 
--- Turns one after another from the start of a text on, written from the place `at` on.
-pub record Ran (s : List ℕ) (at : ℕ) (before after : List ℕ) (i left at′ : ℕ) : Type 0 where
+-- Turns one after another from the start of a text on, in a word that is open with this room, written from the place `at` on.
+pub record Ran (s : List ℕ) (room at : ℕ) (before after : List ℕ) (i left at′ : ℕ) : Type 0 where
   pub within : i ≤ length s
   pub roomy : left ≤ 63
   pub short : at′ ≤ at + 18 * i
-  pub reached : Reached (onwardsAt s 0 63) (onwardsAt s i left) at before after at′
+  pub reached : Reached (onwardsAt s 0 room) (onwardsAt s i left) at before after at′

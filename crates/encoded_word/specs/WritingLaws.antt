@@ -17,10 +17,10 @@ use Rattle.word_spelling.specs.FirstChars.{firstChar, firstChars}
 use Rattle.word_spelling.specs.FirstCharsLaws.{spelt-alone, cost-alone, first-in}
 use Rattle.word_spelling.specs.HighChar.{HighChar}
 use Rattle.word_spelling.specs.HighCharLaws.{both, char-size, escapes-next, whole-end, whole-take, whole-cost}
-use Rattle.row.specs.Row.{rowIn}
-use Rattle.row.specs.Stream.{start, gap, leftAfter, onwardsAt}
+use Rattle.row.specs.Row.{rowAfterIn}
+use Rattle.row.specs.Stream.{gap, leftAfter, onwardsAt, roomHere, startAfter, roomAfter}
 use Rattle.row.specs.StreamLaws.{length-gap, turn, turned-four, onwards-end}
-use Rattle.row.specs.RowLaws.{row-start}
+use Rattle.row.specs.RowLaws.{row-after-start, firstOf}
 use Rattle.encoded_word.specs.Writing.{PutTurn}
 
 -- ---- turns
@@ -69,11 +69,12 @@ pub put-on : {whole s before mid after : List ℕ} {at₀ at i left i′ left′
     → PutTurn s i left at mid after i′ left′ at′ → Reached whole (onwardsAt s i′ left′) at₀ before after at′
 put-on g t = reached-then (t .text) _ g (t .turned .joins) (t .wrote)
 
--- the row of a text that has something: a start, and what a loop writes from there
-pub row-wrote : (s : List ℕ) (i left : ℕ) {before begun mid after : List ℕ} {a n r : ℕ} → 0 < length s
-    → Wrote start before begun a → Reached (onwardsAt s 0 63) (onwardsAt s i left) a begun mid n → Appended (onwardsAt s i left) n mid after r
-    → Wrote (rowIn 63 s) before after r
-row-wrote s i left some b g e = wrote-from (rw (row-start s some) (appended-then (appended-from b) (reached-last g e)))
+-- the row of a text that has something, after a name: a start, by the room for the first word there, and what a loop writes from there
+pub row-wrote : (s : List ℕ) (column here i left : ℕ) {before begun mid after : List ℕ} {a n r : ℕ} → 0 < length s
+    → here ≡ roomHere column (cost (firstOf s)) → Wrote (startAfter here) before begun a
+    → Reached (onwardsAt s 0 (roomAfter here)) (onwardsAt s i left) a begun mid n → Appended (onwardsAt s i left) n mid after r
+    → Wrote (rowAfterIn 63 column s) before after r
+row-wrote s column here i left some h b g w = wrote-from (rw (row-after-start s some column here h) (appended-then (appended-from b) (reached-last g w)))
 
 pub onwards-ended : (s : List ℕ) (i left : ℕ) {whole before mid after : List ℕ} {at n r : ℕ} → length s ≤ i
     → Reached whole (onwardsAt s i left) at before mid n → Appended closing n mid after r → Appended whole at before after r

@@ -161,13 +161,20 @@ fn put_next(first: &[u8; 256], out: &mut [u8], at: usize, left: usize, s: &[u8],
     put_high(first, out, at, left, s, i)
 }
 
-// Characters from the start of the text on, as long as the buffer has room for the next whatever it is.
-pub(crate) fn put_while_roomy(first: &[u8; 256], out: &mut [u8], start: usize, s: &[u8]) -> Spot
-    requires { ⌜ now first ≡ firstChars ⌝ }
-    ensures { λ r. ⌜ Ran (now (s .entry)) start (now (out .entry)) (now (out .exit)) (r .i) (r .left) (r .at) ⌝ }
+// Characters from the start of the text on, in a word that is open with this room, as long as the buffer has room for the next whatever it
+// is.
+pub(crate) fn put_while_roomy(
+    first: &[u8; 256],
+    out: &mut [u8],
+    start: usize,
+    room: usize,
+    s: &[u8],
+) -> Spot
+    requires { ⌜ (now first ≡ firstChars) × (room ≤ 63) ⌝ }
+    ensures { λ r. ⌜ Ran (now (s .entry)) room start (now (out .entry)) (now (out .exit)) (r .i) (r .left) (r .at) ⌝ }
 {
     let mut i = 0;
-    let mut left = 63;
+    let mut left = room;
     let mut at = start;
     if 39 <= out.len() {
         let last = out.len() - 39;

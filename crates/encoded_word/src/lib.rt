@@ -6,20 +6,21 @@ mod word;
 ghost use mathlib.Core.Path.{_≡_};
 ghost use lib.ListN.{length};
 ghost use Rattle.buffer.specs.Buffer.{Wrote, AppendedCapped};
-ghost use Rattle.row.specs.Row.{row, bounded};
+ghost use Rattle.row.specs.Row.{row, rowAfter, bounded};
 use character::put_clipped;
 use character::put_while_roomy;
+use word::put_first;
 
 // The longest text that has a row, in bytes.
 const LIMIT: usize = 4294967296;
 
-// Writes a text's row to the front of out, as far as it fits; answers the length of the whole row. A text of more than 4 GiB counts as
-// empty.
-pub fn write(out: &mut [u8], text: &[u8]) -> usize
-    ensures { λ r. ⌜ Wrote (row (bounded (now (text .entry)))) (now (out .entry)) (now (out .exit)) r ⌝ }
+// Writes a text's row after a name and its colon, which have `column` characters, to the front of out, as far as it fits; answers the length
+// of the whole row. A text of more than 4 GiB counts as empty.
+pub fn write_after(out: &mut [u8], column: usize, text: &[u8]) -> usize
+    ensures { λ r. ⌜ Wrote (rowAfter column (bounded (now (text .entry)))) (now (out .entry)) (now (out .exit)) r ⌝ }
 {
     if out.len() == 0 {
-        return row_length::len(text);
+        return row_length::len_after(column, text);
     }
     if text.len() == 0 {
         return 0;
@@ -28,12 +29,21 @@ pub fn write(out: &mut [u8], text: &[u8]) -> usize
         return 0;
     }
     let first = word_spelling::first_chars();
-    let started = buffer::put_slice(out, b"\r\n =?UTF-8?Q?");
-    let r = put_while_roomy(&first, out, started, text);
+    let open = put_first(out, row_length::room_here(&first, column, text));
+    let begun = open.at;
+    let room = open.left;
+    let r = put_while_roomy(&first, out, begun, room, text);
     let i = r.i;
     let left = r.left;
     let at = r.at;
     put_clipped(&first, out, at, left, text, i)
+}
+
+// The same of a row that begins on a line of its own.
+pub fn write(out: &mut [u8], text: &[u8]) -> usize
+    ensures { λ r. ⌜ Wrote (row (bounded (now (text .entry)))) (now (out .entry)) (now (out .exit)) r ⌝ }
+{
+    write_after(out, 63, text)
 }
 
 // The length of a text's row.
@@ -43,7 +53,16 @@ pub fn len(text: &[u8]) -> usize
     row_length::len(text)
 }
 
-// Writes a text's row from a place on, as far as it fits; answers the place after it, at most the greatest usize.
+// Writes a text's row after a name and its colon, which have `column` characters, from a place on, as far as it fits; answers the place
+// after it, at most the greatest usize.
+pub fn add_after(out: &mut [u8], at: usize, column: usize, text: &[u8]) -> usize
+    ensures { λ r. ⌜ AppendedCapped (rowAfter column (bounded (now (text .entry)))) at (now (out .entry)) (now (out .exit)) r ⌝ }
+{
+    let start = buffer::clip(at, out.len());
+    buffer::place_after(at, write_after(&mut out[start..], column, text))
+}
+
+// The same of a row that begins on a line of its own.
 pub fn add(out: &mut [u8], at: usize, text: &[u8]) -> usize
     ensures { λ r. ⌜ AppendedCapped (row (bounded (now (text .entry)))) at (now (out .entry)) (now (out .exit)) r ⌝ }
 {

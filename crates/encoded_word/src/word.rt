@@ -2,14 +2,30 @@
 ghost use mathlib.Core.Path.{_≡_};
 ghost use Prim.Native.Nat.{_+_, _≤_};
 ghost use lib.ListN.{length};
-ghost use Rattle.buffer.specs.Buffer.{Appended};
+ghost use Rattle.buffer.specs.Buffer.{Wrote, Appended};
 ghost use Rattle.word_spelling.specs.Spelling.{closing};
-ghost use Rattle.row.specs.Stream.{start, gap, leftAfter};
+ghost use Rattle.row.specs.Stream.{start, gap, leftAfter, startAfter, roomAfter};
 
 // A place in the output, and the room that is left in the open word.
 pub(crate) struct Open {
     pub at: usize,
     pub left: usize,
+}
+
+// Starts the first word of a row after a name, by the room for it on the name's line: after one space, or on the next line where there is
+// none.
+pub(crate) fn put_first(out: &mut [u8], here: usize) -> Open
+    ensures { λ r. ⌜ (r .left ≡ roomAfter here) × Wrote (startAfter here) (now (out .entry)) (now (out .exit)) (r .at) ⌝ }
+{
+    if here == 0 {
+        let next = buffer::put_slice(out, b"\r\n =?UTF-8?Q?");
+        return Open { at: next, left: 63 };
+    }
+    let after = buffer::put_slice(out, b" =?UTF-8?Q?");
+    Open {
+        at: after,
+        left: here,
+    }
 }
 
 // Writes CRLF, space and `=?UTF-8?Q?`.

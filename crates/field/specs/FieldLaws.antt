@@ -1,20 +1,20 @@
 -- Laws of fields in encoded words: their length, their soundness, and their writing part by part. Assumes nothing.
-use mathlib.Core.Path.{_≡_, refl}
+use mathlib.Core.Path.{_≡_, refl, sym, ap, _∙_}
 use mathlib.Core.Bool.{Bool, true, false}
 use mathlib.Core.List.{List, [], _∷_, _++_, append-assoc, append-nil}
-use Prim.Native.Nat.{ℕ, _+_, _*_, _≤_}
+use Prim.Native.Nat.{ℕ, _+_, _*_, _≤_, _<_, min}
 use native.Mathlib.Omega.{arith}
-use lib.Dec.{T, lit≤}
+use lib.Dec.{T, leb, lit≤}
 use lib.ListN.{length, length-append}
-use mir.Facts.{yes-and}
+use mir.Facts.{yes-and, leb-yes, leb-no}
 use Rattle.lists.specs.Byte.{isAscii}
 use Rattle.lists.specs.Lists.{all}
-use Rattle.lists.specs.ListsLaws.{all-append}
+use Rattle.lists.specs.ListsLaws.{by-test, all-append}
 use Rattle.utf8.specs.Utf8.{utf8}
 use Rattle.buffer.specs.Buffer.{AppendedCapped, greatest}
 use Rattle.buffer.specs.BufferLaws.{capped-then, capped-same, length-added}
-use Rattle.row.specs.Row.{row}
-use Rattle.row.specs.RowLaws.{length-row-le}
+use Rattle.row.specs.Row.{rowAfter}
+use Rattle.row.specs.RowLaws.{row-after-none, length-row-after-le}
 use Rattle.encoded_word.specs.Segments.{Segment, rendered, sound}
 use Rattle.encoded_word.specs.Segments.Segment.{raw}
 use Rattle.letter_case.specs.LetterCase.{bytes}
@@ -22,16 +22,16 @@ use Rattle.field.specs.Field.{labelledField, prefix, encodedField}
 
 -- ---- length
 
-pub length-labelled : (label text : List ℕ) → length (rendered (labelledField label text)) ≤ 17 + length label + 5 * length text
+pub length-labelled : (label text : List ℕ) → length (rendered (labelledField label text)) ≤ 17 + 2 * length label + 5 * length text
 unfolding labelledField rendered
-length-labelled label text = simp length-append (omega (arith, length-row-le text))
+length-labelled label text = simp length-append (omega (arith, length-row-after-le (length label) text))
 
 length-prefix : (downgraded : Bool) → length (prefix downgraded) ≤ 11
 unfolding prefix bytes
 length-prefix true = lit≤ tt
 length-prefix false = lit≤ tt
 
-pub length-encoded : (downgraded : Bool) (name text : List ℕ) → length (rendered (encodedField downgraded name text)) ≤ 29 + length name + 5 * length text
+pub length-encoded : (downgraded : Bool) (name text : List ℕ) → length (rendered (encodedField downgraded name text)) ≤ 41 + 2 * length name + 5 * length text
 unfolding encodedField
 length-encoded downgraded name text =
     let label = prefix downgraded ++ (name ++ (58 ∷ [])) in
@@ -60,9 +60,9 @@ encoded-sound downgraded name text a u =
 module _ {before : List ℕ} (h : length before ≤ greatest) where
   -- the encoded words of a text and CRLF, after its label
   pub labelled-added : (label text : List ℕ) {named after : List ℕ} {at n r : ℕ} → AppendedCapped label at before named n
-      → AppendedCapped (row text ++ (13 ∷ 10 ∷ [])) n named after r → AppendedCapped (rendered (labelledField label text)) at before after r
+      → AppendedCapped (rowAfter (length label) text ++ (13 ∷ 10 ∷ [])) n named after r → AppendedCapped (rendered (labelledField label text)) at before after r
   unfolding labelledField rendered
-  labelled-added label text a b = capped-same (regroup label (row text)) (capped-then a b h)
+  labelled-added label text a b = capped-same (regroup label (rowAfter (length label) text)) (capped-then a b h)
     where
       regroup : (a b : List ℕ) → a ++ (b ++ (13 ∷ 10 ∷ [])) ≡ (a ++ b) ++ (13 ∷ 10 ∷ [])
       regroup a b = rw append-assoc
@@ -71,6 +71,17 @@ module _ {before : List ℕ} (h : length before ≤ greatest) where
       → AppendedCapped name n first named m → AppendedCapped (58 ∷ []) m named after r
       → AppendedCapped (prefix downgraded ++ (name ++ (58 ∷ []))) at before after r
   label-added downgraded name a b c = capped-then a (capped-then b c (omega (arith, h, length-added a))) h
+
+-- the length of a label, that of its name counted to 63
+pub column-label : (downgraded : Bool) (name text : List ℕ) {column : ℕ} → column ≡ length (prefix downgraded) + (min (length name) 63 + 1)
+    → rowAfter column text ≡ rowAfter (length (prefix downgraded ++ (name ++ (58 ∷ [])))) text
+column-label downgraded name text {column} e =
+    let whole = length-append (prefix downgraded) (name ++ (58 ∷ [])) in
+    let named = length-append name (58 ∷ []) in
+    let label = prefix downgraded ++ (name ++ (58 ∷ [])) in
+    by-test (leb (length name) 63)
+    (λ t. let same : column ≡ length label = omega (arith, e, whole, named, leb-yes {a = length name} {b = 63} t) in ap (λ (n : ℕ). rowAfter n text) same)
+    (λ t. let long : 63 < length name = leb-no t in row-after-none column text (omega (arith, e)) ∙ sym (row-after-none (length label) text (omega (arith, whole, named))))
 
 pub encoded-added : (downgraded : Bool) (name text : List ℕ) {before after : List ℕ} {at r : ℕ}
     → AppendedCapped (rendered (labelledField (prefix downgraded ++ (name ++ (58 ∷ []))) text)) at before after r

@@ -1,7 +1,7 @@
 -- Demand 3 holds of every text of UTF-8 and its row. Proved once over the room of a word. Assumes nothing.
 use mathlib.Core.Path.{_≡_, refl, sym, ap, _∙_}
 use mathlib.Core.List.{List, [], _∷_, _++_, append-nil, map, nil≢cons, List·Memᴰ, List·Memᴰ·head, List·Memᴰ·tail}
-use Prim.Native.Nat.{ℕ, suc, _+_, _≤_, _<_}
+use Prim.Native.Nat.{ℕ, suc, _+_, _≤_}
 use native.Mathlib.Omega.{arith}
 use lib.ListN.{length, length-append, length-map}
 use lib.Dec.{T, leb→le, le→leb, lit≤}
@@ -10,22 +10,22 @@ use Rattle.lists.specs.Lists.{all, nonempty, joined}
 use Rattle.lists.specs.ListsLaws.{all-append, all-joined, all-mem, joined-append, joined-map}
 use Rattle.lists.specs.Byte.{isByte}
 use Rattle.utf8.specs.Utf8.{isChar, chars, utf8}
-use Rattle.utf8.specs.Utf8Laws.{chars-joined, chars-of, utf8-of, utf8-bytes, char-length}
+use Rattle.utf8.specs.Utf8Laws.{chars-joined, chars-of, utf8-of, utf8-bytes, char-length, char-some}
 use Rattle.cut.specs.CutLaws.{AllFit, cut-joined, cut-fits, cut-some, fewest}
-use Rattle.word_spelling.specs.Spelling.{opening, closing, spellByte, spell}
-use Rattle.word_spelling.specs.SpellingLaws.{spell-byte-some, length-spell, length-spell-append, length-spell-joined}
+use Rattle.word_spelling.specs.Spelling.{opening, closing, spell}
+use Rattle.word_spelling.specs.SpellingLaws.{length-spell, length-spell-append, length-spell-joined, cost-some}
 use Rattle.row.specs.Row.{fitsRoom, runs, word, rowIn, row}
 use Rattle.row.specs.Layout.{Word, wordBytes, Laid, addedText}
 use Rattle.row.specs.LayoutLaws.{ours, lines-laid}
 use Rattle.row.specs.Demand3.{AllProper, RowOf, Demand3In, Demand3}
 
 -- a word is its opening and closing, 12 characters, and what stands between
-length-word : (w : Word) → length (wordBytes w) ≡ length (w .standing) + 12
+pub length-word : (w : Word) → length (wordBytes w) ≡ length (w .standing) + 12
 length-word w = rw (length-append opening (w .standing ++ closing), length-append (w .standing) closing) (omega arith)
 
 -- ---- the runs of characters that our words hold
 
-fits-part : (room k : ℕ) (d m e : List (List ℕ)) → T (fitsRoom room k (d ++ (m ++ e))) → T (fitsRoom room k m)
+pub fits-part : (room k : ℕ) (d m e : List (List ℕ)) → T (fitsRoom room k (d ++ (m ++ e))) → T (fitsRoom room k m)
 fits-part room k d m e t =
     le→leb (length (spell (joined m))) room
     (omega (arith, leb→le (length (spell (joined (d ++ (m ++ e))))) room t, length-spell-joined d (m ++ e), length-spell-joined m e))
@@ -42,7 +42,7 @@ runs-some room [] = tt
 runs-some room (c ∷ cs) = cut-some (fitsRoom room) 0 (c ∷ []) cs tt
 
 -- a room of 12 holds every character, 4 bytes of 3 characters each
-char-fits : (room : ℕ) → 12 ≤ room → (k : ℕ) (c : List ℕ) → T (isChar c) → T (fitsRoom room k (c ∷ []))
+pub char-fits : (room : ℕ) → 12 ≤ room → (k : ℕ) (c : List ℕ) → T (isChar c) → T (fitsRoom room k (c ∷ []))
 char-fits room h k c t = rw append-nil (le→leb (length (spell c)) room (omega (arith, length-spell c, char-length c t)))
 
 runs-fit : (room : ℕ) → 12 ≤ room → (cs : List (List ℕ)) → T (all isChar cs) → AllFit (fitsRoom room) 0 (runs room cs)
@@ -62,12 +62,12 @@ runs-fewest room (c ∷ cs) (h ∷ hs) f e = fewest (fitsRoom room) (fits-part r
 -- ---- the runs of characters that any proper words hold
 
 -- the characters of each word
-abbrev runsOf : List Word → List (List (List ℕ))
+abbrev pub runsOf : List Word → List (List (List ℕ))
 runsOf [] = []
 runsOf (w ∷ ws) = chars (w .added) ∷ runsOf ws
 
 module _ (room : ℕ) where
-  runs-of-fit : (k : ℕ) (ws : List Word) → AllProper (room + 12) ws → AllFit (fitsRoom room) k (runsOf ws)
+  pub runs-of-fit : (k : ℕ) (ws : List Word) → AllProper (room + 12) ws → AllFit (fitsRoom room) k (runsOf ws)
   runs-of-fit k [] h = tt
   runs-of-fit k (w ∷ ws) h = (
     le→leb (length (spell (joined (chars (w .added))))) room
@@ -84,22 +84,25 @@ runs-of-text : (ws : List Word) → joined (joined (runsOf ws)) ≡ addedText ws
 runs-of-text [] = refl
 runs-of-text (w ∷ ws) = rw (joined-append (chars (w .added)) (joined (runsOf ws)), chars-joined (w .added), runs-of-text ws) refl
 
-length-runs-of : (ws : List Word) → length (runsOf ws) ≡ length ws
+pub length-runs-of : (ws : List Word) → length (runsOf ws) ≡ length ws
 length-runs-of [] = refl
 length-runs-of (w ∷ ws) = ap suc (length-runs-of ws)
 
+-- the words' text, cut into characters
+pub runs-of-whole : (room : ℕ) (ws : List Word) → AllProper (room + 12) ws → chars (addedText ws) ≡ joined (runsOf ws)
+runs-of-whole room ws h = ap chars (sym (runs-of-text ws)) ∙ chars-of (joined (runsOf ws)) (runs-of-chars room ws h)
+
 words-fewest : (room : ℕ) (ws : List Word) → AllProper (room + 12) ws → length (runs room (chars (addedText ws))) ≤ length ws
 words-fewest room ws h =
-    let same : chars (addedText ws) ≡ joined (runsOf ws) = ap chars (sym (runs-of-text ws)) ∙ chars-of (joined (runsOf ws)) (runs-of-chars room ws h) in
-    rw (same, ← (length-runs-of ws)) (runs-fewest room (joined (runsOf ws)) (runsOf ws) (runs-of-fit room 0 ws h) refl)
+    rw (runs-of-whole room ws h, ← (length-runs-of ws)) (runs-fewest room (joined (runsOf ws)) (runsOf ws) (runs-of-fit room 0 ws h) refl)
 
 -- ---- our words
 
-ours-text : (ls : List (List ℕ)) → addedText (map ours ls) ≡ joined ls
+pub ours-text : (ls : List (List ℕ)) → addedText (map ours ls) ≡ joined ls
 ours-text [] = refl
 ours-text (l ∷ ls) = rw (ours-text ls) refl
 
-ours-proper : (room k : ℕ) (rs : List (List (List ℕ))) → AllFit (fitsRoom room) k rs → T (all (all isChar) rs)
+pub ours-proper : (room k : ℕ) (rs : List (List (List ℕ))) → AllFit (fitsRoom room) k rs → T (all (all isChar) rs)
     → AllProper (room + 12) (map ours (map joined rs))
 ours-proper room k [] f h = tt
 ours-proper room k (r ∷ rs) f h =
@@ -148,15 +151,10 @@ demand-3 text u = demand-3-in _ text (lit≤ tt) u
 
 -- ---- the length of a word, and of its line
 
-spell-some : (c : List ℕ) → T (isChar c) → 0 < length (spell c)
-unfolding spell isChar
-spell-some [] t = absurd t
-spell-some (b ∷ l) t = omega (arith, length-append (spellByte b) (spell l), spell-byte-some b)
-
 run-some : (run : List (List ℕ)) → T (nonempty run) → T (all isChar run) → 1 ≤ length (spell (joined run))
 run-some [] n t = absurd n
 run-some (c ∷ run) n t =
-    omega (arith, length-spell-append c (joined run), spell-some c (and-yes (isChar c) (all isChar run) t .0))
+    omega (arith, length-spell-append c (joined run), cost-some c (char-some c (and-yes (isChar c) (all isChar run) t .0)))
 
 fit-mem : (room k : ℕ) {rs : List (List (List ℕ))} {run : List (List ℕ)} → AllFit (fitsRoom room) k rs → List·Memᴰ run rs
     → length (spell (joined run)) ≤ room

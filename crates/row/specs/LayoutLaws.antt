@@ -59,7 +59,7 @@ spelling-adds b h a =
 abbrev pub ours : List ℕ → Word
 ours bytes = record { standing = spell bytes; added = bytes }
 
-spell-adds : (bytes : List ℕ) → T (all isByte bytes) → Adds (spell bytes) bytes
+pub spell-adds : (bytes : List ℕ) → T (all isByte bytes) → Adds (spell bytes) bytes
 unfolding spell
 spell-adds [] h = Adds.nothing
 spell-adds (b ∷ bytes) h =

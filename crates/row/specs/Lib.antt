@@ -9,4 +9,7 @@ pub mod ReadingLaws
 pub mod ReadingCases
 pub mod Demand3
 pub mod Demand3Laws
+pub mod FieldRow
+pub mod FieldRowLaws
 pub mod CounterexampleLaws
+pub mod FieldCounterexampleLaws

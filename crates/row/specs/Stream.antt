@@ -3,7 +3,7 @@ use mathlib.Core.Path.{_≡_}
 use mathlib.Core.Bool.{cond}
 use mathlib.Core.List.{List, [], _∷_, _++_}
 use Prim.Native.Nat.{ℕ, _+_, _-_, _*_, _≤_, _<_}
-use lib.Dec.{leb}
+use lib.Dec.{leb, eqb}
 use lib.ListN.{length, drop}
 use Rattle.utf8.specs.Utf8.{chars}
 use Rattle.word_spelling.specs.Spelling.{opening, closing, spell}
@@ -28,6 +28,18 @@ onwards room left (c ∷ cs) = (gap left (cost c) ++ spell c) ++ onwards room (l
 -- the same from a place in a text on, in words of 63 characters
 abbrev pub onwardsAt : List ℕ → ℕ → ℕ → List ℕ
 onwardsAt s i left = onwards 63 left (chars (drop i s))
+
+-- The room for the first word on the line of a name and its colon of `column` characters, where its first character takes m: none where
+-- that does not fit.
+unfoldable pub roomHere : ℕ → ℕ → ℕ
+roomHere column m = cond (leb m (63 - column)) (63 - column) 0
+
+-- by that room, how the first word starts, after one space or on a line of its own; and the room that it has
+unfoldable pub startAfter : ℕ → List ℕ
+startAfter here = cond (eqb here 0) start (32 ∷ opening)
+
+unfoldable pub roomAfter : ℕ → ℕ
+roomAfter here = cond (eqb here 0) 63 here
 
 -- A turn of a loop over the characters of a text: from place i with room for `left`, to place i′ with room for `left′`.
 pub record Turned (s : List ℕ) (i left i′ left′ : ℕ) (text : List ℕ) : Type 0 where

@@ -3,11 +3,12 @@ use mathlib.Core.Path.{_≡_, refl, sym, ap, _∙_}
 use mathlib.Core.Bool.{Bool, true, false, cond}
 use mathlib.Core.List.{List, [], _∷_, _++_, append-assoc, append-nil, map}
 use Prim.Native.Nat.{ℕ, zero, suc, _+_, _-_, _≤_, _<_, min}
+use native.Mathlib.Nat.{not-suc-le-zero}
 use native.Mathlib.Numerals.{unary-clauses}
 use native.Mathlib.Omega.{arith}
 use lib.ListN.{length, take, drop, getD, length-append, length-take, length-drop}
 use lib.Dec.{T, leb, leb→le, le→leb, lit≤}
-use mir.Facts.{and-yes, leb-yes, leb-no}
+use mir.Facts.{and-yes, leb-yes, leb-no, no-leb}
 use borrow.Author.Tests.{le-leb, lt-leb}
 use Rattle.lists.specs.Lists.{all, joined}
 use Rattle.lists.specs.ListsLaws.{by-test, all-weaken, joined-append}
@@ -15,11 +16,11 @@ use Rattle.utf8.specs.Utf8.{charLen, chars}
 use Rattle.utf8.specs.Utf8Laws.{chars-short, char-len-some, chars-at, chars-end}
 use Rattle.cut.specs.Cut.{cut}
 use Rattle.cut.specs.CutLaws.{cut-more, cut-next}
-use Rattle.word_spelling.specs.Spelling.{closing, spellByte, spell}
+use Rattle.word_spelling.specs.Spelling.{opening, closing, spellByte, spell}
 use Rattle.word_spelling.specs.Cost.{byteCost, cost}
 use Rattle.word_spelling.specs.SpellingLaws.{spell-append, spell-one, length-spell}
 use Rattle.word_spelling.specs.HighCharLaws.{ascii-len, char-cut, one-byte}
-use Rattle.row.specs.Row.{fitsRoom, runs, word, lines}
+use Rattle.row.specs.Row.{fitsRoom, runs, word, lines, roomsAfter, fitsAfter, runsAfter, linesAfter}
 use Rattle.row.specs.Stream.{start, gap, leftAfter, onwards, onwardsAt, Turned}
 
 -- ---- the room in the open word
@@ -77,42 +78,90 @@ lines-one l = simp append-nil
 spell-snoc : (run : List (List ℕ)) (c : List ℕ) → spell (joined (run ++ (c ∷ []))) ≡ spell (joined run) ++ spell c
 spell-snoc run c = rw (joined-append run (c ∷ []), append-nil, spell-append (joined run) c) refl
 
-module _ (room : ℕ) where
-  cut-lines : (k : ℕ) (run cs : List (List ℕ)) → cost (joined run) ≤ room → T (all (λ c. leb (cost c) room) cs)
-      → lines (map joined (cut (fitsRoom room) k run cs)) ≡ start ++ (spell (joined run) ++ onwards room (room - cost (joined run)) cs)
+-- where line k has the room `rooms k`, and every line after line 0 the same
+module _ (rooms : ℕ → ℕ) (room : ℕ) (later : (k : ℕ) → rooms (suc k) ≡ room) where
+  abbrev fits : ℕ → List (List ℕ) → Bool
+  fits k run = fitsRoom (rooms k) k run
+
+  pub cut-lines : (k : ℕ) (run cs : List (List ℕ)) → cost (joined run) ≤ rooms k → T (all (λ c. leb (cost c) room) cs)
+      → lines (map joined (cut fits k run cs)) ≡ start ++ (spell (joined run) ++ onwards room (rooms k - cost (joined run)) cs)
   unfolding cut onwards start
   cut-lines k run [] h t = lines-one (joined run)
   cut-lines k run (c ∷ cs) h t =
       let both = and-yes (leb (cost c) room) (all (λ c. leb (cost c) room) cs) t in
       let snoc : cost (joined (run ++ (c ∷ []))) ≡ cost (joined run) + cost c = ap length (spell-snoc run c) ∙ length-append (spell (joined run)) (spell c) in
       let u = cost (joined run) in
-      by-test (fitsRoom room k (run ++ (c ∷ [])))
+      by-test (fits k (run ++ (c ∷ [])))
       (λ y.
-      let fits : cost c ≤ room - u = omega (arith, leb→le (cost (joined (run ++ (c ∷ [])))) room y, snoc) in
-      let same : room - cost (joined (run ++ (c ∷ []))) ≡ room - u - cost c = omega (arith, snoc) in
+      let here : cost c ≤ rooms k - u = omega (arith, leb→le (cost (joined (run ++ (c ∷ [])))) (rooms k) y, snoc) in
+      let same : rooms k - cost (joined (run ++ (c ∷ []))) ≡ rooms k - u - cost c = omega (arith, snoc) in
       rw (
-        cut-more (fitsRoom room) k run c cs y,
-        cut-lines k (run ++ (c ∷ [])) cs (leb→le (cost (joined (run ++ (c ∷ [])))) room y) (both .1),
+        cut-more fits k run c cs y,
+        cut-lines k (run ++ (c ∷ [])) cs (leb→le (cost (joined (run ++ (c ∷ [])))) (rooms k) y) (both .1),
         same,
         spell-snoc run c,
         append-assoc,
-        gap-here (room - u) (cost c) fits,
-        left-here (room - u) (cost c) room fits,
+        gap-here (rooms k - u) (cost c) here,
+        left-here (rooms k - u) (cost c) room here,
       ) refl)
       (λ n.
-      let over : room - u < cost c = omega (arith, leb-no {a = cost (joined (run ++ (c ∷ [])))} {b = room} n, snoc) in
-      rw (cut-next (fitsRoom room) k run c cs n, gap-next (room - u) (cost c) over, left-next (room - u) (cost c) room over)
-      (lines-cons (joined run) (map joined (cut (fitsRoom room) (suc k) (c ∷ []) cs))
-      ∙ rw (cut-lines (suc k) (c ∷ []) cs (rw append-nil (leb→le (cost c) room (both .0))) (both .1), append-nil) refl))
+      let over : rooms k - u < cost c = omega (arith, leb-no {a = cost (joined (run ++ (c ∷ [])))} {b = rooms k} n, snoc) in
+      rw (cut-next fits k run c cs n, gap-next (rooms k - u) (cost c) over, left-next (rooms k - u) (cost c) room over)
+      (lines-cons (joined run) (map joined (cut fits (suc k) (c ∷ []) cs))
+      ∙ rw (cut-lines (suc k) (c ∷ []) cs (rw (append-nil, later k) (leb→le (cost c) room (both .0))) (both .1), append-nil, later k) refl))
 
+  -- a word that is open already with these characters, or that has just been opened
+  opened : (k : ℕ) (c : List ℕ) (cs : List (List ℕ)) → cost c ≤ rooms k → T (all (λ c. leb (cost c) room) cs)
+      → lines (map joined (cut fits k (c ∷ []) cs)) ≡ start ++ onwards room (rooms k) (c ∷ cs)
+  unfolding onwards
+  opened k c cs h t =
+      rw (gap-here (rooms k) (cost c) h, left-here (rooms k) (cost c) room h) (cut-lines k (c ∷ []) cs (rw append-nil h) t ∙ rw append-nil refl)
+
+module _ (room : ℕ) where
   pub stream : (c : List ℕ) (cs : List (List ℕ)) → T (all (λ c. leb (cost c) room) (c ∷ cs))
       → lines (map joined (runs room (c ∷ cs))) ≡ start ++ onwards room room (c ∷ cs)
-  unfolding runs onwards
+  unfolding runs
   stream c cs t =
       let both = and-yes (leb (cost c) room) (all (λ c. leb (cost c) room) cs) t in
-      let fits : cost c ≤ room = leb→le (cost c) room (both .0) in
-      rw (gap-here room (cost c) fits, left-here room (cost c) room fits)
-      (cut-lines 0 (c ∷ []) cs (rw append-nil fits) (both .1) ∙ rw append-nil refl)
+      opened (λ k. room) room (λ k. refl) 0 c cs (leb→le (cost c) room (both .0)) (both .1)
+
+-- ---- the same after a name: its line is line 0
+
+-- A line that has something, set after a name, is the line without its CRLF.
+set-here : (l : List ℕ) (ls : List (List ℕ)) → 0 < length l → 13 ∷ 10 ∷ linesAfter (l ∷ ls) ≡ lines (l ∷ ls)
+unfolding linesAfter lines
+set-here [] ls h = absurd (not-suc-le-zero h)
+set-here (b ∷ l) ls h = refl
+
+cut-here : (fits : ℕ → List (List ℕ) → Bool) (k : ℕ) (run cs : List (List ℕ)) → 0 < length (joined run)
+    → 13 ∷ 10 ∷ linesAfter (map joined (cut fits k run cs)) ≡ lines (map joined (cut fits k run cs))
+unfolding cut
+cut-here fits k run [] h = set-here (joined run) [] h
+cut-here fits k run (c ∷ cs) h =
+    by-test (fits k (run ++ (c ∷ [])))
+    (λ y. rw (cut-more fits k run c cs y) (cut-here fits k (run ++ (c ∷ [])) cs (rw joined-append (omega (arith, h, length-append (joined run) (joined (c ∷ [])))))))
+    (λ n. rw (cut-next fits k run c cs n) (set-here (joined run) (map joined (cut fits (suc k) (c ∷ []) cs)) h))
+
+module _ (room column : ℕ) (c : List ℕ) (cs : List (List ℕ)) (t : T (all (λ c. leb (cost c) room) (c ∷ cs))) where
+  -- its first character fits the name's line
+  pub stream-here : 0 < length c → cost c ≤ room - column
+      → linesAfter (map joined (runsAfter room column (c ∷ cs))) ≡ (32 ∷ opening) ++ onwards room (room - column) (c ∷ cs)
+  unfolding runsAfter start
+  stream-here some h =
+      let both = and-yes (leb (cost c) room) (all (λ c. leb (cost c) room) cs) t in
+      let set = cut-here (fitsAfter room column) 0 (c ∷ []) cs (rw append-nil some)
+      ∙ opened (roomsAfter room column) room (λ k. refl) 0 c cs h (both .1) in
+      let same : linesAfter (map joined (cut (fitsAfter room column) 0 (c ∷ []) cs)) ≡ (32 ∷ opening) ++ onwards room (room - column) (c ∷ cs) = ap (λ (l : List ℕ). drop 2 l) set in
+      rw (cut-more (fitsAfter room column) 0 [] c cs (rw append-nil (le→leb (cost c) (room - column) h))) same
+
+  -- it does not
+  pub stream-below : room - column < cost c
+      → linesAfter (map joined (runsAfter room column (c ∷ cs))) ≡ start ++ onwards room room (c ∷ cs)
+  unfolding runsAfter linesAfter
+  stream-below h =
+      let both = and-yes (leb (cost c) room) (all (λ c. leb (cost c) room) cs) t in
+      rw (cut-next (fitsAfter room column) 0 [] c cs (rw append-nil (no-leb h)))
+      (opened (roomsAfter room column) room (λ k. refl) 1 c cs (leb→le (cost c) room (both .0)) (both .1))
 
 -- ---- every character fits a word, UTF-8 or not
 

@@ -1,21 +1,23 @@
 -- Turns of the loop that measures a row. Assumes nothing.
-use mathlib.Core.Path.{_≡_, refl, ap}
+use mathlib.Core.Path.{_≡_, refl, sym, ap, _∙_}
 use mathlib.Core.Bool.{true, _&&_}
 use mathlib.Core.List.{List, [], _++_}
 use Prim.Native.Nat.{ℕ, _+_, _-_, _*_, _≤_, _<_, min}
 use native.Mathlib.Omega.{arith}
-use lib.ListN.{length, take, drop, getD, length-append}
+use lib.ListN.{length, take, drop, getD, length-append, length-take}
 use lib.Dec.{ltb}
 use borrow.Author.Tests.{ltb-true}
 use Rattle.utf8.specs.Utf8.{charLen}
+use Rattle.utf8.specs.Utf8Laws.{char-len-le}
 use Rattle.word_spelling.specs.Spelling.{spell}
 use Rattle.word_spelling.specs.Cost.{byteCost, cost}
 use Rattle.word_spelling.specs.HighChar.{HighChar}
-use Rattle.word_spelling.specs.HighCharLaws.{both, whole-end, whole-take, whole-cost}
-use Rattle.word_spelling.specs.FirstChars.{firstChars, costIn}
-use Rattle.word_spelling.specs.FirstCharsLaws.{cost-in}
-use Rattle.row.specs.Stream.{gap, leftAfter, onwardsAt, MeasuredTurn}
+use Rattle.word_spelling.specs.HighCharLaws.{both, char-cut, whole-end, whole-take, whole-cost}
+use Rattle.word_spelling.specs.FirstChars.{firstChars, costIn, costsIn}
+use Rattle.word_spelling.specs.FirstCharsLaws.{cost-in, costs-in, costs-le}
+use Rattle.row.specs.Stream.{gap, leftAfter, onwardsAt, roomHere, MeasuredTurn}
 use Rattle.row.specs.StreamLaws.{turn, turned-four}
+use Rattle.row.specs.RowLaws.{room-here, no-room-here, room-here-le, firstOf}
 
 module _ (s : List ℕ) (i left n : ℕ) (h : i < length s) (hl : left ≤ 63) where
   -- a character `c` that takes m characters
@@ -60,3 +62,30 @@ measured-four s first i left n m e h hl a bcd hm f =
   where
     taken : (x : ℕ) → x < 128 → costIn first x ≡ byteCost x
     taken x k = cost-in x e (omega arith) refl
+
+-- ---- the room for the first word on the name's line
+
+module _ (first s : List ℕ) (column : ℕ) where
+  pub room-ample : column ≤ 39 → 63 - column ≡ roomHere column (costsIn first (firstOf s))
+  room-ample h =
+      sym (room-here column (costsIn first (firstOf s))
+      (omega (arith, h, costs-le first (firstOf s), length-take (charLen (getD s 0 0)) s, char-len-le (getD s 0 0))))
+
+  pub room-none : 63 ≤ column → 0 ≡ roomHere column (costsIn first (firstOf s))
+  room-none h = omega (arith, h, room-here-le column (costsIn first (firstOf s)))
+
+  -- by what the first character takes, m, up to place e
+  module _ (e m : ℕ) (he : e ≡ min (0 + charLen (getD s 0 0)) (length s)) (hm : m ≡ costsIn first (take (e - 0) (drop 0 s))) where
+    spent : m ≡ costsIn first (firstOf s)
+    spent = hm ∙ ap (costsIn first) (char-cut s 0 e he)
+
+    pub room-fits : m ≤ 63 - column → 63 - column ≡ roomHere column (costsIn first (firstOf s))
+    room-fits h = sym (room-here column (costsIn first (firstOf s)) (rw (← spent) h))
+
+    pub room-over : 63 - column < m → 0 ≡ roomHere column (costsIn first (firstOf s))
+    room-over h = sym (no-room-here column (costsIn first (firstOf s)) (rw (← spent) h))
+
+-- the same by what the first character takes, from the table of first characters
+pub room-by-table : (s : List ℕ) (column here : ℕ) {first : List ℕ} → first ≡ firstChars → ((j : ℕ) → getD s j 0 < 256)
+    → here ≡ roomHere column (costsIn first (firstOf s)) → here ≡ roomHere column (cost (firstOf s))
+room-by-table s column here e bytes h = h ∙ ap (roomHere column) (costs-in e s bytes (charLen (getD s 0 0)) 0)

@@ -3,7 +3,7 @@ ghost use mathlib.Core.Path.{_≡_};
 ghost use Prim.Native.Nat.{_+_, _≤_, _<_};
 ghost use lib.ListN.{length, getD};
 ghost use Rattle.word_spelling.specs.FirstChars.{firstChars};
-ghost use Rattle.row.specs.Stream.{gap, leftAfter, MeasuredTurn};
+ghost use Rattle.row.specs.Stream.{startAfter, roomAfter, gap, leftAfter, MeasuredTurn};
 use word_spelling::byte_cost;
 use word_spelling::char_cost;
 use word_spelling::high_size;
@@ -13,6 +13,24 @@ pub(crate) struct Measure {
     pub i: usize,
     pub left: usize,
     pub n: usize,
+}
+
+// The first word of a row after a name, by the room for it on the name's line. 11 and 13 are the lengths of its start.
+pub(crate) fn begin(here: usize) -> Measure
+    ensures { λ r. ⌜ (r .i ≡ 0) × (r .left ≡ roomAfter here) × (r .n ≡ length (startAfter here)) ⌝ }
+{
+    if here == 0 {
+        return Measure {
+            i: 0,
+            left: 63,
+            n: 13,
+        };
+    }
+    Measure {
+        i: 0,
+        left: here,
+        n: 11,
+    }
 }
 
 // m characters more, up to the place i of the text: in the open word, or in a new one.

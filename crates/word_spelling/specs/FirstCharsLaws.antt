@@ -1,7 +1,7 @@
 -- A byte's spelling and what it takes, by its first character and by the table of first characters. Assumes nothing.
 use mathlib.Core.Path.{_≡_, refl, sym, ap, _∙_}
 use mathlib.Core.List.{List, [], _∷_}
-use Prim.Native.Nat.{ℕ, zero, suc, _+_, _-_, _≤_, _<_}
+use Prim.Native.Nat.{ℕ, zero, suc, _+_, _-_, _*_, _≤_, _<_}
 use native.Mathlib.Nat.{add-zero, add-suc, suc-add, zero-add, le-of-suc-le-suc, not-suc-le-zero}
 use native.Mathlib.Numerals.{add-one}
 use native.Mathlib.Omega.{arith}
@@ -86,3 +86,11 @@ module _ (first s : List ℕ) (i : ℕ) where
   pub costs-end : (e : ℕ) → e ≤ i → costsIn first (take (e - i) (drop i s)) ≡ 0
   unfolding costsIn
   costs-end e h = let none : e - i ≡ 0 = omega arith in rw none
+
+pub costs-le : (first bytes : List ℕ) → costsIn first bytes ≤ 3 * length bytes
+unfolding costsIn costIn
+costs-le first [] = omega arith
+costs-le first (b ∷ bytes) =
+    by-test (eqb (getD first b 0) 61)
+    (λ t. omega (arith, cond-yes {X = ℕ} (eqb (getD first b 0) 61) 3 1 t, costs-le first bytes))
+    (λ t. omega (arith, cond-no {X = ℕ} (eqb (getD first b 0) 61) 3 1 t, costs-le first bytes))

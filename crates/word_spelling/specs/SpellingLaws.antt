@@ -3,6 +3,7 @@ use mathlib.Core.Path.{_≡_, refl, sym, ap, _∙_}
 use mathlib.Core.Bool.{true, not, _||_}
 use mathlib.Core.List.{List, [], _∷_, _++_, append-assoc, append-nil}
 use Prim.Native.Nat.{ℕ, _+_, _*_, _≤_, _<_}
+use native.Mathlib.Nat.{not-suc-le-zero}
 use native.Mathlib.Numerals.{add-one}
 use native.Mathlib.Omega.{arith}
 use lib.ListN.{length, drop, getD, length-append, drop-of-length-le}
@@ -111,6 +112,10 @@ cost-cons b c = length-append (spellByte b) (spell c)
 pub cost-one : (a m : ℕ) → m ≡ byteCost a → m ≡ cost (a ∷ [])
 unfolding spell
 cost-one a m e = omega (arith, e, cost-cons a [])
+
+pub cost-some : (c : List ℕ) → 0 < length c → 0 < cost c
+cost-some [] h = absurd (not-suc-le-zero h)
+cost-some (b ∷ c) h = omega (arith, cost-cons b c, spell-byte-some b)
 
 pub cost-end : (c : List ℕ) (i : ℕ) → length c ≤ i → cost (drop i c) ≡ 0
 cost-end c i h = ap length (spell-end c i h)

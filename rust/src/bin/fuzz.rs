@@ -5,8 +5,11 @@
 use hennelaku_model::address_list::Parts;
 use hennelaku_model::comment::{self, Part};
 use hennelaku_model::generate::{self, Random};
-use hennelaku_model::header::{kind, next_non_ascii, Kind};
+use hennelaku_model::header::{kind, next_non_ascii, Field, Kind};
+use hennelaku_model::utf8::char_len;
+use hennelaku_model::words::SIZE;
 use hennelaku_model::{address_list, downgrade, header, proved, Answer};
+use std::cmp::Ordering;
 use std::process::exit;
 use std::time::{Duration, Instant};
 
@@ -128,6 +131,22 @@ fn has(bytes: &[u8], part: &[u8]) -> bool {
     bytes.windows(part.len()).any(|window| window == part)
 }
 
+/// The length of the name before encoded words: plain text keeps its name.
+fn written_name_len(field: &Field) -> usize {
+    field.name.len() + if kind(field.name) == Kind::Plain { 0 } else { b"Downgraded-".len() }
+}
+
+/// How the first character stands to the room beside its name: fits, fills it, lacks one, lacks more.
+fn first_line(name_len: usize, text: &[u8]) -> usize {
+    let size: usize = text[..char_len(text[0])].iter().map(|&b| SIZE[b as usize] as usize).sum();
+    match (name_len + size).cmp(&62) {
+        Ordering::Less => 0,
+        Ordering::Equal => 1,
+        Ordering::Greater if name_len + size == 63 => 2,
+        Ordering::Greater => 3,
+    }
+}
+
 /// Looks at an input and what the model made of it.
 fn look(met: &mut Met, input: &Input, got: &Outcome) {
     let number = got.answer.number;
@@ -148,13 +167,14 @@ fn look(met: &mut Met, input: &Input, got: &Outcome) {
         return;
     }
     let out = &got.header[GUARD..GUARD + got.answer.header_len];
-    met.count("Downgraded-Mail-From", out.starts_with(b"Downgraded-Mail-From:\r\n =?UTF-8?Q?=3C"));
-    met.count("Downgraded-Rcpt-To", has(out, b"Downgraded-Rcpt-To:\r\n =?UTF-8?Q?=3C"));
+    met.count("Downgraded-Mail-From", out.starts_with(b"Downgraded-Mail-From: =?UTF-8?Q?=3C"));
+    met.count("Downgraded-Rcpt-To", has(out, b"Downgraded-Rcpt-To: =?UTF-8?Q?=3C"));
     met.count("several RCPT lines, replaced", envelope_lines > 2 && got.answer.envelope_len < input.envelope.len());
     met.count("header copied whole", out == input.header);
     let mut fields = [0; 6];
     let mut comments = Comments::default();
     let (mut names_of_76, mut folded, mut groups, mut words_of_900) = (0, 0, 0, 0);
+    let mut first_lines = [0; 4];
     let mut from = 0;
     while let Some(field) = next_non_ascii(&input.header, from) {
         let mut text = Vec::new();
@@ -179,6 +199,9 @@ fn look(met: &mut Met, input: &Input, got: &Outcome) {
             },
         };
         fields[at] += 1;
+        if at < 3 {
+            first_lines[first_line(written_name_len(&field), &text)] += 1;
+        }
         if at > 2 {
             let _ = address_list::list(&text, &mut comments);
             groups += text.ends_with(b";") as usize;
@@ -188,6 +211,10 @@ fn look(met: &mut Met, input: &Input, got: &Outcome) {
         folded += field.value.contains(&b'\n') as usize;
         from = field.end;
     }
+    met.count("first character beside the name, with room left", first_lines[0] > 0);
+    met.count("first character that fills the name's line", first_lines[1] > 0);
+    met.count("first character one too long for the name's line", first_lines[2] > 0);
+    met.count("first character longer than that", first_lines[3] > 0);
     met.count("plain text field", fields[0] > 0);
     met.count("field encapsulated", fields[1] > 0);
     met.count("address field that does not fit", fields[2] > 0);

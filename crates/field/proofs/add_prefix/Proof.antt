@@ -5,28 +5,20 @@ use native.Mathlib.Omega.{arith}
 use borrow.Author.Needs.{needs}
 use Rattle.field.proofs.add_prefix.Statement.{statement}
 use Rattle.field.proofs.add_prefix.Tie as tie
-use Rattle.field.proofs.add_prefix.Reads as reads
-use Rattle.field.proofs.add_prefix.Lts as lts
-use Rattle.buffer.proofs.add_slice.Reads as add-slice-reads
 
--- src/lib.rt:29:43
 slice-aggregate-add-slice : tie.Need-slice-aggregate-add-slice
 slice-aggregate-add-slice c = search needs
 
--- src/lib.rt:29:9
 add-slice-requires : tie.Need-add-slice-requires
 add-slice-requires c κs = search needs
 
--- src/lib.rt:29:9
 same-length : tie.Need-same-length
 same-length c = search needs
 
--- src/lib.rt:29:9
 returns : tie.Need-returns
 unfolding prefix bytes
 returns c = rw (c .before .before .before .before .before .if1 .taken) (c .before .before .add-slice .ensures)
 
--- src/lib.rt:25:1
 returns-2 : tie.Need-returns-2
 unfolding prefix
 returns-2 c = rw (c .if1 .left) (capped-none _ _ (omega arith))
