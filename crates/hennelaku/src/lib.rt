@@ -3,7 +3,7 @@ ghost use mathlib.Core.Path.{_≡_};
 ghost use Rattle.call.specs.Outcome.{observed, outcome};
 use call::Answer;
 
-// Downgrades an envelope and a header into two buffers, or refuses them by number and place.
+// Downgrades an envelope and a header into two buffers, or refuses them by number, place and offset.
 #[no_mangle]
 pub extern "C" fn hennelaku_downgrade_slices(
     envelope: &[u8],

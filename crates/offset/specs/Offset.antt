@@ -1,8 +1,8 @@
 -- The byte that a refusal points to, as an offset from the start of the envelope or of the header. Assumes nothing.
-use mathlib.Core.Bool.{Bool, cond}
+use mathlib.Core.Bool.{Bool}
 use mathlib.Core.List.{List}
 use Prim.Native.Nat.{ℕ, zero, suc, _+_, _-_}
-use lib.Dec.{eqb, leb}
+use lib.Dec.{eqb}
 use lib.ListN.{length, take, drop}
 use Rattle.lists.specs.Byte.{isAscii}
 use Rattle.lists.specs.Run.{run}
@@ -54,10 +54,10 @@ unfoldable pub lineAt : ℕ → List ℕ → List ℕ
 lineAt n s = frontLine (drop (lineStart n s) s)
 
 -- In line n of an envelope, with its CRLF. "for 2 .. the first byte at which .. the line, its CRLF with it, stops being a beginning of
--- any well-formed line at that number": at a number over 100 no line is well-formed.
+-- any well-formed line at that number".
 unfoldable pub faultByte : Fault → ℕ → List ℕ → ℕ
 faultByte Fine n line = 0
-faultByte Malformed n line = cond (leb n 100) (envelopeStop (eqb n 0) line) 0
+faultByte Malformed n line = envelopeStop n line
 faultByte NoAlternative n line = pathByte (eqb n 0) (lineText line)
 faultByte BadAlternative n line = altValueByte (eqb n 0) (lineText line)
 

@@ -1,6 +1,6 @@
 -- Laws of the byte that a refusal points to, as code finds it. Assumes nothing.
 use mathlib.Core.Path.{_≡_, refl, sym, ap, _∙_}
-use mathlib.Core.Bool.{Bool, cond}
+use mathlib.Core.Bool.{Bool}
 use mathlib.Core.List.{List, [], _∷_}
 use Prim.Native.Nat.{ℕ, zero, suc, _+_, _-_, _≤_, _<_, min}
 use native.Mathlib.Omega.{arith}
@@ -8,9 +8,9 @@ use native.Mathlib.Nat.{not-suc-le-zero}
 use lib.Dec.{eqb, leb}
 use lib.ListN.{length, take, drop, length-drop, length-take}
 use lib.Seq.{take-all, drop-drop}
-use mir.Facts.{leb-yes, leb-no, yes-leb, no-leb}
+use mir.Facts.{leb-yes, leb-no}
 use Rattle.lists.specs.Byte.{isAscii}
-use Rattle.lists.specs.ListsLaws.{by-test, cond-has, cond-yes, cond-no}
+use Rattle.lists.specs.ListsLaws.{by-test}
 use Rattle.lists.specs.Run.{run}
 use Rattle.buffer.specs.Buffer.{greatest}
 use Rattle.line.specs.Line.{lineLen}
@@ -21,9 +21,8 @@ use Rattle.envelope_line.specs.declared.Fault.{Fault}
 use Rattle.envelope_line.specs.declared.Fault.the-variants.{Fine, Malformed, NoAlternative, BadAlternative}
 use Rattle.envelope.specs.Envelope.{lineText}
 use Rattle.header_stop.specs.HeaderStop.{lineStop as headerStop}
-use Rattle.header_stop.specs.HeaderStopLaws.{stop-within as header-stop-within}
-use Rattle.envelope_stop.specs.EnvelopeStop.{lineStop as envelopeStop}
-use Rattle.envelope_stop.specs.EnvelopeStopLaws.{stop-within as envelope-stop-within}
+use Rattle.header_stop.specs.HeaderStopLaws.{line-stop}
+use Rattle.envelope_stop.specs.EnvelopeStopLaws.{line-stop as envelope-line-stop}
 use Rattle.offset.specs.Offset.{frontLine, lineStart, before, pathByte, altValueByte, orcptByte, lineAt, faultByte, faultOffset, orcptOffset, headerLineOffset}
 
 -- ---- lines
@@ -122,7 +121,7 @@ text-within line = omega (arith, length-take (lineLen line) line)
 fault-within : (fault : Fault) (n : ℕ) (line : List ℕ) → faultByte fault n line ≤ length line
 unfolding faultByte pathByte altValueByte
 fault-within Fine n line = omega arith
-fault-within Malformed n line = cond-has (λ r. r ≤ length line) (leb n 100) (envelopeStop (eqb n 0) line) 0 (λ _. envelope-stop-within (eqb n 0) line) (λ _. omega arith)
+fault-within Malformed n line = envelope-line-stop n line .inside
 fault-within NoAlternative n line = omega (arith, text-within line)
 fault-within BadAlternative n line = omega (arith, text-within line)
 
@@ -131,14 +130,6 @@ unfolding orcptByte
 orcpt-within mail line = omega (arith, text-within line)
 
 -- ---- by refusal, as code finds it
-
-pub over-hundred : (n : ℕ) (line : List ℕ) → 100 < n → 0 ≡ faultByte Malformed n line
-unfolding faultByte
-over-hundred n line h = sym (cond-no (leb n 100) (envelopeStop (eqb n 0) line) 0 (no-leb {a = n} {b = 100} h))
-
-pub up-to-hundred : (n : ℕ) (line : List ℕ) → n ≤ 100 → 0 + envelopeStop (eqb n 0) line ≡ faultByte Malformed n line
-unfolding faultByte
-up-to-hundred n line h = rw (cond-yes (leb n 100) (envelopeStop (eqb n 0) line) 0 (yes-leb {a = n} {b = 100} h)) (omega arith)
 
 module _ (e : List ℕ) (n at : ℕ) (d : at ≡ lineStart n e) {line : List ℕ} (l : line ≡ frontLine (drop at e)) where
   line-there : line ≡ lineAt n e
@@ -173,4 +164,4 @@ module _ (h : List ℕ) (n at : ℕ) {line : List ℕ} (l : line ≡ frontLine (
   unfolding frontLine
   header-line-fits a g =
       let size : length line ≡ min (lineLen (drop at h) + 2) (length h - at) = rw (l, length-take (lineLen (drop at h) + 2) (drop at h), length-drop at h) refl in
-      omega (arith, q, size, header-stop-within (eqb n 0) line)
+      omega (arith, q, size, line-stop (eqb n 0) line .inside)

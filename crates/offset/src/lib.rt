@@ -1,7 +1,6 @@
 // The byte that a refusal points to.
 ghost use mathlib.Core.Path.{_≡_};
 ghost use lib.ListN.{drop};
-ghost use Rattle.envelope_line.specs.declared.Fault.the-variants.{Malformed};
 ghost use Rattle.envelope.specs.Envelope.{lineText};
 ghost use Rattle.offset.specs.Offset.{frontLine, lineStart, pathByte, altValueByte, orcptByte, lineAt, faultByte, faultOffset, orcptOffset, headerLineOffset, fieldOffset};
 use envelope_line::Fault;
@@ -70,23 +69,13 @@ fn line_text(line: &[u8]) -> &[u8]
     part(line, 0, line::line_end(line, 0))
 }
 
-// Where line n, with its CRLF, stops being a beginning of a well-formed one.
-fn malformed_byte(line: &[u8], n: usize) -> usize
-    ensures { λ r. ⌜ r ≡ faultByte Malformed n (now (line .entry)) ⌝ }
-{
-    if 100 < n {
-        return 0;
-    }
-    envelope_stop::stop(line, 0, n == 0)
-}
-
 // The byte of line n, with its CRLF, that tells of a fault.
 fn fault_byte(line: &[u8], fault: Fault, n: usize) -> usize
     ensures { λ r. ⌜ r ≡ faultByte fault n (now (line .entry)) ⌝ }
 {
     match fault {
         Fault::Fine => 0,
-        Fault::Malformed => malformed_byte(line, n),
+        Fault::Malformed => envelope_stop::stop(line, 0, n),
         Fault::NoAlternative => path_byte(line_text(line), n == 0),
         Fault::BadAlternative => alt_value_byte(line_text(line), n == 0),
     }
