@@ -1,14 +1,9 @@
--- The row of a text as a loop writes it: the table of hex digits, and a turn of the loop. Assumes nothing.
+-- The row of a text as a loop writes it: turns of the loop. Assumes nothing.
 use mathlib.Core.List.{List}
 use Prim.Native.Nat.{ℕ, _+_, _*_, _≤_}
 use lib.ListN.{length}
-use Rattle.hex.specs.Hex.{hexDigit}
 use Rattle.buffer.specs.Buffer.{Appended, Reached}
-use Rattle.word_spelling.specs.FirstChars.{from}
 use Rattle.row.specs.Stream.{onwardsAt, Turned}
-
-unfoldable pub hexDigits : List ℕ
-hexDigits = from hexDigit 0 16
 
 -- A turn of a loop over the characters of a text, written from the place `at` on.
 pub record PutTurn (s : List ℕ) (i left : ℕ) (at : ℕ) (before after : List ℕ) (i′ left′ at′ : ℕ) : Type 0 where

@@ -3,31 +3,25 @@ use mathlib.Core.Path.{_≡_, refl, ap, _∙_}
 use mathlib.Core.Bool.{true, not, _&&_}
 use mathlib.Core.List.{List, [], _∷_, _++_}
 use Prim.Native.Nat.{ℕ, _+_, _-_, _*_, _≤_, _<_, min}
-use native.Mathlib.Nat.{zero-add}
 use native.Mathlib.Omega.{arith}
 use lib.ListN.{length, take, drop, getD, length-append}
 use lib.Dec.{leb, ltb, eqb, lit≤}
 use borrow.Author.Tests.{leb-true, ltb-true, eqb-false, not-true}
 use Rattle.utf8.specs.Utf8.{charLen}
-use Rattle.hex.specs.Hex.{hexDigit}
 use Rattle.buffer.specs.Buffer.{Wrote, Appended, AppendedCapped, Reached, greatest}
 use Rattle.buffer.specs.BufferLaws.{overlay-front, wrote-from, appended-from, appended-of, appended-then, length-appended, reached-then, reached-last}
 use Rattle.word_spelling.specs.Spelling.{closing, escape, spell}
 use Rattle.word_spelling.specs.Cost.{cost}
 use Rattle.word_spelling.specs.SpellingLaws.{length-spell, spell-high, escapes, alone-ascii}
 use Rattle.word_spelling.specs.FirstChars.{firstChar, firstChars}
-use Rattle.word_spelling.specs.FirstCharsLaws.{spelt-alone, cost-alone, from-at, first-in}
+use Rattle.word_spelling.specs.FirstCharsLaws.{spelt-alone, cost-alone, first-in}
 use Rattle.word_spelling.specs.HighChar.{HighChar}
 use Rattle.word_spelling.specs.HighCharLaws.{both, char-size, escapes-next, whole-end, whole-take, whole-cost}
 use Rattle.row.specs.Row.{rowIn}
 use Rattle.row.specs.Stream.{start, gap, leftAfter, onwardsAt}
 use Rattle.row.specs.StreamLaws.{length-gap, turn, turned-four, onwards-end}
 use Rattle.row.specs.RowLaws.{row-start}
-use Rattle.encoded_word.specs.Writing.{hexDigits, PutTurn}
-
-pub hex-digits-at : (d : ℕ) → d < 16 → getD hexDigits d 0 ≡ hexDigit d
-unfolding hexDigits
-hex-digits-at d h = from-at hexDigit 0 16 d h ∙ ap hexDigit (zero-add d)
+use Rattle.encoded_word.specs.Writing.{PutTurn}
 
 -- ---- turns
 

@@ -13,9 +13,6 @@ use character::put_while_roomy;
 // The longest text that has a row, in bytes.
 const LIMIT: usize = 4294967296;
 
-// The hex digits.
-const HEX_DIGITS: [u8; 16] = *b"0123456789ABCDEF";
-
 // Writes a text's row to the front of out, as far as it fits; answers the length of the whole row. A text of more than 4 GiB counts as
 // empty.
 pub fn write(out: &mut [u8], text: &[u8]) -> usize
@@ -31,13 +28,12 @@ pub fn write(out: &mut [u8], text: &[u8]) -> usize
         return 0;
     }
     let first = word_spelling::first_chars();
-    let hex = HEX_DIGITS;
     let started = buffer::put_slice(out, b"\r\n =?UTF-8?Q?");
-    let r = put_while_roomy(&first, &hex, out, started, text);
+    let r = put_while_roomy(&first, out, started, text);
     let i = r.i;
     let left = r.left;
     let at = r.at;
-    put_clipped(&first, &hex, out, at, left, text, i)
+    put_clipped(&first, out, at, left, text, i)
 }
 
 // The length of a text's row.

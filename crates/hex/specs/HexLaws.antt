@@ -1,12 +1,12 @@
 -- What is written reads back, and nothing else is read. Assumes nothing.
-use mathlib.Core.Path.{_≡_}
+use mathlib.Core.Path.{_≡_, sym, ap, _∙_}
 use mathlib.Core.Bool.{Bool, true, false, not, _&&_, _||_}
-use Prim.Native.Nat.{ℕ, _+_, _-_, _≤_, _<_}
+use Prim.Native.Nat.{ℕ, _+_, _-_, _/_, _%_, _≤_, _<_}
 use native.Mathlib.Omega.{arith}
-use lib.Dec.{T, eqb, eqb→eq, ltb}
-use mir.Facts.{and-yes, or-yes, ltb-yes}
+use lib.Dec.{T, eqb, eqb→eq, ltb, lt→ltb}
+use mir.Facts.{and-yes, or-yes, ltb-yes, no-ltb}
 use Rattle.lists.specs.Byte.{within}
-use Rattle.lists.specs.ListsLaws.{true-yes}
+use Rattle.lists.specs.ListsLaws.{cond-yes, cond-no, true-yes}
 use Rattle.lists.specs.ByteLaws.{within-low, within-high, below, implies}
 use Rattle.hex.specs.Hex.{hexDigit, isHexDigit, hexValue}
 use mathlib.Core.Logic.{⊎-elim}
@@ -28,6 +28,23 @@ reads-only b t =
     let both = and-yes (ltb (hexValue b) 16) (eqb (hexDigit (hexValue b)) b)
     (implies (isHexDigit b) (ltb (hexValue b) 16 && eqb (hexDigit (hexValue b)) b) (below test 71 tt b (omega arith)) t) in
     (ltb-yes (both .0), eqb→eq (hexDigit (hexValue b)) b (both .1))
+
+-- ---- the digit, by the test that code makes
+
+pub digit-decimal : (v : ℕ) → v < 10 → 48 + v ≡ hexDigit v
+unfolding hexDigit
+digit-decimal v h = let same : 48 + v ≡ v + 48 = omega arith in same ∙ sym (cond-yes (ltb v 10) _ _ (lt→ltb v 10 h))
+
+pub digit-letter : (v : ℕ) → 10 ≤ v → 55 + v ≡ hexDigit v
+unfolding hexDigit
+digit-letter v h = let same : 55 + v ≡ v - 10 + 65 = omega arith in same ∙ sym (cond-no (ltb v 10) _ _ (no-ltb h))
+
+-- the digits of the two halves of a byte
+pub upper-half : (b : ℕ) → b < 256 → {r : ℕ} → r ≡ hexDigit (b / 16 % 16) → r ≡ hexDigit (b / 16)
+upper-half b h e = let same : b / 16 % 16 ≡ b / 16 = omega arith in e ∙ ap hexDigit same
+
+pub lower-half : (b : ℕ) {r : ℕ} → r ≡ hexDigit (b % 16 % 16) → r ≡ hexDigit (b % 16)
+lower-half b e = let same : b % 16 % 16 ≡ b % 16 = omega arith in e ∙ ap hexDigit same
 
 -- ---- the value, by the tests that code makes
 

@@ -1,10 +1,7 @@
 use Rattle.encoded_word.specs.WritingLaws.{row-wrote}
-use Rattle.encoded_word.specs.Writing.{hexDigits}
 use Rattle.row.specs.RowLaws.{row-none, row-long, bounded-short}
 use Rattle.row.specs.Stream.{start}
-use Rattle.word_spelling.specs.FirstChars.{from}
 use Rattle.buffer.specs.BufferLaws.{wrote-empty, wrote-nothing}
-use Rattle.hex.specs.Hex.{hexDigit}
 use native.Mathlib.Omega.{arith}
 use mathlib.Core.Path.{refl}
 use borrow.Author.Needs.{needs}
@@ -33,21 +30,19 @@ put-slice-requires : tie.Need-put-slice-requires
 put-slice-requires c κs = search needs
 
 put-while-roomy-requires : tie.Need-put-while-roomy-requires
-unfolding hexDigits hexDigit from
-put-while-roomy-requires c κs = (c .before .before .before .before .before .before .before .before .first-chars .ensures, refl)
+put-while-roomy-requires c κs = search needs
 
 put-clipped-requires : tie.Need-put-clipped-requires
-unfolding hexDigits hexDigit from
-put-clipped-requires c κs = let r = c .before .before .before .before .before .put-while-roomy .ensures in
-    (c .before .before .before .before .before .before .before .before .before .before .before .before .before .before .first-chars .ensures, c .before .before .before .before .before .before .before .before .before .before .before .before .before .before .before .if3 .left, r .within, r .roomy, omega (arith, r .short, c .before .before .before .before .before .before .before .before .before .before .before .put-slice .ensures .size), refl)
+put-clipped-requires c κs = let r = c .before .before .before .before .put-while-roomy .ensures in
+    (c .before .before .before .before .before .before .before .before .before .before .before .before .first-chars .ensures, c .before .before .before .before .before .before .before .before .before .before .before .before .before .if3 .left, r .within, r .roomy, omega (arith, r .short, c .before .before .before .before .before .before .before .before .before .put-slice .ensures .size))
 
 same-length : tie.Need-same-length
 same-length c = search needs
 
 returns-4 : tie.Need-returns-4
 unfolding start
-returns-4 c = rw (bounded-short _ (c .before .before .before .before .before .before .before .before .before .before .before .before .before .before .before .before .before .before .if3 .left))
-    (row-wrote _ (c .before .before .before .before .before .before .before .before .put-while-roomy .result .i) (c .before .before .before .before .before .before .before .before .put-while-roomy .result .left) (omega arith) (c .before .before .before .before .before .before .before .before .before .before .before .before .before .before .put-slice .ensures) (c .before .before .before .before .before .before .before .before .put-while-roomy .ensures .reached) (c .before .before .put-clipped .ensures))
+returns-4 c = rw (bounded-short _ (c .before .before .before .before .before .before .before .before .before .before .before .before .before .before .before .before .if3 .left))
+    (row-wrote _ (c .before .before .before .before .before .before .before .put-while-roomy .result .i) (c .before .before .before .before .before .before .before .put-while-roomy .result .left) (omega arith) (c .before .before .before .before .before .before .before .before .before .before .before .before .put-slice .ensures) (c .before .before .before .before .before .before .before .put-while-roomy .ensures .reached) (c .before .before .put-clipped .ensures))
 
 pub write-spec : {M : Type 1} → statement M
 write-spec =

@@ -26,7 +26,7 @@ part-put-char-end : tie.Need-part-put-char-end
 part-put-char-end c = search needs
 
 put-char-requires : tie.Need-put-char-requires
-put-char-requires c κs = (c .before .before .before .before .before .before .before .before .before .pre .0, omega (arith, char-size (c .before .before .before .before .before .before .before .before .before .args .s .now) (c .before .before .before .before .before .before .before .before .before .args .i) _ (c .before .before .before .before .before .before .char-cost .ensures .0), room-left 15 24 (c .before .before .before .before .make-room .ensures .1) (length-gap (c .before .before .before .before .before .before .before .before .before .args .left) (c .before .before .before .before .before .before .char-cost .result .cost)) (omega arith)), c .before .before .before .before .before .before .before .before .before .pre .4)
+put-char-requires c κs = (c .before .before .before .before .before .before .before .before .before .pre .0, omega (arith, char-size (c .before .before .before .before .before .before .before .before .before .args .s .now) (c .before .before .before .before .before .before .before .before .before .args .i) _ (c .before .before .before .before .before .before .char-cost .ensures .0), room-left 15 24 (c .before .before .before .before .make-room .ensures .1) (length-gap (c .before .before .before .before .before .before .before .before .before .args .left) (c .before .before .before .before .before .before .char-cost .result .cost)) (omega arith)))
 
 same-length : tie.Need-same-length
 same-length c = search needs

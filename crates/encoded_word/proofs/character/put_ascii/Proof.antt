@@ -73,7 +73,7 @@ make-room-requires : tie.Need-make-room-requires
 make-room-requires c κs = search needs
 
 put-byte-requires : tie.Need-put-byte-requires
-put-byte-requires c κs = (c .before .before .before .before .before .before .before .before .before .before .pre .0, room-left 15 3 (c .before .before .before .make-room .ensures .1) (length-gap _ _) (omega arith), c .before .before .before .before .before .before .before .before .before .before .pre .5)
+put-byte-requires c κs = (c .before .before .before .before .before .before .before .before .before .before .pre .0, room-left 15 3 (c .before .before .before .make-room .ensures .1) (length-gap _ _) (omega arith))
 
 same-length-2 : tie.Need-same-length-2
 same-length-2 c = search needs

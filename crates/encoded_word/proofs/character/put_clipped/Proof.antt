@@ -11,10 +11,10 @@ use Rattle.encoded_word.proofs.character.put_clipped.Statement.{stateme
 use Rattle.encoded_word.proofs.character.put_clipped.Tie as tie
 
 abbrev Inv-loop : tie.InvT-loop
-Inv-loop first hex out₀ start room s begin piece₀ at₀ left₀ i₀ t13 out piece at left i = (i ≤ length s) × (left ≤ 63) × (length piece ≡ 39) × (at ≤ 13 + 18 * i) × Reached (onwardsAt s begin room) (onwardsAt s i left) start out₀ out at
+Inv-loop first out₀ start room s begin piece₀ at₀ left₀ i₀ t13 out piece at left i = (i ≤ length s) × (left ≤ 63) × (length piece ≡ 39) × (at ≤ 13 + 18 * i) × Reached (onwardsAt s begin room) (onwardsAt s i left) start out₀ out at
 
 abbrev μ-loop : tie.MeasureT-loop
-μ-loop first hex out₀ start room s begin piece₀ at₀ left₀ i₀ t13 out piece at left i = length s - i
+μ-loop first out₀ start room s begin piece₀ at₀ left₀ i₀ t13 out piece at left i = length s - i
 
 loop-holds : tie.Need-loop-holds Inv-loop μ-loop
 loop-holds c = (c .before .before .pre .2, c .before .before .pre .3, refl, c .before .before .pre .4, reached-start _ _ _)
@@ -23,7 +23,7 @@ slice-aggregate-put-any : tie.Need-slice-aggregate-put-any Inv-loop μ-loop
 slice-aggregate-put-any c = sym (c .before .before .loop .inv .2)
 
 put-any-requires : tie.Need-put-any-requires Inv-loop μ-loop
-put-any-requires c κs = (c .before .before .before .before .before .pre .0, c .before .loop-test .taken, c .before .before .loop .inv .1, omega arith, c .before .before .before .before .before .pre .5)
+put-any-requires c κs = (c .before .before .before .before .before .pre .0, c .before .loop-test .taken, c .before .before .loop .inv .1, omega arith)
 
 array-share-prefix-piece : tie.Need-array-share-prefix-piece Inv-loop μ-loop
 array-share-prefix-piece c = put-within (c .before .before .put-any .ensures) (c .before .before .before .before .before .loop .inv .2)

@@ -7,7 +7,7 @@ high-size-requires : tie.Need-high-size-requires
 high-size-requires c κs = search needs
 
 put-whole-requires : tie.Need-put-whole-requires
-put-whole-requires c κs = let k = rw (c .before .if1 .taken) at (c .before .before .high-size .ensures) in (lit≤ tt, lit≤ tt, k .fits (lit≤ tt), c .before .before .before .before .before .pre .2, c .before .before .before .before .before .pre .3, k, c .before .before .before .before .before .pre .4)
+put-whole-requires c κs = let k = rw (c .before .if1 .taken) at (c .before .before .high-size .ensures) in (lit≤ tt, lit≤ tt, k .fits (lit≤ tt), c .before .before .before .before .before .pre .2, c .before .before .before .before .before .pre .3, k)
 
 same-length : tie.Need-same-length
 same-length c = search needs
@@ -16,7 +16,7 @@ returns : tie.Need-returns
 returns c = search needs
 
 put-whole-requires-2 : tie.Need-put-whole-requires-2
-put-whole-requires-2 c κs = let k = rw (c .before .if2 .taken) at (c .before .before .before .high-size .ensures) in (lit≤ tt, lit≤ tt, k .fits (lit≤ tt), c .before .before .before .before .before .before .pre .2, c .before .before .before .before .before .before .pre .3, k, c .before .before .before .before .before .before .pre .4)
+put-whole-requires-2 c κs = let k = rw (c .before .if2 .taken) at (c .before .before .before .high-size .ensures) in (lit≤ tt, lit≤ tt, k .fits (lit≤ tt), c .before .before .before .before .before .before .pre .2, c .before .before .before .before .before .before .pre .3, k)
 
 same-length-2 : tie.Need-same-length-2
 same-length-2 c = search needs
@@ -25,7 +25,7 @@ returns-2 : tie.Need-returns-2
 returns-2 c = search needs
 
 put-whole-requires-3 : tie.Need-put-whole-requires-3
-put-whole-requires-3 c κs = let k = rw (c .before .if3 .taken) at (c .before .before .before .before .high-size .ensures) in (lit≤ tt, lit≤ tt, k .fits (lit≤ tt), c .before .before .before .before .before .before .before .pre .2, c .before .before .before .before .before .before .before .pre .3, k, c .before .before .before .before .before .before .before .pre .4)
+put-whole-requires-3 c κs = let k = rw (c .before .if3 .taken) at (c .before .before .before .before .high-size .ensures) in (lit≤ tt, lit≤ tt, k .fits (lit≤ tt), c .before .before .before .before .before .before .before .pre .2, c .before .before .before .before .before .before .before .pre .3, k)
 
 same-length-3 : tie.Need-same-length-3
 same-length-3 c = search needs

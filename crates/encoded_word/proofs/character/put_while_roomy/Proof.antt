@@ -10,10 +10,10 @@ use Rattle.encoded_word.proofs.character.put_while_roomy.Statement.{sta
 use Rattle.encoded_word.proofs.character.put_while_roomy.Tie as tie
 
 abbrev Inv-loop : tie.InvT-loop
-Inv-loop first hex out₀ start s i₀ left₀ at₀ last out i left at = (i ≤ length s) × (left ≤ 63) × (length out ≡ length out₀) × (at ≤ start + 18 * i) × Reached (onwardsAt s 0 63) (onwardsAt s i left) start out₀ out at
+Inv-loop first out₀ start s i₀ left₀ at₀ last out i left at = (i ≤ length s) × (left ≤ 63) × (length out ≡ length out₀) × (at ≤ start + 18 * i) × Reached (onwardsAt s 0 63) (onwardsAt s i left) start out₀ out at
 
 abbrev μ-loop : tie.MeasureT-loop
-μ-loop first hex out₀ start s i₀ left₀ at₀ last out i left at = length s - i
+μ-loop first out₀ start s i₀ left₀ at₀ last out i left at = length s - i
 
 sub-last : tie.Need-sub-last Inv-loop μ-loop
 sub-last c = omega arith
@@ -23,7 +23,7 @@ loop-holds c = (omega arith, omega arith, refl, omega arith, reached-start _ _ _
 
 put-next-requires : tie.Need-put-next-requires Inv-loop μ-loop
 put-next-requires c κs = let p = looping (c .before .before .loop .i) (length (c .before .before .before .before .before .before .args .s .now)) (c .before .before .loop .at) (length (c .before .before .before .before .before .before .args .out .now) - 39) (c .before .loop-test .taken) in
-    (c .before .before .before .before .before .before .pre .0, p .0, c .before .before .loop .inv .1, omega arith, c .before .before .before .before .before .before .pre .1)
+    (c .before .before .before .before .before .before .pre, p .0, c .before .before .loop .inv .1, omega arith)
 
 loop-less : tie.Need-loop-less Inv-loop μ-loop
 loop-less c = omega (arith, c .before .before .put-next .ensures .turned .more, c .before .before .put-next .ensures .turned .within)

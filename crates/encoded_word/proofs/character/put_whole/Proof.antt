@@ -27,7 +27,7 @@ make-room-requires : tie.Need-make-room-requires
 make-room-requires c κs = search needs
 
 put-escapes-requires : tie.Need-put-escapes-requires
-put-escapes-requires c κs = (room-left 15 6 (c .before .before .before .make-room .ensures .1) (length-gap _ _) (omega arith), c .before .before .before .before .before .before .before .before .before .pre .6)
+put-escapes-requires c κs = room-left 15 6 (c .before .before .before .make-room .ensures .1) (length-gap _ _) (omega arith)
 
 same-length : tie.Need-same-length
 same-length c = search needs
@@ -43,7 +43,7 @@ shared-slice-read-put-escape : tie.Need-shared-slice-read-put-escape
 shared-slice-read-put-escape c = search needs
 
 put-escape-requires : tie.Need-put-escape-requires
-put-escape-requires c κs = (room-left 6 3 (c .before .before .before .before .before .put-escapes .ensures) (lit≤ tt) (room-left 15 9 (c .before .before .before .before .before .before .before .before .before .make-room .ensures .1) (length-gap _ _) (omega arith)), c .before .before .before .before .before .before .before .before .before .before .before .before .before .before .before .pre .6)
+put-escape-requires c κs = room-left 6 3 (c .before .before .before .before .before .put-escapes .ensures) (lit≤ tt) (room-left 15 9 (c .before .before .before .before .before .before .before .before .before .make-room .ensures .1) (length-gap _ _) (omega arith))
 
 same-length-2 : tie.Need-same-length-2
 same-length-2 c = search needs
@@ -59,7 +59,7 @@ shared-slice-read-put-escape-2 : tie.Need-shared-slice-read-put-escape-2
 shared-slice-read-put-escape-2 c = search needs
 
 put-escape-requires-2 : tie.Need-put-escape-requires-2
-put-escape-requires-2 c κs = (room-left 3 3 (c .before .before .before .before .before .put-escape .ensures) (lit≤ tt) (room-left 6 6 (c .before .before .before .before .before .before .before .before .before .before .before .put-escapes .ensures) (lit≤ tt) (room-left 15 12 (c .before .before .before .before .before .before .before .before .before .before .before .before .before .before .before .make-room .ensures .1) (length-gap _ _) (omega arith))), c .before .before .before .before .before .before .before .before .before .before .before .before .before .before .before .before .before .before .before .before .before .pre .6)
+put-escape-requires-2 c κs = room-left 3 3 (c .before .before .before .before .before .put-escape .ensures) (lit≤ tt) (room-left 6 6 (c .before .before .before .before .before .before .before .before .before .before .before .put-escapes .ensures) (lit≤ tt) (room-left 15 12 (c .before .before .before .before .before .before .before .before .before .before .before .before .before .before .before .make-room .ensures .1) (length-gap _ _) (omega arith)))
 
 same-length-3 : tie.Need-same-length-3
 same-length-3 c = search needs

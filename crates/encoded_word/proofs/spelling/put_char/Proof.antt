@@ -10,10 +10,10 @@ use Rattle.encoded_word.proofs.spelling.put_char.Statement.{statement}
 use Rattle.encoded_word.proofs.spelling.put_char.Tie as tie
 
 abbrev Inv-loop : tie.InvT-loop
-Inv-loop first hex out₀ at c next₀ i₀ out next i = (i ≤ length c) × (length out ≡ length out₀) × (next ≤ at + 3 * i) × Reached (spell c) (spell (drop i c)) at out₀ out next
+Inv-loop first out₀ at c next₀ i₀ out next i = (i ≤ length c) × (length out ≡ length out₀) × (next ≤ at + 3 * i) × Reached (spell c) (spell (drop i c)) at out₀ out next
 
 abbrev μ-loop : tie.MeasureT-loop
-μ-loop first hex out₀ at c next₀ i₀ out next i = length c - i
+μ-loop first out₀ at c next₀ i₀ out next i = length c - i
 
 loop-holds : tie.Need-loop-holds Inv-loop μ-loop
 loop-holds c = (omega arith, refl, omega arith, reached-start _ _ _)
@@ -22,7 +22,7 @@ shared-slice-read-put-byte : tie.Need-shared-slice-read-put-byte Inv-loop μ-loo
 shared-slice-read-put-byte c = omega arith
 
 put-byte-requires : tie.Need-put-byte-requires Inv-loop μ-loop
-put-byte-requires c κs = (c .before .before .before .before .before .before .pre .0, omega arith, c .before .before .before .before .before .before .pre .2)
+put-byte-requires c κs = (c .before .before .before .before .before .before .pre .0, omega arith)
 
 add-i : tie.Need-add-i Inv-loop μ-loop
 add-i c = omega arith

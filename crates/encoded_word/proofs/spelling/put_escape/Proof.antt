@@ -1,3 +1,4 @@
+use Rattle.hex.specs.HexLaws.{upper-half, lower-half}
 use Rattle.buffer.specs.BufferLaws.{stores, appended-stores}
 use lib.ListN.{length-set}
 use mathlib.Core.List.{[], _∷_}
@@ -15,14 +16,14 @@ add-third c = search needs
 slice-write-out : tie.Need-slice-write-out
 slice-write-out c = search needs
 
-hex-digit-requires : tie.Need-hex-digit-requires
-hex-digit-requires c κs = search needs
+digit-requires : tie.Need-digit-requires
+digit-requires c κs = search needs
 
 slice-write-out-2 : tie.Need-slice-write-out-2
 slice-write-out-2 c = simp length-set (omega arith)
 
-hex-digit-requires-2 : tie.Need-hex-digit-requires-2
-hex-digit-requires-2 c κs = search needs
+digit-requires-2 : tie.Need-digit-requires-2
+digit-requires-2 c κs = search needs
 
 slice-write-out-3 : tie.Need-slice-write-out-3
 slice-write-out-3 c = simp length-set (omega arith)
@@ -35,7 +36,7 @@ same-length c = search needs
 
 returns : tie.Need-returns
 unfolding stores
-returns c = rw (← c .before .hex-digit .ensures, ← c .hex-digit2 .ensures) (appended-stores (61 ∷ c .before .hex-digit .result ∷ c .hex-digit2 .result ∷ []) _ _ _ (omega arith))
+returns c = rw (← upper-half (c .before .before .before .args .b) (search needs) (c .before .digit .ensures), ← lower-half (c .before .before .before .args .b) (c .digit2 .ensures)) (appended-stores (61 ∷ c .before .digit .result ∷ c .digit2 .result ∷ []) _ _ _ (omega arith))
 
 pub put-escape-spec : {M : Type 1} → statement M
 put-escape-spec =
@@ -44,9 +45,9 @@ put-escape-spec =
     add-second
     add-third
     slice-write-out
-    hex-digit-requires
+    digit-requires
     slice-write-out-2
-    hex-digit-requires-2
+    digit-requires-2
     slice-write-out-3
     add-result
     same-length
