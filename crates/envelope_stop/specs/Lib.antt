@@ -1,2 +1,0 @@
-pub mod EnvelopeStop
-pub mod EnvelopeStopLaws
