@@ -1,6 +1,6 @@
 -- Laws of a fixed word in any case, byte by byte. Assumes nothing.
 use mathlib.Core.Path.{_≡_, refl, _∙_}
-use mathlib.Core.Bool.{Bool, true, false, _&&_, and-assoc, and-false}
+use mathlib.Core.Bool.{Bool, true, false, not, _&&_, and-assoc, and-false}
 use mathlib.Core.List.{List, [], _∷_}
 use Prim.Native.Nat.{ℕ, suc, _+_, _≤_, _<_}
 use native.Mathlib.Numerals.{add-one}
@@ -78,9 +78,27 @@ module _ (word : List ℕ) (n : ℕ) (k : List ℕ → Bool) (h : n < length wor
   unfolding begins
   begins-short = rw (drop-cons word n 0 h)
 
-  pub begins-next : (b : ℕ) (l : List ℕ) → begins (drop n word) k (b ∷ l) ≡ eqb (lower (getD word n 0)) (lower b) && begins (drop (suc n) word) k l
+  begins-next : (b : ℕ) (l : List ℕ) → begins (drop n word) k (b ∷ l) ≡ eqb (lower (getD word n 0)) (lower b) && begins (drop (suc n) word) k l
   unfolding begins
   begins-next b l = rw (drop-cons word n 0 h)
+
+module _ (word : List ℕ) (n b : ℕ) where
+  pub next-within : T (isNext word n b) → n < length word
+  unfolding isNext
+  next-within t = ltb-yes (and-yes (ltb n (length word)) (eqb (lower (getD word n 0)) (lower b)) t .0)
+
+  pub begins-more : (k : List ℕ → Bool) (l : List ℕ) → T (isNext word n b) → begins (drop n word) k (b ∷ l) ≡ begins (drop (suc n) word) k l
+  unfolding isNext
+  begins-more k l t =
+      let same = eqb (lower (getD word n 0)) (lower b) in
+      begins-next word n k (next-within t) b l ∙ rw (yes-true same (and-yes (ltb n (length word)) same t .1))
+
+  pub begins-other : (k : List ℕ → Bool) (l : List ℕ) → n < length word → T (not (isNext word n b)) → begins (drop n word) k (b ∷ l) ≡ false
+  unfolding isNext
+  begins-other k l h t =
+      let same = eqb (lower (getD word n 0)) (lower b) in
+      let u : T (not same) = rw (lt-ltb n (length word) h) at t in
+      begins-next word n k h b l ∙ rw (no-false same u)
 
 -- ---- the tests one after another, as code makes them
 
@@ -100,7 +118,3 @@ module _ (word : List ℕ) (n b : ℕ) where
   pub matched-other : isNext word n b ≡ false → length word + 1 ≡ matched word n b
   unfolding matched
   matched-other e = rw (e, add-one)
-
-  pub next-within : isNext word n b ≡ true → n < length word
-  unfolding isNext
-  next-within e = ltb-yes (and-yes (ltb n (length word)) (eqb (lower (getD word n 0)) (lower b)) (true-yes (isNext word n b) e) .0)

@@ -1,3 +1,4 @@
+use Rattle.lists.specs.ListsLaws.{true-yes}
 use Rattle.line_stop.specs.WordLaws.{matched-more, matched-other, next-within}
 use native.Mathlib.Omega.{arith}
 use mathlib.Core.Path.{sym, _∙_}
@@ -14,7 +15,7 @@ is-next-requires c κs = search needs
 
 -- src/lib.rt:135:16
 add-result : tie.Need-add-result
-add-result c = omega (arith, next-within _ _ _ (sym (c .before .is-next .ensures) ∙ c .if1 .taken))
+add-result c = omega (arith, next-within _ _ _ (true-yes _ (sym (c .before .is-next .ensures) ∙ c .if1 .taken)))
 
 -- src/lib.rt:135:9
 returns : tie.Need-returns
