@@ -320,6 +320,10 @@ tail-exact = record {
   no-cr = no-cr;
 }
 
+pub tail-valid : (q : Tail) → tail-exact .Valid q
+unfolding tail-exact
+tail-valid q = tt
+
 -- ---- past ASCII only an ORCPT's value goes on, and stays
 
 high-key : (b : ℕ) → 128 ≤ b → isKeywordByte b ≡ false

@@ -275,6 +275,10 @@ path-exact = record {
   no-cr = no-cr;
 }
 
+pub path-valid : (p : PathForm) → path-exact .Valid p
+unfolding path-exact
+path-valid p = tt
+
 -- ---- past ASCII only atoms and quoted strings go on, and stay
 
 high-atom : (b : ℕ) → 128 ≤ b → T (isAtomByte b)
