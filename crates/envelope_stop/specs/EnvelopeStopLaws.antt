@@ -3,6 +3,7 @@ use mathlib.Core.Path.{_≡_, refl, sym, ap, _∙_}
 use mathlib.Core.Bool.{Bool, true, false, not, cond, _&&_, and-false, and-assoc}
 use mathlib.Core.List.{List, [], _∷_, _++_}
 use Prim.Native.Nat.{ℕ, zero, suc, _+_, _-_, _≤_, _<_}
+use native.Mathlib.Nat.{add-zero}
 use native.Mathlib.Omega.{arith}
 use lib.Dec.{T, T-not, leb, ltb, eqb, eqb→eq}
 use lib.ListN.{length, take, drop, getD, drop-of-length-le}
@@ -21,7 +22,7 @@ use Rattle.envelope_line.specs.EnvelopeLine.{verb, verbLen, hasVerb, pathScan, 
 use Rattle.line_stop.specs.FirstBad.{WithCrlf}
 use Rattle.line_stop.specs.FirstBadLaws.{first-none, stop-inside}
 use Rattle.line_stop.specs.Scanner.{after, stopFrom}
-use Rattle.line_stop.specs.ScannerLaws.{Exact, scan-stops}
+use Rattle.line_stop.specs.ScannerLaws.{Exact, scan-stops, scan-inside}
 use Rattle.line_stop.specs.CharScan.{between}
 use Rattle.line_stop.specs.ProductLaws.{High, both-exact, both-start, both-takes}
 use Rattle.line_stop.specs.Word.{isNext}
@@ -291,3 +292,92 @@ high-stays f b c t h k = go f t
 
 high : High form form-exact
 high = record { steady = high-stays; next = λ f k v. next f k }
+
+-- ---- it takes just the well-formed lines
+
+-- a path by its scan, and by its place in the line
+path-by : (x : Scan) (n : ℕ) (line : List ℕ) (k : List ℕ → Bool) → (isTo x && eqb (getD line (n + scanEnd x) 0) 62) && k (drop (n + scanEnd x + 1) line)
+    ≡ ends x (drop n line) (λ r. eqb (getD r 0 0) 62 && k (drop 1 r))
+unfolding ends
+path-by (To m) n line k = rw (drop-drop m n line, drop-drop 1 (n + m) line, getD-drop (n + m) line 0 0, add-zero)
+path-by (Stop m) n line k = refl
+
+ands : (a b c d e f g : Bool) → a && b && c && d && e && f && g ≡ (a && b) && (c && (d && ((e && f) && g)))
+ands true true true true e f g = refl
+ands true true true false e f g = refl
+ands true true false d e f g = refl
+ands true false c d e f g = refl
+ands false b c d e f g = refl
+
+verb-some : (mail : Bool) → ltb 0 (length (verb mail)) ≡ true
+unfolding verb bytes
+verb-some true = refl
+verb-some false = refl
+
+verb-path : (mail : Bool) (line : List ℕ) → hasVerb mail line && (hasPath mail line && tailRest TailStart (tail mail line)) ≡ formRest (Verb mail 0) line
+unfolding hasVerb hasPath pathLen tail formRest
+verb-path mail line =
+    let s = drop (verbLen mail) line in
+    rw (path-by (pathScan mail s) (verbLen mail) line (tailRest TailStart), ← path-start (tailRest TailStart) mail s, ← verb-length mail, begins-is (verb mail) (pathTail (Start mail)) line)
+    (rw (verb-some mail))
+
+formed : (mail : Bool) (line : List ℕ) → wellFormed mail line ≡ (leb (length line) 998 && utf8 line) && formRest (Verb mail 0) line
+unfolding wellFormed
+formed mail line =
+    let t = tail mail line in
+    ands (leb (length line) 998) (utf8 line) (hasVerb mail line) (hasPath mail line) (spaced t) (all isParam (params t)) (altsOk (alts (params t)))
+    ∙ rw (← tail-is t, verb-path mail line)
+
+takes : (mail : Bool) (l : List ℕ) → scanner .done (after scanner (start mail) l) ≡ utf8 l && formRest (Verb mail 0) l
+takes mail l = both-takes form formRest form-end form-step (Verb mail 0) l
+
+formed-done : (n : ℕ) (l : List ℕ) → T (wellFormedAt n l) → (length l ≤ 998) × T (scanner .done (after scanner (start (eqb n 0)) l))
+unfolding wellFormedAt
+formed-done n l t =
+    let mail = eqb n 0 in
+    let short = leb (length l) 998 in
+    let f : T ((short && utf8 l) && formRest (Verb mail 0) l) = rw (formed mail l) at (and-yes (leb n 100) (wellFormed mail l) t .1) in
+    let c = and-yes (short && utf8 l) (formRest (Verb mail 0) l) f in
+    let b = and-yes short (utf8 l) (c .0) in
+    (leb-yes (b .0), rw (takes mail l) (yes-and (utf8 l) (formRest (Verb mail 0) l) (b .1) (c .1)))
+
+done-formed : (n : ℕ) → T (leb n 100) → (l : List ℕ) → length l ≤ 998 → T (scanner .done (after scanner (start (eqb n 0)) l)) → T (wellFormedAt n l)
+unfolding wellFormedAt
+done-formed n u l h t =
+    let mail = eqb n 0 in
+    let short = leb (length l) 998 in
+    let b = and-yes (utf8 l) (formRest (Verb mail 0) l) (rw (takes mail l) at t) in
+    yes-and (leb n 100) (wellFormed mail l) u
+    (rw (formed mail l) (yes-and (short && utf8 l) (formRest (Verb mail 0) l) (yes-and short (utf8 l) (yes-leb {a = length l} {b = 998} h) (b .0)) (b .1)))
+
+-- no line stands past the last RCPT
+none-after : (n : ℕ) → T (not (leb n 100)) → (l : List ℕ) → WithCrlf (wellFormedAt n) l → ⊥
+unfolding wellFormedAt
+none-after n t l w = T-not (leb n 100) t (and-yes (leb n 100) (wellFormed (eqb n 0) (w .text)) (w .passes) .0)
+
+-- it finds the byte that is asked for
+pub line-stop : (n : ℕ) (s : List ℕ) → LineStop n s (lineStop n s)
+unfolding lineStop form-exact
+line-stop n s =
+    cond-has (LineStop n s) (leb n 100) (stopFrom scanner 998 0 (start (eqb n 0)) s) 0
+    (λ t.
+    scan-stops scanner (both-exact form form-exact high) 998 (wellFormedAt n) (start (eqb n 0)) (both-start form form-exact high (Verb (eqb n 0) 0) tt)
+    (formed-done n)
+    (done-formed n t)
+    s)
+    (λ t. first-none (none-after n t) s)
+
+-- a malformed line has that byte in itself, its CRLF with it, whatever follows
+pub line-stop-inside : (n : ℕ) (text more : List ℕ) → T (not (wellFormedAt n text)) → lineStop n (text ++ (13 ∷ 10 ∷ more)) < suc (suc (length text))
+unfolding lineStop form-exact
+line-stop-inside n text more u =
+    let s = text ++ (13 ∷ 10 ∷ more) in
+    cond-has (λ m. m < suc (suc (length text))) (leb n 100) (stopFrom scanner 998 0 (start (eqb n 0)) s) 0
+    (λ t.
+    scan-inside scanner (both-exact form form-exact high) 998 (wellFormedAt n) (start (eqb n 0)) (both-start form form-exact high (Verb (eqb n 0) 0) tt)
+    (formed-done n)
+    (done-formed n t)
+    text
+    more
+    u)
+    (λ t. omega arith)
