@@ -4,6 +4,7 @@ use mathlib.Core.Bool.{Bool, true, false, not, cond, _&&_, and-false, and-assoc}
 use mathlib.Core.List.{List, [], _∷_, _++_}
 use Prim.Native.Nat.{ℕ, zero, suc, _+_, _-_, _≤_, _<_}
 use native.Mathlib.Nat.{add-zero}
+use native.Mathlib.Numerals.{add-one}
 use native.Mathlib.Omega.{arith}
 use lib.Dec.{T, T-not, leb, ltb, eqb, eqb→eq}
 use lib.ListN.{length, take, drop, getD, drop-of-length-le}
@@ -46,6 +47,10 @@ verb-length : (mail : Bool) → length (verb mail) ≡ verbLen mail
 unfolding verb bytes
 verb-length true = refl
 verb-length false = refl
+
+verb-short : (mail : Bool) → verbLen mail ≤ 11
+verb-short true = omega arith
+verb-short false = omega arith
 
 closed-is : (p : PathForm) → T (isClosed p) → p ≡ Closed
 closed-is (Start mail) t = absurd t
@@ -381,3 +386,31 @@ line-stop-inside n text more u =
     more
     u)
     (λ t. omega arith)
+
+-- ---- the tests one after another, as code makes them
+
+module _ (mail : Bool) (n b : ℕ) where
+  pub verb-bad : isNext (verb mail) n b ≡ false → Bad ≡ verbStep mail n b
+  unfolding verbStep
+  verb-bad e = rw e
+
+  module _ (e : isNext (verb mail) n b ≡ true) where
+    pub verb-within : n < 11
+    verb-within = omega (arith, next-within (verb mail) n b (true-yes (isNext (verb mail) n b) e), verb-length mail, verb-short mail)
+
+    pub verb-last : {whole : ℕ} → whole ≡ verbLen mail → n + 1 ≡ whole → Path (Start mail) ≡ verbStep mail n b
+    unfolding verbStep
+    verb-last w z = rw (e, eq-eqb (suc n) (verbLen mail) (omega (arith, w, z)))
+
+    pub verb-more : {whole : ℕ} → whole ≡ verbLen mail → (n + 1 ≡ whole → ⊥) → Verb mail (n + 1) ≡ verbStep mail n b
+    unfolding verbStep
+    verb-more w z = rw (e, ne-eqb (suc n) (verbLen mail) (λ f. z (omega (arith, w, f))), add-one)
+
+module _ (n at : ℕ) (s : List ℕ) where
+  pub stop-past : 100 < n → at ≡ at + lineStop n s
+  unfolding lineStop
+  stop-past h = rw (lt-leb n 100 h) (omega arith)
+
+  pub stop-at : {r : ℕ} → n ≤ 100 → r ≡ at + stopFrom scanner 998 0 (start (eqb n 0)) s → r ≡ at + lineStop n s
+  unfolding lineStop
+  stop-at h e = rw (le-leb n 100 h) e

@@ -1,6 +1,6 @@
 // The first byte at which an envelope line stops being a beginning of any well-formed line.
 ghost use mathlib.Core.Path.{_≡_};
-ghost use Prim.Native.Nat.{_+_, _≤_};
+ghost use Prim.Native.Nat.{_+_, _-_, _≤_};
 ghost use lib.ListN.{drop};
 ghost use Rattle.line_stop.specs.Scanner.{alive, stopFrom};
 ghost use Rattle.line_stop.specs.Word.{isNext};
@@ -96,15 +96,22 @@ fn form_live(f: Form) -> bool
     }
 }
 
-// How many bytes are left of the verb, and the fewest of a path with its `>`.
-fn verb_need(mail: bool, n: usize) -> usize
-    ensures { λ r. ⌜ (r ≡ verbNeed mail n) × (r ≤ 13) ⌝ }
+// How many bytes are left of the verb.
+fn verb_left(mail: bool, n: usize) -> usize
+    ensures { λ r. ⌜ (r ≡ verbLen mail - n) × (r ≤ 11) ⌝ }
 {
     let whole = verb_len(mail);
-    let mut left: usize = 0;
-    if n < whole {
-        left = whole - n;
+    if whole <= n {
+        return 0;
     }
+    whole - n
+}
+
+// They, and the fewest of a path with its `>`.
+fn verb_need(mail: bool, n: usize) -> usize
+    ensures { λ r. ⌜ (r ≡ verbNeed mail n) × (r ≤ 15) ⌝ }
+{
+    let left = verb_left(mail, n);
     if mail {
         return left + 1;
     }
@@ -113,7 +120,7 @@ fn verb_need(mail: bool, n: usize) -> usize
 
 // The fewest bytes that complete the form.
 fn form_need(f: Form) -> usize
-    ensures { λ r. ⌜ (r ≡ formNeed f) × (r ≤ 13) ⌝ }
+    ensures { λ r. ⌜ (r ≡ formNeed f) × (r ≤ 15) ⌝ }
 {
     match f {
         Form::Verb(mail, n) => verb_need(mail, n),

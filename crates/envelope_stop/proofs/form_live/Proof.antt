@@ -1,53 +1,38 @@
 use borrow.Author.Needs.{needs}
 use Rattle.envelope_stop.proofs.form_live.Statement.{statement}
 use Rattle.envelope_stop.proofs.form_live.Tie as tie
-use Rattle.envelope_stop.proofs.form_live.Reads as reads
-use Rattle.envelope_stop.proofs.form_live.Lts as lts
-use Rattle.envelope_stop.proofs.verb_len.Reads as verb-len-reads
-use Rattle.parameter_stop.proofs.is_live.Reads as is-live-reads
 use Rattle.path_stop.proofs.is_live.Reads as is-live-reads′
 
--- src/lib.rt:92:20
 enum-known-f : tie.Need-enum-known-f
 enum-known-f c = search needs
 
--- src/lib.rt:92:36
 verb-len-requires : tie.Need-verb-len-requires
 verb-len-requires c κs = search needs
 
--- src/lib.rt:93:20
 enum-known-f-2 : tie.Need-enum-known-f-2
 enum-known-f-2 c = search needs
 
--- src/lib.rt:93:26
 is-live-requires : tie.Need-is-live-requires
 is-live-requires c κs = search needs
 
--- src/lib.rt:94:22
 enum-known-f-3 : tie.Need-enum-known-f-3
 enum-known-f-3 c = search needs
 
--- src/lib.rt:94:28
 is-live-requires-2 : tie.Need-is-live-requires-2
 is-live-requires-2 c κs = search needs
 
--- src/lib.rt:95:22
 enum-told : tie.Need-enum-told
 enum-told c = search needs
 
--- src/lib.rt:88:1
 returns : tie.Need-returns
-returns c = ?
+returns c = rw (c .before .before .f .given .1, c .verb-len .ensures .0)
 
--- src/lib.rt:88:1
 returns-2 : tie.Need-returns-2
 returns-2 c = search needs
 
--- src/lib.rt:88:1
 returns-3 : tie.Need-returns-3
 returns-3 c = search needs
 
--- src/lib.rt:88:1
 returns-4 : tie.Need-returns-4
 returns-4 c = search needs
 
