@@ -16,9 +16,8 @@ use Rattle.lists.specs.Run.{run}
 use Rattle.utf8.specs.Utf8.{utf8}
 use Rattle.line.specs.Line.{blank}
 use Rattle.header_line.specs.Lines.{lineByte, nameByte, nameLen, named, continuation, wellFormed}
-use Rattle.line_stop.specs.FirstBadLaws.{stop-inside}
 use Rattle.line_stop.specs.Scanner.{after, stopFrom}
-use Rattle.line_stop.specs.ScannerLaws.{Exact, scan-stops}
+use Rattle.line_stop.specs.ScannerLaws.{Exact, scan-stops, scan-inside}
 use Rattle.line_stop.specs.CharScan.{between}
 use Rattle.line_stop.specs.ProductLaws.{High, both-exact, both-start, both-takes}
 use Rattle.header_stop.specs.declared.Form.{Form}
@@ -209,22 +208,16 @@ line-stop first s =
     (done-formed first)
     s
 
--- ---- a malformed line has the byte in itself, its CRLF with it, whatever follows
-
-bytes-of : (first : Bool) (l : List ℕ) → T (wellFormed first l) → T (all lineByte l)
-unfolding wellFormed
-bytes-of first l t =
-    let size = within 1 998 (length l) in
-    let c = and-yes (size && all lineByte l && utf8 l) (continuation first l || named l) t in
-    and-yes size (all lineByte l) (and-yes (size && all lineByte l) (utf8 l) (c .0) .0) .1
-
-no-cr-byte : T (lineByte 13) → ⊥
-unfolding lineByte
-no-cr-byte t = t
-
+-- a malformed line has that byte in itself, its CRLF with it, whatever follows
 pub line-stop-inside : (first : Bool) (text more : List ℕ) → T (not (wellFormed first text)) → lineStop first (text ++ (13 ∷ 10 ∷ more)) < suc (suc (length text))
+unfolding lineStop exact-form
 line-stop-inside first text more t =
-    stop-inside (wellFormed first) lineByte no-cr-byte (bytes-of first) text more (lineStop first (text ++ (13 ∷ 10 ∷ more))) t (line-stop first (text ++ (13 ∷ 10 ∷ more)))
+    scan-inside scanner (both-exact form exact-form high) 998 (wellFormed first) (start first) (both-start form exact-form high (Start first) tt)
+    (formed-done first)
+    (done-formed first)
+    text
+    more
+    t
 
 -- ---- a name's room, as code counts it down
 

@@ -7,3 +7,5 @@ pub mod CharScan
 pub mod CharScanLaws
 pub mod Product
 pub mod ProductLaws
+pub mod Word
+pub mod WordLaws

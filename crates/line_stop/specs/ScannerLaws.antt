@@ -3,14 +3,15 @@
 use mathlib.Core.Path.{_≡_, refl, ap}
 use mathlib.Core.Bool.{Bool, not, cond, _&&_}
 use mathlib.Core.List.{List, [], _∷_, _++_}
-use Prim.Native.Nat.{ℕ, zero, suc, _+_, _≤_}
+use Prim.Native.Nat.{ℕ, zero, suc, _+_, _≤_, _<_}
 use native.Mathlib.Omega.{arith}
 use lib.Dec.{T, T-not, leb, eqb, eqb→eq}
 use lib.ListN.{length}
 use mir.Facts.{and-yes, yes-and, leb-yes, yes-leb, eqb-no}
-use Rattle.lists.specs.ListsLaws.{cond-has}
+use Rattle.lists.specs.Lists.{all}
+use Rattle.lists.specs.ListsLaws.{by-test, cond-has}
 use Rattle.line_stop.specs.FirstBad.{Beginning, FirstBad, WithCrlf}
-use Rattle.line_stop.specs.FirstBadLaws.{first-end, first-here, first-later, first-same}
+use Rattle.line_stop.specs.FirstBadLaws.{first-end, first-here, first-later, first-same, stop-inside}
 use Rattle.line_stop.specs.Scanner.{Scanner, after, stopLf, alive, stopFrom}
 
 -- `need` is right at the states of a set that no byte leads out of, told of one byte at a time
@@ -25,6 +26,9 @@ pub record Exact {S : Type 0} (a : Scanner S) : Type 1 where
   pub next : (s : S) (k : ℕ) → Valid s → T (a .live s) → a .need s ≡ suc k → (b : ℕ) × T (a .live (a .step s b)) × (a .need (a .step s b) ≡ k)
   -- no CR stands before the CRLF
   pub no-cr : (s : S) → T (not (a .live (a .step s 13)))
+
+abbrev notCr : ℕ → Bool
+notCr b = not (eqb b 13)
 
 -- ---- the LF of a line
 
@@ -72,6 +76,15 @@ module _ {S : Type 0} (a : Scanner S) (x : Exact a) where
       let more = no-shorter text (a .step s b) (x .stays s b v) h in
       let m = x .most s b v (more .0) in
       (m .0, omega (arith, m .1, more .1))
+
+  -- no CR stands in it
+  taken-no-cr : (text : List ℕ) (s : S) → x .Valid s → T (a .done (after a s text)) → T (all notCr text)
+  taken-no-cr [] s v h = tt
+  taken-no-cr (b ∷ text) s v h =
+      let live = no-shorter text (a .step s b) (x .stays s b v) h .0 in
+      let other : T (notCr b) =
+      by-test (eqb b 13) (λ t. absurd (T-not (a .live (a .step s 13)) (x .no-cr s) (rw (eqb→eq b 13 t) at live))) (λ t. t) in
+      yes-and (notCr b) (all notCr text) other (taken-no-cr text (a .step s b) (x .stays s b v) h)
 
   module _ (limit : ℕ) where
     ends-alive : (n : ℕ) (s : S) (l : List ℕ) → x .Valid s → Ends a limit n s l → T (alive a limit n s)
@@ -149,11 +162,18 @@ module _ {S : Type 0} (a : Scanner S) (x : Exact a) where
         (λ t. byte l n b s _ w (eqb-no {a = b} {b = 13} t) later)
 
     -- and so of lines whose texts are just those that the scanner takes within the limit
-    pub scan-stops : (formed : List ℕ → Bool) (s : S) → x .Valid s → ((l : List ℕ) → T (formed l) → (length l ≤ limit) × T (a .done (after a s l)))
-        → ((l : List ℕ) → length l ≤ limit → T (a .done (after a s l)) → T (formed l)) → (l : List ℕ) → FirstBad (WithCrlf formed) l (stopFrom a limit 0 s l)
-    unfolding Ends
-    scan-stops formed s v there back l =
-        first-same
-        (λ m e. let d = there (e .text) (e .passes) in (e .text, e .ends, omega (arith, d .0), d .1))
-        (λ m e. record { text = e .0; ends = e .1; passes = back (e .0) (omega (arith, e .2)) (e .3) })
-        (stops l 0 s v (omega arith))
+    module _ (formed : List ℕ → Bool) (s : S) (v : x .Valid s) (there : (l : List ℕ) → T (formed l) → (length l ≤ limit) × T (a .done (after a s l)))
+        (back : (l : List ℕ) → length l ≤ limit → T (a .done (after a s l)) → T (formed l)) where
+      pub scan-stops : (l : List ℕ) → FirstBad (WithCrlf formed) l (stopFrom a limit 0 s l)
+      unfolding Ends
+      scan-stops l =
+          first-same
+          (λ m e. let d = there (e .text) (e .passes) in (e .text, e .ends, omega (arith, d .0), d .1))
+          (λ m e. record { text = e .0; ends = e .1; passes = back (e .0) (omega (arith, e .2)) (e .3) })
+          (stops l 0 s v (omega arith))
+
+      -- a malformed line has the byte in itself, its CRLF with it, whatever follows it
+      pub scan-inside : (text more : List ℕ) → T (not (formed text)) → stopFrom a limit 0 s (text ++ (13 ∷ 10 ∷ more)) < suc (suc (length text))
+      scan-inside text more t =
+          let line = text ++ (13 ∷ 10 ∷ more) in
+          stop-inside formed notCr (λ u. u) (λ l u. taken-no-cr l s v (there l u .1)) text more (stopFrom a limit 0 s line) t (scan-stops line)

@@ -4,7 +4,9 @@ ghost use mathlib.Core.Path.{_≡_};
 ghost use Prim.Native.Nat.{_+_, _<_};
 ghost use lib.ListN.{drop};
 ghost use Rattle.line_stop.specs.Scanner.{stopLf};
+ghost use Rattle.line_stop.specs.Word.{isNext, matched as matchedBytes};
 ghost use Rattle.line_stop.specs.CharScan.{between, isZero, lead, tailCount, charStep, charLive};
+use letter_case::lower;
 
 // What the character that has begun lacks: how many bytes, and from where to where the next of them lies.
 pub struct Begun {
@@ -113,4 +115,24 @@ pub fn after_lf(s: &[u8], i: usize) -> usize
         }
     }
     i
+}
+
+// Whether a byte goes on, in any case, with a word of which n bytes have come.
+pub fn is_next(word: &[u8], n: usize, b: u8) -> bool
+    ensures { λ r. ⌜ r ≡ isNext (now (word .entry)) n b ⌝ }
+{
+    if word.len() <= n {
+        return false;
+    }
+    lower(word[n]) == lower(b)
+}
+
+// How many bytes of the word have come after the byte b; one more than it has, where the text is another.
+pub fn matched(word: &[u8], n: usize, b: u8) -> usize
+    ensures { λ r. ⌜ r ≡ matchedBytes (now (word .entry)) n b ⌝ }
+{
+    if is_next(word, n, b) {
+        return n + 1;
+    }
+    word.len() + 1
 }
