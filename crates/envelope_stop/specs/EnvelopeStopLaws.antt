@@ -1,41 +1,40 @@
 -- The scan of an envelope line finds the byte that is asked for. Assumes nothing.
-use mathlib.Core.Path.{_≡_, refl, sym, ap, _∙_}
-use mathlib.Core.Bool.{Bool, true, false, not, cond, _&&_, and-false, and-assoc}
+use mathlib.Core.Path.{_≡_, refl, ap, _∙_}
+use mathlib.Core.Bool.{Bool, true, false, not, cond, _&&_}
 use mathlib.Core.List.{List, [], _∷_, _++_}
-use Prim.Native.Nat.{ℕ, zero, suc, _+_, _-_, _≤_, _<_}
+use Prim.Native.Nat.{ℕ, suc, _+_, _-_, _≤_, _<_}
 use native.Mathlib.Nat.{add-zero}
 use native.Mathlib.Numerals.{add-one}
 use native.Mathlib.Omega.{arith}
 use lib.Dec.{T, T-not, leb, ltb, eqb, eqb→eq}
-use lib.ListN.{length, take, drop, getD, drop-of-length-le}
+use lib.ListN.{length, drop, getD, drop-of-length-le}
 use lib.Seq.{drop-drop, getD-drop}
-use mir.Facts.{and-yes, yes-and, leb-yes, yes-leb, ltb-yes, ltb-no, eqb-no}
-use borrow.Author.Tests.{lt-ltb, le-ltb, lt-leb, le-leb, eq-eqb, ne-eqb}
+use mir.Facts.{and-yes, yes-and, leb-yes, yes-leb, ltb-yes, eqb-no}
+use borrow.Author.Tests.{lt-ltb, lt-leb, le-leb, eq-eqb, ne-eqb}
 use Rattle.lists.specs.Lists.{all}
 use Rattle.lists.specs.ListsLaws.{by-test, cond-has, yes-true, true-yes, no-false}
 use Rattle.lists.specs.ByteLaws.{below}
 use Rattle.utf8.specs.Utf8.{utf8}
-use Rattle.letter_case.specs.LetterCase.{bytes, lower, sameAnyCase}
+use Rattle.letter_case.specs.LetterCase.{bytes, lower}
 use Rattle.address.specs.declared.Scan.{Scan}
 use Rattle.address.specs.declared.Scan.the-variants.{To, Stop}
 use Rattle.parameter.specs.Parameter.{params, spaced, isParam, alts, altsOk}
 use Rattle.envelope_line.specs.EnvelopeLine.{verb, verbLen, hasVerb, pathScan, scanEnd, isTo, pathLen, hasPath, tail, wellFormed}
 use Rattle.line_stop.specs.FirstBad.{WithCrlf}
-use Rattle.line_stop.specs.FirstBadLaws.{first-none, stop-inside}
+use Rattle.line_stop.specs.FirstBadLaws.{first-none}
 use Rattle.line_stop.specs.Scanner.{after, stopFrom}
-use Rattle.line_stop.specs.ScannerLaws.{Exact, scan-stops, scan-inside}
-use Rattle.line_stop.specs.CharScan.{between}
+use Rattle.line_stop.specs.ScannerLaws.{Exact, scan-stops, scan-inside, scan-alone}
 use Rattle.line_stop.specs.ProductLaws.{High, both-exact, both-start, both-takes}
 use Rattle.line_stop.specs.Word.{isNext}
-use Rattle.line_stop.specs.WordLaws.{begins, begins-is, begins-short, begins-more, begins-other, next-within}
+use Rattle.line_stop.specs.WordLaws.{begins, begins-is, begins-short, begins-more, begins-other, next-within, next-never, next-high}
 use Rattle.path_stop.specs.declared.PathForm.{PathForm}
 use Rattle.path_stop.specs.declared.PathForm.the-variants.{Start, Word, Atoms, Quoted, End, Domain, Literal, Closed, Off}
-use Rattle.path_stop.specs.PathStop.{pathStep, isClosed, pathLive, pathNeed, path}
+use Rattle.path_stop.specs.PathStop.{pathStep, isClosed, pathLive, pathNeed}
 use Rattle.path_stop.specs.PathStopLaws.{ends, pathRest, path-step, path-none, path-closed, path-start}
 use Rattle.path_stop.specs.PathNeedLaws.{path-exact, path-valid, path-high}
 use Rattle.parameter_stop.specs.declared.Tail.{Tail}
 use Rattle.parameter_stop.specs.declared.Tail.the-variants.{Start as TailStart}
-use Rattle.parameter_stop.specs.ParameterStop.{startStep, tailStep, tailDone, tailLive, tailNeed}
+use Rattle.parameter_stop.specs.ParameterStop.{startStep, tailStep}
 use Rattle.parameter_stop.specs.ParameterStopLaws.{tailRest, tail-is, tail-step, tail-end, tail-exact, tail-valid, tail-high}
 use Rattle.envelope_stop.specs.declared.Form.{Form}
 use Rattle.envelope_stop.specs.declared.Form.the-variants.{Verb, Path, Params, Bad}
@@ -129,34 +128,20 @@ form-end Bad = refl
 
 -- ---- bytes that no verb has
 
-next-none : (mail : Bool) (b : ℕ) → ((n : ℕ) → n < verbLen mail → eqb (lower (getD (verb mail) n 0)) (lower b) ≡ false) → (n : ℕ) → isNext (verb mail) n b ≡ false
-unfolding isNext
-next-none mail b each n =
-    rw (verb-length mail)
-    (by-test (ltb n (verbLen mail))
-    (λ t. rw (yes-true (ltb n (verbLen mail)) t) (each n (ltb-yes t)))
-    (λ t. rw (no-false (ltb n (verbLen mail)) t)))
-
-verb-visible : (mail : Bool) (n : ℕ) → n < verbLen mail → (32 ≤ lower (getD (verb mail) n 0)) × (lower (getD (verb mail) n 0) < 128)
-unfolding verb bytes lower
-verb-visible true n h = let x = lower (getD (verb true) n 0) in (leb-yes (below (λ i. leb 32 (lower (getD (verb true) i 0))) 11 tt n h), ltb-yes {a = x} {b = 128} (below (λ i. ltb (lower (getD (verb true) i 0)) 128) 11 tt n h))
-verb-visible false n h = let x = lower (getD (verb false) n 0) in (leb-yes (below (λ i. leb 32 (lower (getD (verb false) i 0))) 9 tt n h), ltb-yes {a = x} {b = 128} (below (λ i. ltb (lower (getD (verb false) i 0)) 128) 9 tt n h))
-
 verb-ascii : (mail : Bool) (n : ℕ) → n < verbLen mail → getD (verb mail) n 0 < 128
 unfolding verb bytes
 verb-ascii true n h = ltb-yes (below (λ i. ltb (getD (verb true) i 0) 128) 11 tt n h)
 verb-ascii false n h = ltb-yes (below (λ i. ltb (getD (verb false) i 0) 128) 9 tt n h)
 
 no-13 : (mail : Bool) (n : ℕ) → isNext (verb mail) n 13 ≡ false
-unfolding lower
-no-13 mail = next-none mail 13 (λ n h. ne-eqb (lower (getD (verb mail) n 0)) 13 (λ e. omega (arith, verb-visible mail n h .0, e)))
-
-high-lower : (b : ℕ) → 128 ≤ b → lower b ≡ b
-unfolding lower
-high-lower b h = rw (lt-leb b 90 (omega arith), and-false (leb 65 b))
+unfolding verb bytes lower
+no-13 true = next-never (verb true) 13 tt
+no-13 false = next-never (verb false) 13 tt
 
 no-high : (mail : Bool) (b : ℕ) → 128 ≤ b → (n : ℕ) → isNext (verb mail) n b ≡ false
-no-high mail b h = next-none mail b (λ n k. rw (high-lower b h) (ne-eqb (lower (getD (verb mail) n 0)) b (λ e. omega (arith, verb-visible mail n k .1, e))))
+unfolding verb bytes lower
+no-high true = next-high (verb true) tt
+no-high false = next-high (verb false) tt
 
 -- ---- the fewest bytes that complete a form are as many as told
 
@@ -360,32 +345,37 @@ none-after : (n : ℕ) → T (not (leb n 100)) → (l : List ℕ) → WithCrlf (
 unfolding wellFormedAt
 none-after n t l w = T-not (leb n 100) t (and-yes (leb n 100) (wellFormed (eqb n 0) (w .text)) (w .passes) .0)
 
--- it finds the byte that is asked for
-pub line-stop : (n : ℕ) (s : List ℕ) → LineStop n s (lineStop n s)
-unfolding lineStop form-exact
-line-stop n s =
-    cond-has (LineStop n s) (leb n 100) (stopFrom scanner 998 0 (start (eqb n 0)) s) 0
-    (λ t.
-    scan-stops scanner (both-exact form form-exact high) 998 (wellFormedAt n) (start (eqb n 0)) (both-start form form-exact high (Verb (eqb n 0) 0) tt)
-    (formed-done n)
-    (done-formed n t)
-    s)
-    (λ t. first-none (none-after n t) s)
+module _ (n : ℕ) where
+  valid : both-exact form form-exact high .Valid (start (eqb n 0))
+  unfolding form-exact
+  valid = both-start form form-exact high (Verb (eqb n 0) 0) tt
 
--- a malformed line has that byte in itself, its CRLF with it, whatever follows
-pub line-stop-inside : (n : ℕ) (text more : List ℕ) → T (not (wellFormedAt n text)) → lineStop n (text ++ (13 ∷ 10 ∷ more)) < suc (suc (length text))
-unfolding lineStop form-exact
-line-stop-inside n text more u =
-    let s = text ++ (13 ∷ 10 ∷ more) in
-    cond-has (λ m. m < suc (suc (length text))) (leb n 100) (stopFrom scanner 998 0 (start (eqb n 0)) s) 0
-    (λ t.
-    scan-inside scanner (both-exact form form-exact high) 998 (wellFormedAt n) (start (eqb n 0)) (both-start form form-exact high (Verb (eqb n 0) 0) tt)
-    (formed-done n)
-    (done-formed n t)
-    text
-    more
-    u)
-    (λ t. omega arith)
+  -- it finds the byte that is asked for
+  pub line-stop : (s : List ℕ) → LineStop n s (lineStop n s)
+  unfolding lineStop
+  line-stop s =
+      cond-has (LineStop n s) (leb n 100) (stopFrom scanner 998 0 (start (eqb n 0)) s) 0
+      (λ t. scan-stops scanner (both-exact form form-exact high) 998 (wellFormedAt n) (start (eqb n 0)) valid (formed-done n) (done-formed n t) s)
+      (λ t. first-none (none-after n t) s)
+
+  module _ (text more : List ℕ) (u : T (not (wellFormedAt n text))) where
+    -- a malformed line has that byte in itself, its CRLF with it
+    pub line-stop-inside : lineStop n (text ++ (13 ∷ 10 ∷ more)) < suc (suc (length text))
+    unfolding lineStop
+    line-stop-inside =
+        cond-has (λ m. m < suc (suc (length text))) (leb n 100) (stopFrom scanner 998 0 (start (eqb n 0)) (text ++ (13 ∷ 10 ∷ more))) 0
+        (λ t. scan-inside scanner (both-exact form form-exact high) 998 (wellFormedAt n) (start (eqb n 0)) valid (formed-done n) (done-formed n t) text more u)
+        (λ t. omega arith)
+
+    -- whatever follows
+    pub line-stop-alone : lineStop n (text ++ (13 ∷ 10 ∷ more)) ≡ lineStop n (text ++ (13 ∷ 10 ∷ []))
+    unfolding lineStop
+    line-stop-alone =
+        by-test (leb n 100)
+        (λ t.
+        rw (yes-true (leb n 100) t)
+        (scan-alone scanner (both-exact form form-exact high) 998 (wellFormedAt n) (start (eqb n 0)) valid (formed-done n) (done-formed n t) text more u))
+        (λ t. rw (no-false (leb n 100) t))
 
 -- ---- the tests one after another, as code makes them
 

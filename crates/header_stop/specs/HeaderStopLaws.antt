@@ -16,9 +16,8 @@ use Rattle.lists.specs.Run.{run}
 use Rattle.utf8.specs.Utf8.{utf8}
 use Rattle.line.specs.Line.{blank}
 use Rattle.header_line.specs.Lines.{lineByte, nameByte, nameLen, named, continuation, wellFormed}
-use Rattle.line_stop.specs.Scanner.{after, stopFrom}
-use Rattle.line_stop.specs.ScannerLaws.{Exact, scan-stops, scan-inside}
-use Rattle.line_stop.specs.CharScan.{between}
+use Rattle.line_stop.specs.Scanner.{after}
+use Rattle.line_stop.specs.ScannerLaws.{Exact, scan-stops, scan-inside, scan-alone}
 use Rattle.line_stop.specs.ProductLaws.{High, both-exact, both-start, both-takes}
 use Rattle.header_stop.specs.declared.Form.{Form}
 use Rattle.header_stop.specs.declared.Form.the-variants.{Start, Name, Body, Bad}
@@ -199,25 +198,28 @@ done-formed first l h t =
     (yes-and (size && all lineByte l) (utf8 l) (yes-and size (all lineByte l) (to-within 1 998 (length l) (not-empty first l (a .1)) h) (a .0)) (b .0))
     (a .1)
 
--- it finds the byte that is asked for
-pub line-stop : (first : Bool) (s : List ℕ) → LineStop first s (lineStop first s)
-unfolding lineStop exact-form
-line-stop first s =
-    scan-stops scanner (both-exact form exact-form high) 998 (wellFormed first) (start first) (both-start form exact-form high (Start first) tt)
-    (formed-done first)
-    (done-formed first)
-    s
+module _ (first : Bool) where
+  valid : both-exact form exact-form high .Valid (start first)
+  unfolding exact-form
+  valid = both-start form exact-form high (Start first) tt
 
--- a malformed line has that byte in itself, its CRLF with it, whatever follows
-pub line-stop-inside : (first : Bool) (text more : List ℕ) → T (not (wellFormed first text)) → lineStop first (text ++ (13 ∷ 10 ∷ more)) < suc (suc (length text))
-unfolding lineStop exact-form
-line-stop-inside first text more t =
-    scan-inside scanner (both-exact form exact-form high) 998 (wellFormed first) (start first) (both-start form exact-form high (Start first) tt)
-    (formed-done first)
-    (done-formed first)
-    text
-    more
-    t
+  -- it finds the byte that is asked for
+  pub line-stop : (s : List ℕ) → LineStop first s (lineStop first s)
+  unfolding lineStop
+  line-stop s = scan-stops scanner (both-exact form exact-form high) 998 (wellFormed first) (start first) valid (formed-done first) (done-formed first) s
+
+  module _ (text more : List ℕ) (t : T (not (wellFormed first text))) where
+    -- a malformed line has that byte in itself, its CRLF with it
+    pub line-stop-inside : lineStop first (text ++ (13 ∷ 10 ∷ more)) < suc (suc (length text))
+    unfolding lineStop
+    line-stop-inside =
+        scan-inside scanner (both-exact form exact-form high) 998 (wellFormed first) (start first) valid (formed-done first) (done-formed first) text more t
+
+    -- whatever follows
+    pub line-stop-alone : lineStop first (text ++ (13 ∷ 10 ∷ more)) ≡ lineStop first (text ++ (13 ∷ 10 ∷ []))
+    unfolding lineStop
+    line-stop-alone =
+        scan-alone scanner (both-exact form exact-form high) 998 (wellFormed first) (start first) valid (formed-done first) (done-formed first) text more t
 
 -- ---- a name's room, as code counts it down
 

@@ -1,17 +1,15 @@
 -- Laws of the tail of an envelope line by one byte at a time. Assumes nothing.
-use mathlib.Core.Path.{_≡_, refl, sym, ap, _∙_}
+use mathlib.Core.Path.{_≡_, refl, sym, _∙_}
 use mathlib.Core.Bool.{Bool, true, false, not, cond, _&&_, _||_, and-true, and-false, and-assoc}
 use mathlib.Core.List.{List, [], _∷_}
-use Prim.Native.Nat.{ℕ, zero, suc, _+_, _≤_, _<_}
+use Prim.Native.Nat.{ℕ, suc, _+_, _≤_, _<_}
 use native.Mathlib.Numerals.{add-one}
 use native.Mathlib.Omega.{arith}
 use lib.Dec.{T, leb, ltb, eqb, eqb→eq, leb·suc-suc}
 use lib.ListN.{length, take, drop, getD}
-use mir.Facts.{and-yes, leb-yes}
 use borrow.Author.Tests.{lt-leb, le-leb, lt-ltb, ne-eqb}
 use Rattle.lists.specs.Lists.{all, nonempty}
-use Rattle.lists.specs.ListsLaws.{by-test, cond-has, yes-true, true-yes, no-false}
-use Rattle.lists.specs.Byte.{within}
+use Rattle.lists.specs.ListsLaws.{by-test, cond-has, yes-true, no-false}
 use Rattle.lists.specs.Run.{run}
 use Rattle.letter_case.specs.LetterCase.{bytes, lower}
 use Rattle.parameter.specs.Parameter.{notSpace, params, spaced, isKeywordByte, keywordLen, keyword, hasValue, value, isOrcpt, isAlt, isValueByte, isParam, alts, altsOk}
