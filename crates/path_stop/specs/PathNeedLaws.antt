@@ -10,8 +10,7 @@ use Rattle.lists.specs.ListsLaws.{by-test, cond-has, yes-true, no-false}
 use Rattle.lists.specs.Byte.{within}
 use Rattle.letter_case.specs.LetterCase.{bytes, lower}
 use Rattle.address.specs.Address.{isAtext, isAtomByte, isQuotedByte, isLiteralByte}
-use Rattle.line_stop.specs.ScannerLaws.{Exact}
-use Rattle.line_stop.specs.ProductLaws.{High}
+use Rattle.line_stop.specs.ProductLaws.{Tells}
 use Rattle.line_stop.specs.Word.{isNext}
 use Rattle.line_stop.specs.WordLaws.{next-never, next-high}
 use Rattle.path_stop.specs.declared.PathForm.{PathForm}
@@ -248,21 +247,6 @@ no-cr Literal = tt
 no-cr Closed = tt
 no-cr Off = tt
 
-pub path-exact : Exact path
-path-exact = record {
-  Valid = λ p. Unit;
-  stays = λ p b v. tt;
-  at-end = λ p v. at-end p;
-  may-end = λ p v. may-end p;
-  most = λ p b v. most p b;
-  next = λ p k v t e. let n = next p k t e in (n .0, n .2, n .3);
-  no-cr = no-cr;
-}
-
-pub path-valid : (p : PathForm) → path-exact .Valid p
-unfolding path-exact
-path-valid p = tt
-
 -- ---- past ASCII only atoms and quoted strings go on, and stay
 
 high-atom : (b : ℕ) → 128 ≤ b → T (isAtomByte b)
@@ -311,5 +295,5 @@ high-stays p b c t h k = go p t
     go Closed = λ u. absurd u
     go Off = λ u. absurd u
 
-pub path-high : High path path-exact
-path-high = record { steady = high-stays; next = λ p k v. next p k }
+pub path-tells : Tells path
+path-tells = record { at-end = at-end; may-end = may-end; most = most; next = next; no-cr = no-cr; steady = high-stays }
