@@ -1,6 +1,6 @@
 -- The byte at which an envelope line is told malformed, and the scan that finds it: the form of the line by one byte at a time, beside the
 -- character that has begun. EnvelopeStopLaws.antt proves that it finds that byte. Assumes nothing.
-use mathlib.Core.Bool.{Bool, true, false, cond, _&&_}
+use mathlib.Core.Bool.{Bool, false, cond, _&&_}
 use mathlib.Core.List.{List}
 use Prim.Native.Nat.{ℕ, suc, _+_, _-_}
 use lib.Dec.{leb, ltb, eqb}
@@ -14,7 +14,6 @@ use Rattle.line_stop.specs.Word.{isNext}
 use Rattle.path_stop.specs.declared.PathForm.{PathForm}
 use Rattle.path_stop.specs.declared.PathForm.the-variants.{Start}
 use Rattle.path_stop.specs.PathStop.{pathStep, isClosed, pathLive, pathNeed}
-use Rattle.parameter_stop.specs.declared.Tail.{Tail}
 use Rattle.parameter_stop.specs.ParameterStop.{startStep, tailStep, tailDone, tailLive, tailNeed}
 use Rattle.envelope_stop.specs.declared.Form.{Form}
 use Rattle.envelope_stop.specs.declared.Form.the-variants.{Verb, Path, Params, Bad}

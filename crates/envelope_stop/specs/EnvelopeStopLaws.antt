@@ -1,42 +1,40 @@
 -- The scan of an envelope line finds the byte that is asked for. Assumes nothing.
-use mathlib.Core.Path.{_≡_, refl, sym, ap, _∙_}
-use mathlib.Core.Bool.{Bool, true, false, not, cond, _&&_, and-false, and-assoc}
+use mathlib.Core.Path.{_≡_, refl, ap, _∙_}
+use mathlib.Core.Bool.{Bool, true, false, not, cond, _&&_}
 use mathlib.Core.List.{List, [], _∷_, _++_}
-use Prim.Native.Nat.{ℕ, zero, suc, _+_, _-_, _≤_, _<_}
+use Prim.Native.Nat.{ℕ, suc, _+_, _-_, _≤_, _<_}
 use native.Mathlib.Nat.{add-zero}
 use native.Mathlib.Numerals.{add-one}
 use native.Mathlib.Omega.{arith}
 use lib.Dec.{T, T-not, leb, ltb, eqb, eqb→eq}
-use lib.ListN.{length, take, drop, getD, drop-of-length-le}
+use lib.ListN.{length, drop, getD, drop-of-length-le}
 use lib.Seq.{drop-drop, getD-drop}
-use mir.Facts.{and-yes, yes-and, leb-yes, yes-leb, ltb-yes, ltb-no, eqb-no}
-use borrow.Author.Tests.{lt-ltb, le-ltb, lt-leb, le-leb, eq-eqb, ne-eqb}
+use mir.Facts.{and-yes, ltb-yes, eqb-no}
+use borrow.Author.Tests.{lt-ltb, lt-leb, le-leb, eq-eqb, ne-eqb}
 use Rattle.lists.specs.Lists.{all}
 use Rattle.lists.specs.ListsLaws.{by-test, cond-has, yes-true, true-yes, no-false}
 use Rattle.lists.specs.ByteLaws.{below}
 use Rattle.utf8.specs.Utf8.{utf8}
-use Rattle.letter_case.specs.LetterCase.{bytes, lower, sameAnyCase}
+use Rattle.letter_case.specs.LetterCase.{bytes, lower}
 use Rattle.address.specs.declared.Scan.{Scan}
 use Rattle.address.specs.declared.Scan.the-variants.{To, Stop}
 use Rattle.parameter.specs.Parameter.{params, spaced, isParam, alts, altsOk}
 use Rattle.envelope_line.specs.EnvelopeLine.{verb, verbLen, hasVerb, pathScan, scanEnd, isTo, pathLen, hasPath, tail, wellFormed}
 use Rattle.line_stop.specs.FirstBad.{WithCrlf}
-use Rattle.line_stop.specs.FirstBadLaws.{first-none, stop-inside}
-use Rattle.line_stop.specs.Scanner.{after, stopFrom}
-use Rattle.line_stop.specs.ScannerLaws.{Exact, scan-stops, scan-inside}
-use Rattle.line_stop.specs.CharScan.{between}
-use Rattle.line_stop.specs.ProductLaws.{High, both-exact, both-start, both-takes}
+use Rattle.line_stop.specs.FirstBadLaws.{first-none}
+use Rattle.line_stop.specs.Scanner.{stopFrom}
+use Rattle.line_stop.specs.ProductLaws.{Tells, Completes, line-stops, line-inside, line-alone}
 use Rattle.line_stop.specs.Word.{isNext}
-use Rattle.line_stop.specs.WordLaws.{begins, begins-is, begins-short, begins-more, begins-other, next-within}
+use Rattle.line_stop.specs.WordLaws.{begins, begins-is, begins-short, begins-more, begins-other, next-within, next-never, next-high}
 use Rattle.path_stop.specs.declared.PathForm.{PathForm}
 use Rattle.path_stop.specs.declared.PathForm.the-variants.{Start, Word, Atoms, Quoted, End, Domain, Literal, Closed, Off}
-use Rattle.path_stop.specs.PathStop.{pathStep, isClosed, pathLive, pathNeed, path}
+use Rattle.path_stop.specs.PathStop.{pathStep, isClosed, pathLive, pathNeed}
 use Rattle.path_stop.specs.PathStopLaws.{ends, pathRest, path-step, path-none, path-closed, path-start}
-use Rattle.path_stop.specs.PathNeedLaws.{path-exact, path-valid, path-high}
+use Rattle.path_stop.specs.PathNeedLaws.{path-tells}
 use Rattle.parameter_stop.specs.declared.Tail.{Tail}
 use Rattle.parameter_stop.specs.declared.Tail.the-variants.{Start as TailStart}
-use Rattle.parameter_stop.specs.ParameterStop.{startStep, tailStep, tailDone, tailLive, tailNeed}
-use Rattle.parameter_stop.specs.ParameterStopLaws.{tailRest, tail-is, tail-step, tail-end, tail-exact, tail-valid, tail-high}
+use Rattle.parameter_stop.specs.ParameterStop.{startStep, tailStep}
+use Rattle.parameter_stop.specs.ParameterStopLaws.{tailRest, tail-is, tail-completes, tail-tells}
 use Rattle.envelope_stop.specs.declared.Form.{Form}
 use Rattle.envelope_stop.specs.declared.Form.the-variants.{Verb, Path, Params, Bad}
 use Rattle.envelope_stop.specs.EnvelopeStop.{wellFormedAt, LineStop, verbStep, afterPath, formStep, formDone, formLive, verbNeed, formNeed, form, scanner, start, lineStop}
@@ -102,14 +100,14 @@ path-then : (p : PathForm) (b : ℕ) (l : List ℕ) → formRest (Path p) (b ∷
 unfolding formRest afterPath
 path-then p b l =
     by-test (isClosed p)
-    (λ t. rw (yes-true (isClosed p) t, closed-is p t, path-closed (tailRest TailStart) (b ∷ l)) (tail-step TailStart b l))
+    (λ t. rw (yes-true (isClosed p) t, closed-is p t, path-closed (tailRest TailStart) (b ∷ l)) (tail-completes .step TailStart b l))
     (λ t. rw (no-false (isClosed p) t) (path-step (tailRest TailStart) p b l t))
 
 form-step : (f : Form) (b : ℕ) (l : List ℕ) → formRest f (b ∷ l) ≡ formRest (formStep f b) l
 unfolding formRest
 form-step (Verb mail n) b l = verb-step mail n b l
 form-step (Path p) b l = path-then p b l
-form-step (Params q) b l = tail-step q b l
+form-step (Params q) b l = tail-completes .step q b l
 form-step Bad b l = refl
 
 form-end : (f : Form) → formRest f [] ≡ formDone f
@@ -122,25 +120,12 @@ form-end (Verb mail n) =
     (λ t. rw (no-false (ltb n (verbLen mail)) t))
 form-end (Path p) =
     by-test (isClosed p)
-    (λ t. rw (closed-is p t, path-closed (tailRest TailStart) []) (tail-end TailStart))
+    (λ t. rw (closed-is p t, path-closed (tailRest TailStart) []) (tail-completes .end TailStart))
     (λ t. rw (no-false (isClosed p) t) (path-none (tailRest TailStart) p t))
-form-end (Params q) = tail-end q
+form-end (Params q) = tail-completes .end q
 form-end Bad = refl
 
 -- ---- bytes that no verb has
-
-next-none : (mail : Bool) (b : ℕ) → ((n : ℕ) → n < verbLen mail → eqb (lower (getD (verb mail) n 0)) (lower b) ≡ false) → (n : ℕ) → isNext (verb mail) n b ≡ false
-unfolding isNext
-next-none mail b each n =
-    rw (verb-length mail)
-    (by-test (ltb n (verbLen mail))
-    (λ t. rw (yes-true (ltb n (verbLen mail)) t) (each n (ltb-yes t)))
-    (λ t. rw (no-false (ltb n (verbLen mail)) t)))
-
-verb-visible : (mail : Bool) (n : ℕ) → n < verbLen mail → (32 ≤ lower (getD (verb mail) n 0)) × (lower (getD (verb mail) n 0) < 128)
-unfolding verb bytes lower
-verb-visible true n h = let x = lower (getD (verb true) n 0) in (leb-yes (below (λ i. leb 32 (lower (getD (verb true) i 0))) 11 tt n h), ltb-yes {a = x} {b = 128} (below (λ i. ltb (lower (getD (verb true) i 0)) 128) 11 tt n h))
-verb-visible false n h = let x = lower (getD (verb false) n 0) in (leb-yes (below (λ i. leb 32 (lower (getD (verb false) i 0))) 9 tt n h), ltb-yes {a = x} {b = 128} (below (λ i. ltb (lower (getD (verb false) i 0)) 128) 9 tt n h))
 
 verb-ascii : (mail : Bool) (n : ℕ) → n < verbLen mail → getD (verb mail) n 0 < 128
 unfolding verb bytes
@@ -148,29 +133,28 @@ verb-ascii true n h = ltb-yes (below (λ i. ltb (getD (verb true) i 0) 128) 11 t
 verb-ascii false n h = ltb-yes (below (λ i. ltb (getD (verb false) i 0) 128) 9 tt n h)
 
 no-13 : (mail : Bool) (n : ℕ) → isNext (verb mail) n 13 ≡ false
-unfolding lower
-no-13 mail = next-none mail 13 (λ n h. ne-eqb (lower (getD (verb mail) n 0)) 13 (λ e. omega (arith, verb-visible mail n h .0, e)))
-
-high-lower : (b : ℕ) → 128 ≤ b → lower b ≡ b
-unfolding lower
-high-lower b h = rw (lt-leb b 90 (omega arith), and-false (leb 65 b))
+unfolding verb bytes lower
+no-13 true = next-never (verb true) 13 tt
+no-13 false = next-never (verb false) 13 tt
 
 no-high : (mail : Bool) (b : ℕ) → 128 ≤ b → (n : ℕ) → isNext (verb mail) n b ≡ false
-no-high mail b h = next-none mail b (λ n k. rw (high-lower b h) (ne-eqb (lower (getD (verb mail) n 0)) b (λ e. omega (arith, verb-visible mail n k .1, e))))
+unfolding verb bytes lower
+no-high true = next-high (verb true) tt
+no-high false = next-high (verb false) tt
 
 -- ---- the fewest bytes that complete a form are as many as told
 
 at-end : (f : Form) → T (formDone f) → T (formLive f) × (formNeed f ≡ 0)
 at-end (Verb mail n) t = absurd t
-at-end (Path p) t = path-exact .at-end p (path-valid p) t
-at-end (Params q) t = tail-exact .at-end q (tail-valid q) t
+at-end (Path p) t = path-tells .at-end p t
+at-end (Params q) t = tail-tells .at-end q t
 at-end Bad t = absurd t
 
 may-end : (f : Form) → T (formLive f) → formNeed f ≡ 0 → T (formDone f)
 unfolding verbNeed
 may-end (Verb mail n) t e = let h : n < verbLen mail = ltb-yes t in absurd (omega (arith, h))
-may-end (Path p) t e = path-exact .may-end p (path-valid p) t e
-may-end (Params q) t e = tail-exact .may-end q (tail-valid q) t e
+may-end (Path p) t e = path-tells .may-end p t e
+may-end (Params q) t e = tail-tells .may-end q t e
 may-end Bad t e = absurd t
 
 -- what a byte of a form that needs n takes away
@@ -195,13 +179,13 @@ path-most : (p : PathForm) (b : ℕ) → Most (pathLive p) (pathNeed p) (afterPa
 unfolding afterPath
 path-most p b =
     cond-has (Most (pathLive p) (pathNeed p)) (isClosed p) (Params (startStep b)) (Path (pathStep p b))
-    (λ t u. let e = path-exact .at-end p (path-valid p) t in (e .0, omega (arith, e .1)))
-    (λ t u. path-exact .most p b (path-valid p) u)
+    (λ t u. let e = path-tells .at-end p t in (e .0, omega (arith, e .1)))
+    (λ t u. path-tells .most p b u)
 
 most : (f : Form) (b : ℕ) → Most (formLive f) (formNeed f) (formStep f b)
 most (Verb mail n) b = verb-most mail n b
 most (Path p) b = path-most p b
-most (Params q) b = λ t. tail-exact .most q b (tail-valid q) t
+most (Params q) b = λ t. tail-tells .most q b t
 most Bad b = λ t. absurd t
 
 -- a byte that is the next of as few as there are
@@ -231,15 +215,15 @@ path-need : (p : PathForm) (k : ℕ) → T (pathLive p) → pathNeed p ≡ suc k
 unfolding afterPath
 path-need p k t e =
     by-test (isClosed p)
-    (λ u. absurd (omega (arith, e, path-exact .at-end p (path-valid p) u .1)))
+    (λ u. absurd (omega (arith, e, path-tells .at-end p u .1)))
     (λ u.
-    let n = path-high .next p k (path-valid p) t e in
+    let n = path-tells .next p k t e in
     (n .0, n .1, rw (no-false (isClosed p) u) (n .2), rw (no-false (isClosed p) u) (n .3)))
 
 next : (f : Form) (k : ℕ) → T (formLive f) → formNeed f ≡ suc k → Next f k
 next (Verb mail n) k t e = verb-need mail n k t e
 next (Path p) k t e = path-need p k t e
-next (Params q) k t e = tail-high .next q k (tail-valid q) t e
+next (Params q) k t e = tail-tells .next q k t e
 next Bad k t e = absurd t
 
 no-cr : (f : Form) → T (not (formLive (formStep f 13)))
@@ -247,21 +231,10 @@ unfolding verbStep afterPath
 no-cr (Verb mail n) = rw (no-13 mail n) tt
 no-cr (Path p) =
     cond-has (λ g. T (not (formLive g))) (isClosed p) (Params (startStep 13)) (Path (pathStep p 13))
-    (λ t. tail-exact .no-cr TailStart)
-    (λ t. path-exact .no-cr p)
-no-cr (Params q) = tail-exact .no-cr q
+    (λ t. tail-tells .no-cr TailStart)
+    (λ t. path-tells .no-cr p)
+no-cr (Params q) = tail-tells .no-cr q
 no-cr Bad = tt
-
-form-exact : Exact form
-form-exact = record {
-  Valid = λ f. Unit;
-  stays = λ f b v. tt;
-  at-end = λ f v. at-end f;
-  may-end = λ f v. may-end f;
-  most = λ f b v. most f b;
-  next = λ f k v t e. let n = next f k t e in (n .0, n .2, n .3);
-  no-cr = no-cr;
-}
 
 -- ---- bytes past ASCII leave a form where the first of them brought it
 
@@ -271,7 +244,7 @@ high-open p b h t =
     by-test (isClosed (pathStep p b))
     (λ u.
     let e : pathStep p b ≡ Closed = closed-is (pathStep p b) u in
-    let same : pathStep (pathStep p b) b ≡ pathStep p b = path-high .steady p b b t h h in
+    let same : pathStep (pathStep p b) b ≡ pathStep p b = path-tells .steady p b b t h h in
     let off : Off ≡ Closed = rw e at same in
     absurd (true-yes false (ap isClosed off)))
     (λ u. no-false (isClosed (pathStep p b)) u)
@@ -284,10 +257,10 @@ high-stays f b c t h k = go f t
     Stays g = T (formLive g) → formStep g c ≡ g
 
     params : (q : Tail) → Stays (Params (tailStep q b))
-    params q u = ap Params (tail-high .steady q b c u h k)
+    params q u = ap Params (tail-tells .steady q b c u h k)
 
     open-path : (p : PathForm) → Stays (Path (pathStep p b))
-    open-path p u = rw (high-open p b h u) (ap Path (path-high .steady p b c u h k))
+    open-path p u = rw (high-open p b h u) (ap Path (path-tells .steady p b c u h k))
 
     go : (f : Form) → Stays (formStep f b)
     go (Verb mail n) = rw (no-high mail b h n) (λ u. absurd u)
@@ -295,8 +268,11 @@ high-stays f b c t h k = go f t
     go (Params q) = params q
     go Bad = λ u. absurd u
 
-high : High form form-exact
-high = record { steady = high-stays; next = λ f k v. next f k }
+form-tells : Tells form
+form-tells = record { at-end = at-end; may-end = may-end; most = most; next = next; no-cr = no-cr; steady = high-stays }
+
+form-completes : Completes form formRest
+form-completes = record { end = form-end; step = form-step }
 
 -- ---- it takes just the well-formed lines
 
@@ -333,27 +309,9 @@ formed mail line =
     ands (leb (length line) 998) (utf8 line) (hasVerb mail line) (hasPath mail line) (spaced t) (all isParam (params t)) (altsOk (alts (params t)))
     ∙ rw (← tail-is t, verb-path mail line)
 
-takes : (mail : Bool) (l : List ℕ) → scanner .done (after scanner (start mail) l) ≡ utf8 l && formRest (Verb mail 0) l
-takes mail l = both-takes form formRest form-end form-step (Verb mail 0) l
-
-formed-done : (n : ℕ) (l : List ℕ) → T (wellFormedAt n l) → (length l ≤ 998) × T (scanner .done (after scanner (start (eqb n 0)) l))
+formed-at : (n : ℕ) → T (leb n 100) → (l : List ℕ) → wellFormedAt n l ≡ (leb (length l) 998 && utf8 l) && formRest (Verb (eqb n 0) 0) l
 unfolding wellFormedAt
-formed-done n l t =
-    let mail = eqb n 0 in
-    let short = leb (length l) 998 in
-    let f : T ((short && utf8 l) && formRest (Verb mail 0) l) = rw (formed mail l) at (and-yes (leb n 100) (wellFormed mail l) t .1) in
-    let c = and-yes (short && utf8 l) (formRest (Verb mail 0) l) f in
-    let b = and-yes short (utf8 l) (c .0) in
-    (leb-yes (b .0), rw (takes mail l) (yes-and (utf8 l) (formRest (Verb mail 0) l) (b .1) (c .1)))
-
-done-formed : (n : ℕ) → T (leb n 100) → (l : List ℕ) → length l ≤ 998 → T (scanner .done (after scanner (start (eqb n 0)) l)) → T (wellFormedAt n l)
-unfolding wellFormedAt
-done-formed n u l h t =
-    let mail = eqb n 0 in
-    let short = leb (length l) 998 in
-    let b = and-yes (utf8 l) (formRest (Verb mail 0) l) (rw (takes mail l) at t) in
-    yes-and (leb n 100) (wellFormed mail l) u
-    (rw (formed mail l) (yes-and (short && utf8 l) (formRest (Verb mail 0) l) (yes-and short (utf8 l) (yes-leb {a = length l} {b = 998} h) (b .0)) (b .1)))
+formed-at n t l = rw (yes-true (leb n 100) t) (formed (eqb n 0) l)
 
 -- no line stands past the last RCPT
 none-after : (n : ℕ) → T (not (leb n 100)) → (l : List ℕ) → WithCrlf (wellFormedAt n) l → ⊥
@@ -362,30 +320,27 @@ none-after n t l w = T-not (leb n 100) t (and-yes (leb n 100) (wellFormed (eqb n
 
 -- it finds the byte that is asked for
 pub line-stop : (n : ℕ) (s : List ℕ) → LineStop n s (lineStop n s)
-unfolding lineStop form-exact
+unfolding lineStop
 line-stop n s =
     cond-has (LineStop n s) (leb n 100) (stopFrom scanner 998 0 (start (eqb n 0)) s) 0
-    (λ t.
-    scan-stops scanner (both-exact form form-exact high) 998 (wellFormedAt n) (start (eqb n 0)) (both-start form form-exact high (Verb (eqb n 0) 0) tt)
-    (formed-done n)
-    (done-formed n t)
-    s)
+    (λ t. line-stops form-tells form-completes 998 (Verb (eqb n 0) 0) (wellFormedAt n) (formed-at n t) s)
     (λ t. first-none (none-after n t) s)
 
 -- a malformed line has that byte in itself, its CRLF with it, whatever follows
-pub line-stop-inside : (n : ℕ) (text more : List ℕ) → T (not (wellFormedAt n text)) → lineStop n (text ++ (13 ∷ 10 ∷ more)) < suc (suc (length text))
-unfolding lineStop form-exact
-line-stop-inside n text more u =
-    let s = text ++ (13 ∷ 10 ∷ more) in
-    cond-has (λ m. m < suc (suc (length text))) (leb n 100) (stopFrom scanner 998 0 (start (eqb n 0)) s) 0
-    (λ t.
-    scan-inside scanner (both-exact form form-exact high) 998 (wellFormedAt n) (start (eqb n 0)) (both-start form form-exact high (Verb (eqb n 0) 0) tt)
-    (formed-done n)
-    (done-formed n t)
-    text
-    more
-    u)
-    (λ t. omega arith)
+module _ (n : ℕ) (text more : List ℕ) (u : T (not (wellFormedAt n text))) where
+  pub line-stop-inside : lineStop n (text ++ (13 ∷ 10 ∷ more)) < suc (suc (length text))
+  unfolding lineStop
+  line-stop-inside =
+      cond-has (λ m. m < suc (suc (length text))) (leb n 100) (stopFrom scanner 998 0 (start (eqb n 0)) (text ++ (13 ∷ 10 ∷ more))) 0
+      (λ t. line-inside form-tells form-completes 998 (Verb (eqb n 0) 0) (wellFormedAt n) (formed-at n t) text more u)
+      (λ t. omega arith)
+
+  pub line-stop-alone : lineStop n (text ++ (13 ∷ 10 ∷ more)) ≡ lineStop n (text ++ (13 ∷ 10 ∷ []))
+  unfolding lineStop
+  line-stop-alone =
+      by-test (leb n 100)
+      (λ t. rw (yes-true (leb n 100) t) (line-alone form-tells form-completes 998 (Verb (eqb n 0) 0) (wellFormedAt n) (formed-at n t) text more u))
+      (λ t. rw (no-false (leb n 100) t))
 
 -- ---- the tests one after another, as code makes them
 

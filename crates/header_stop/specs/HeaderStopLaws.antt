@@ -1,28 +1,25 @@
 -- The scan of a header line finds the byte that is asked for. Assumes nothing.
-use mathlib.Core.Path.{_≡_, refl}
+use mathlib.Core.Path.{_≡_, refl, sym}
 use mathlib.Core.Bool.{Bool, true, false, not, _&&_, _||_, and-true, and-false}
 use mathlib.Core.List.{List, [], _∷_, _++_}
 use Prim.Native.Nat.{ℕ, zero, suc, _-_, _≤_, _<_}
 use native.Mathlib.Omega.{arith}
 use lib.Dec.{T, leb, eqb, eqb→eq, leb·zero, leb·suc-zero, leb·suc-suc}
 use lib.ListN.{length, getD}
-use mir.Facts.{and-yes, yes-and}
+use mir.Facts.{and-yes}
 use borrow.Author.Tests.{le-leb, ne-eqb}
 use Rattle.lists.specs.Lists.{all}
 use Rattle.lists.specs.ListsLaws.{by-test, cond-has, yes-true, no-false}
 use Rattle.lists.specs.Byte.{within}
-use Rattle.lists.specs.ByteLaws.{within-low, within-high, to-within}
+use Rattle.lists.specs.ByteLaws.{within-low, within-high}
 use Rattle.lists.specs.Run.{run}
 use Rattle.utf8.specs.Utf8.{utf8}
 use Rattle.line.specs.Line.{blank}
 use Rattle.header_line.specs.Lines.{lineByte, nameByte, nameLen, named, continuation, wellFormed}
-use Rattle.line_stop.specs.Scanner.{after, stopFrom}
-use Rattle.line_stop.specs.ScannerLaws.{Exact, scan-stops, scan-inside}
-use Rattle.line_stop.specs.CharScan.{between}
-use Rattle.line_stop.specs.ProductLaws.{High, both-exact, both-start, both-takes}
+use Rattle.line_stop.specs.ProductLaws.{Tells, Completes, line-stops, line-inside, line-alone}
 use Rattle.header_stop.specs.declared.Form.{Form}
 use Rattle.header_stop.specs.declared.Form.the-variants.{Start, Name, Body, Bad}
-use Rattle.header_stop.specs.HeaderStop.{LineStop, nameMore, startStep, nameStep, bodyStep, formStep, isBody, notBad, formNeed, form, scanner, start, lineStop}
+use Rattle.header_stop.specs.HeaderStop.{LineStop, nameMore, startStep, nameStep, bodyStep, formStep, isBody, notBad, formNeed, form, lineStop}
 
 -- the texts that complete a form
 unfoldable formRest : Form → List ℕ → Bool
@@ -132,18 +129,6 @@ no-cr (Name j) = tt
 no-cr Body = tt
 no-cr Bad = tt
 
--- `need` is right for the form alone
-exact-form : Exact form
-exact-form = record {
-  Valid = λ f. Unit;
-  stays = λ f b v. tt;
-  at-end = λ f v. at-end f;
-  may-end = λ f v. may-end f;
-  most = λ f b v. most f b;
-  next = λ f k v t e. let n = next f k t e in (n .0, n .2, n .3);
-  no-cr = no-cr;
-}
-
 -- past ASCII only the body goes on, and stays
 high-body : (f : Form) (b : ℕ) → 128 ≤ b → T (notBad (formStep f b)) → formStep f b ≡ Body
 unfolding startStep nameStep bodyStep
@@ -161,63 +146,44 @@ high-body f b h = go f
     go Body = cond-has Ends (lineByte b) Body Bad (λ t u. refl) (λ t u. absurd u)
     go Bad = λ t. absurd t
 
-high : High form exact-form
+high-stays : (f : Form) (b c : ℕ) → T (notBad (formStep f b)) → 128 ≤ b → 128 ≤ c → formStep (formStep f b) c ≡ formStep f b
 unfolding bodyStep
-high = record {
-  steady = λ f b c t h k. rw (high-body f b h t, line-high c (omega arith));
-  next = λ f k v t e. next f k t e;
-}
+high-stays f b c t h k = rw (high-body f b h t, line-high c (omega arith))
+
+form-tells : Tells form
+form-tells = record { at-end = at-end; may-end = may-end; most = most; next = next; no-cr = no-cr; steady = high-stays }
+
+form-completes : Completes form formRest
+form-completes = record { end = form-end; step = form-step }
 
 -- ---- it takes just the well-formed lines
 
-takes : (first : Bool) (l : List ℕ) → scanner .done (after scanner (start first) l) ≡ utf8 l && formRest (Start first) l
-takes first l = both-takes form formRest form-end form-step (Start first) l
+ands : (a b c d : Bool) → a && b && c && d ≡ (a && c) && (b && d)
+ands true true c d = refl
+ands true false c d = sym (and-false c)
+ands false b c d = refl
 
-not-empty : (first : Bool) (l : List ℕ) → T (continuation first l || named l) → 1 ≤ length l
-unfolding continuation named nameLen run blank
-not-empty first [] t = absurd t
-not-empty first (b ∷ l) t = omega arith
-
-formed-done : (first : Bool) (l : List ℕ) → T (wellFormed first l) → (length l ≤ 998) × T (scanner .done (after scanner (start first) l))
-unfolding wellFormed formRest
-formed-done first l t =
-    let size = within 1 998 (length l) in
-    let form = continuation first l || named l in
-    let c = and-yes (size && all lineByte l && utf8 l) form t in
-    let b = and-yes (size && all lineByte l) (utf8 l) (c .0) in
-    let a = and-yes size (all lineByte l) (b .0) in
-    (within-high 1 998 (length l) (a .0), rw (takes first l) (yes-and (utf8 l) (all lineByte l && form) (b .1) (yes-and (all lineByte l) form (a .1) (c .1))))
-
-done-formed : (first : Bool) (l : List ℕ) → length l ≤ 998 → T (scanner .done (after scanner (start first) l)) → T (wellFormed first l)
-unfolding wellFormed formRest
-done-formed first l h t =
-    let size = within 1 998 (length l) in
-    let form = continuation first l || named l in
-    let b = and-yes (utf8 l) (all lineByte l && form) (rw (takes first l) at t) in
-    let a = and-yes (all lineByte l) form (b .1) in
-    yes-and (size && all lineByte l && utf8 l) form
-    (yes-and (size && all lineByte l) (utf8 l) (yes-and size (all lineByte l) (to-within 1 998 (length l) (not-empty first l (a .1)) h) (a .0)) (b .0))
-    (a .1)
+formed : (first : Bool) (l : List ℕ) → wellFormed first l ≡ (leb (length l) 998 && utf8 l) && formRest (Start first) l
+unfolding wellFormed formRest continuation named nameLen run blank
+formed first [] = sym (and-false (leb 0 998 && utf8 []))
+formed first (b ∷ l) =
+    rw (le-leb 1 (suc (length l)) (omega arith))
+    (ands (leb (suc (length l)) 998) (all lineByte (b ∷ l)) (utf8 (b ∷ l)) (continuation first (b ∷ l) || named (b ∷ l)))
 
 -- it finds the byte that is asked for
 pub line-stop : (first : Bool) (s : List ℕ) → LineStop first s (lineStop first s)
-unfolding lineStop exact-form
-line-stop first s =
-    scan-stops scanner (both-exact form exact-form high) 998 (wellFormed first) (start first) (both-start form exact-form high (Start first) tt)
-    (formed-done first)
-    (done-formed first)
-    s
+unfolding lineStop
+line-stop first s = line-stops form-tells form-completes 998 (Start first) (wellFormed first) (formed first) s
 
 -- a malformed line has that byte in itself, its CRLF with it, whatever follows
-pub line-stop-inside : (first : Bool) (text more : List ℕ) → T (not (wellFormed first text)) → lineStop first (text ++ (13 ∷ 10 ∷ more)) < suc (suc (length text))
-unfolding lineStop exact-form
-line-stop-inside first text more t =
-    scan-inside scanner (both-exact form exact-form high) 998 (wellFormed first) (start first) (both-start form exact-form high (Start first) tt)
-    (formed-done first)
-    (done-formed first)
-    text
-    more
-    t
+module _ (first : Bool) (text more : List ℕ) (t : T (not (wellFormed first text))) where
+  pub line-stop-inside : lineStop first (text ++ (13 ∷ 10 ∷ more)) < suc (suc (length text))
+  unfolding lineStop
+  line-stop-inside = line-inside form-tells form-completes 998 (Start first) (wellFormed first) (formed first) text more t
+
+  pub line-stop-alone : lineStop first (text ++ (13 ∷ 10 ∷ more)) ≡ lineStop first (text ++ (13 ∷ 10 ∷ []))
+  unfolding lineStop
+  line-stop-alone = line-alone form-tells form-completes 998 (Start first) (wellFormed first) (formed first) text more t
 
 -- ---- a name's room, as code counts it down
 

@@ -1,13 +1,14 @@
 -- Laws of the first byte at which a text stops being a beginning of any line: there is one only, how it is found byte by byte, and
 -- that a malformed line has it in itself. Assumes nothing.
 use mathlib.Core.Path.{_≡_, refl, sym, ap, _∙_}
-use mathlib.Core.Bool.{Bool, not, _&&_}
+use mathlib.Core.Bool.{Bool, not}
 use mathlib.Core.List.{List, [], _∷_, _++_, append-assoc}
 use Prim.Native.Nat.{ℕ, zero, suc, _≤_, _<_}
 use native.Mathlib.Nat.{not-suc-le-zero}
 use native.Mathlib.Omega.{arith}
 use lib.Dec.{T, T-not, ltb}
 use lib.ListN.{length, length-append, take}
+use lib.Seq.{take-append-le}
 use mir.Facts.{and-yes, ltb-yes, ltb-no}
 use Rattle.lists.specs.Lists.{all}
 use Rattle.lists.specs.ListsLaws.{by-test}
@@ -50,6 +51,14 @@ module _ {L : List ℕ → Type 0} where
   pub first-none : ((l : List ℕ) → L l → ⊥) → (s : List ℕ) → FirstBad L s 0
   first-none none [] = first-end
   first-none none (b ∷ s) = first-here (λ p. none (b ∷ p .0) (p .1))
+
+  -- it is asked of the bytes up to it only
+  pub first-front : (a b : List ℕ) (n : ℕ) → n < length a → FirstBad L (a ++ b) n → FirstBad L a n
+  first-front a b n h f = record {
+    inside = omega arith;
+    good = λ i k. rw (take-append-le (suc i) a b (omega arith)) at (f .good i k);
+    bad = λ k p. f .bad (omega (arith, length-append a b)) (rw (take-append-le (suc n) a b h) p);
+  }
 
 -- ---- a malformed line has the byte in itself, its CRLF with it, whatever follows it
 

@@ -1,6 +1,6 @@
 -- UTF-8 beside any automaton over the bytes of a line. ProductLaws.antt proves it exact where that automaton is. Assumes nothing.
 use mathlib.Core.Bool.{_&&_}
-use Prim.Native.Nat.{ℕ, _+_}
+use Prim.Native.Nat.{_+_}
 use Rattle.line_stop.specs.declared.Begun.{Begun}
 use Rattle.line_stop.specs.Scanner.{Scanner}
 use Rattle.line_stop.specs.CharScan.{charStep, isZero, charLive}

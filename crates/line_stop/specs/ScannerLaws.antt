@@ -1,17 +1,17 @@
 -- What the scan finds: where `need` is right, told of one byte at a time, the scan stops at the first byte at which what has come is no
 -- beginning of any line, for any limit. Assumes nothing.
 use mathlib.Core.Path.{_≡_, refl, ap}
-use mathlib.Core.Bool.{Bool, not, cond, _&&_}
-use mathlib.Core.List.{List, [], _∷_, _++_}
+use mathlib.Core.Bool.{Bool, not, cond}
+use mathlib.Core.List.{List, [], _∷_, _++_, append-assoc}
 use Prim.Native.Nat.{ℕ, zero, suc, _+_, _≤_, _<_}
 use native.Mathlib.Omega.{arith}
 use lib.Dec.{T, T-not, leb, eqb, eqb→eq}
-use lib.ListN.{length}
+use lib.ListN.{length, length-append}
 use mir.Facts.{and-yes, yes-and, leb-yes, yes-leb, eqb-no}
 use Rattle.lists.specs.Lists.{all}
 use Rattle.lists.specs.ListsLaws.{by-test, cond-has}
 use Rattle.line_stop.specs.FirstBad.{Beginning, FirstBad, WithCrlf}
-use Rattle.line_stop.specs.FirstBadLaws.{first-end, first-here, first-later, first-same, stop-inside}
+use Rattle.line_stop.specs.FirstBadLaws.{first-end, first-here, first-later, first-same, first-front, first-once, stop-inside}
 use Rattle.line_stop.specs.Scanner.{Scanner, after, stopLf, alive, stopFrom}
 
 -- `need` is right at the states of a set that no byte leads out of, told of one byte at a time
@@ -177,3 +177,12 @@ module _ {S : Type 0} (a : Scanner S) (x : Exact a) where
       scan-inside text more t =
           let line = text ++ (13 ∷ 10 ∷ more) in
           stop-inside formed notCr (λ u. u) (λ l u. taken-no-cr l s v (there l u .1)) text more (stopFrom a limit 0 s line) t (scan-stops line)
+
+      -- and is found in it alone
+      pub scan-alone : (text more : List ℕ) → T (not (formed text)) → stopFrom a limit 0 s (text ++ (13 ∷ 10 ∷ more)) ≡ stopFrom a limit 0 s (text ++ (13 ∷ 10 ∷ []))
+      scan-alone text more t =
+          let line = text ++ (13 ∷ 10 ∷ []) in
+          let whole : line ++ more ≡ text ++ (13 ∷ 10 ∷ more) = append-assoc text (13 ∷ 10 ∷ []) more in
+          let n = stopFrom a limit 0 s (text ++ (13 ∷ 10 ∷ more)) in
+          let found : FirstBad (WithCrlf formed) (line ++ more) n = rw whole (scan-stops (text ++ (13 ∷ 10 ∷ more))) in
+          first-once (first-front line more n (omega (arith, scan-inside text more t, length-append text (13 ∷ 10 ∷ []))) found) (scan-stops line)

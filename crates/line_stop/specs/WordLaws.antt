@@ -10,7 +10,9 @@ use lib.ListN.{length, take, drop, getD, drop-of-length-le}
 use lib.Seq.{drop-cons}
 use mir.Facts.{and-yes, ltb-yes, ltb-no, eqb-no}
 use borrow.Author.Tests.{lt-ltb, le-ltb, lt-leb, le-leb, ne-eqb}
-use Rattle.lists.specs.ListsLaws.{by-test, yes-true, true-yes, no-false}
+use Rattle.lists.specs.ListsLaws.{by-test, yes-true, no-false}
+use Rattle.lists.specs.Byte.{isAscii}
+use Rattle.lists.specs.ByteLaws.{allBelow, below}
 use Rattle.letter_case.specs.LetterCase.{lower, sameAnyCase}
 use Rattle.line_stop.specs.Word.{isNext, matched}
 
@@ -99,6 +101,30 @@ module _ (word : List ℕ) (n b : ℕ) where
       let same = eqb (lower (getD word n 0)) (lower b) in
       let u : T (not same) = rw (lt-ltb n (length word) h) at t in
       begins-next word n k h b l ∙ rw (no-false same u)
+
+-- ---- bytes that a word does not have, by one computed test of the word
+
+next-none : (word : List ℕ) (b : ℕ) → ((n : ℕ) → n < length word → eqb (lower (getD word n 0)) (lower b) ≡ false) → (n : ℕ) → isNext word n b ≡ false
+unfolding isNext
+next-none word b each n =
+    by-test (ltb n (length word))
+    (λ t. rw (yes-true (ltb n (length word)) t) (each n (ltb-yes t)))
+    (λ t. rw (no-false (ltb n (length word)) t))
+
+pub next-never : (word : List ℕ) (b : ℕ) → T (allBelow (λ i. not (eqb (lower (getD word i 0)) (lower b))) (length word)) → (n : ℕ) → isNext word n b ≡ false
+next-never word b t =
+    next-none word b (λ n h. no-false (eqb (lower (getD word n 0)) (lower b)) (below (λ i. not (eqb (lower (getD word i 0)) (lower b))) (length word) t n h))
+
+high-lower : (b : ℕ) → 128 ≤ b → lower b ≡ b
+unfolding lower
+high-lower b h = rw (lt-leb b 90 (omega arith), and-false (leb 65 b))
+
+pub next-high : (word : List ℕ) → T (allBelow (λ i. isAscii (lower (getD word i 0))) (length word)) → (b : ℕ) → 128 ≤ b → (n : ℕ) → isNext word n b ≡ false
+next-high word t b h =
+    next-none word b
+    (λ n k.
+    let low : lower (getD word n 0) < 128 = ltb-yes (below (λ i. isAscii (lower (getD word i 0))) (length word) t n k) in
+    rw (high-lower b h) (ne-eqb (lower (getD word n 0)) b (λ e. omega (arith, low, e))))
 
 -- ---- the tests one after another, as code makes them
 

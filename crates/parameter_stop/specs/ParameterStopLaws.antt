@@ -1,23 +1,20 @@
 -- Laws of the tail of an envelope line by one byte at a time. Assumes nothing.
-use mathlib.Core.Path.{_≡_, refl, sym, ap, _∙_}
+use mathlib.Core.Path.{_≡_, refl, sym, _∙_}
 use mathlib.Core.Bool.{Bool, true, false, not, cond, _&&_, _||_, and-true, and-false, and-assoc}
 use mathlib.Core.List.{List, [], _∷_}
-use Prim.Native.Nat.{ℕ, zero, suc, _+_, _≤_, _<_}
+use Prim.Native.Nat.{ℕ, suc, _+_, _≤_, _<_}
 use native.Mathlib.Numerals.{add-one}
 use native.Mathlib.Omega.{arith}
 use lib.Dec.{T, leb, ltb, eqb, eqb→eq, leb·suc-suc}
 use lib.ListN.{length, take, drop, getD}
-use mir.Facts.{and-yes, leb-yes}
 use borrow.Author.Tests.{lt-leb, le-leb, lt-ltb, ne-eqb}
 use Rattle.lists.specs.Lists.{all, nonempty}
-use Rattle.lists.specs.ListsLaws.{by-test, cond-has, yes-true, true-yes, no-false}
-use Rattle.lists.specs.Byte.{within}
+use Rattle.lists.specs.ListsLaws.{by-test, cond-has, yes-true, no-false}
 use Rattle.lists.specs.Run.{run}
 use Rattle.letter_case.specs.LetterCase.{bytes, lower}
 use Rattle.parameter.specs.Parameter.{notSpace, params, spaced, isKeywordByte, keywordLen, keyword, hasValue, value, isOrcpt, isAlt, isValueByte, isParam, alts, altsOk}
 use Rattle.parameter.specs.ParameterLaws.{paramAt, paramEnd, params-at, params-end}
-use Rattle.line_stop.specs.ScannerLaws.{Exact}
-use Rattle.line_stop.specs.ProductLaws.{High}
+use Rattle.line_stop.specs.ProductLaws.{Tells, Completes}
 use Rattle.line_stop.specs.Word.{isNext, matched}
 use Rattle.line_stop.specs.WordLaws.{names, names-none, names-end, names-step}
 use Rattle.parameter_stop.specs.declared.Tail.{Tail}
@@ -231,7 +228,7 @@ start-step b l =
     (λ t. let e : b ≡ 32 = eqb→eq b 32 t in rw (yes-true (eqb b 32) t, e) (sym (row-is (params (32 ∷ l)))))
     (λ t. rw (no-false (eqb b 32) t))
 
-pub tail-step : (q : Tail) (b : ℕ) (l : List ℕ) → tailRest q (b ∷ l) ≡ tailRest (tailStep q b) l
+tail-step : (q : Tail) (b : ℕ) (l : List ℕ) → tailRest q (b ∷ l) ≡ tailRest (tailStep q b) l
 unfolding tailRest
 tail-step Start b l = start-step b l
 tail-step (Due seen) b l = due-step seen b l
@@ -243,7 +240,7 @@ tail-step Off b l = refl
 params-nil : params [] ≡ []
 params-nil = params-end [] 0 (omega arith)
 
-pub tail-end : (q : Tail) → tailRest q [] ≡ tailDone q
+tail-end : (q : Tail) → tailRest q [] ≡ tailDone q
 unfolding tailRest run rowOk spaced alts altsOk keyword keywordLen
 tail-end Start = rw params-nil
 tail-end (Due seen) = rw (params-cons 32 []) (due-is seen [] (params []))
@@ -309,21 +306,6 @@ no-cr (Value true seen) = tt
 no-cr (Value false seen) = tt
 no-cr Off = tt
 
-pub tail-exact : Exact tail
-tail-exact = record {
-  Valid = λ q. Unit;
-  stays = λ q b v. tt;
-  at-end = λ q v. at-end q;
-  may-end = λ q v. may-end q;
-  most = λ q b v. most q b;
-  next = λ q k v t e. let n = next q k t e in (n .0, n .2, n .3);
-  no-cr = no-cr;
-}
-
-pub tail-valid : (q : Tail) → tail-exact .Valid q
-unfolding tail-exact
-tail-valid q = tt
-
 -- ---- past ASCII only an ORCPT's value goes on, and stays
 
 high-key : (b : ℕ) → 128 ≤ b → isKeywordByte b ≡ false
@@ -355,5 +337,8 @@ high-stays q b c t h k = go q t
     go (Value false seen) = rw (high-value false b h, space) (λ u. absurd u)
     go Off = λ u. absurd u
 
-pub tail-high : High tail tail-exact
-tail-high = record { steady = high-stays; next = λ q k v. next q k }
+pub tail-tells : Tells tail
+tail-tells = record { at-end = at-end; may-end = may-end; most = most; next = next; no-cr = no-cr; steady = high-stays }
+
+pub tail-completes : Completes tail tailRest
+tail-completes = record { end = tail-end; step = tail-step }

@@ -1,52 +1,35 @@
 -- As few bytes complete a path and its `>` as are told, and bytes past ASCII leave it where the first of them brought it. Assumes nothing.
-use mathlib.Core.Path.{_≡_, refl, _∙_}
-use mathlib.Core.Bool.{Bool, true, false, not, cond, _&&_, _||_, and-false}
+use mathlib.Core.Path.{_≡_, refl}
+use mathlib.Core.Bool.{Bool, true, false, not, cond, _||_, and-false}
 use Prim.Native.Nat.{ℕ, suc, _≤_, _<_}
 use native.Mathlib.Omega.{arith}
-use lib.Dec.{T, leb, ltb, eqb, eqb→eq}
-use lib.ListN.{getD}
-use mir.Facts.{and-yes, ltb-yes, eqb-no}
-use borrow.Author.Tests.{lt-ltb, lt-leb, le-leb, ne-eqb}
+use lib.Dec.{T, leb, eqb, eqb→eq}
+use mir.Facts.{eqb-no}
+use borrow.Author.Tests.{lt-leb, le-leb, ne-eqb}
 use Rattle.lists.specs.ListsLaws.{by-test, cond-has, yes-true, no-false}
 use Rattle.lists.specs.Byte.{within}
-use Rattle.lists.specs.ByteLaws.{below}
 use Rattle.letter_case.specs.LetterCase.{bytes, lower}
 use Rattle.address.specs.Address.{isAtext, isAtomByte, isQuotedByte, isLiteralByte}
-use Rattle.line_stop.specs.ScannerLaws.{Exact}
-use Rattle.line_stop.specs.ProductLaws.{High}
+use Rattle.line_stop.specs.ProductLaws.{Tells}
 use Rattle.line_stop.specs.Word.{isNext}
+use Rattle.line_stop.specs.WordLaws.{next-never, next-high}
 use Rattle.path_stop.specs.declared.PathForm.{PathForm}
 use Rattle.path_stop.specs.declared.PathForm.the-variants.{Start, Word, Atoms, Quoted, End, Domain, Literal, Closed, Off}
 use Rattle.path_stop.specs.PathStop.{endStep, atomsStep, quotedStep, literalStep, domainStep, localStep, wordStep, startStep, pathStep, isClosed, pathLive, wordNeed, atomsNeed, pathNeed, path}
 
 -- ---- bytes that `Postmaster>` does not have
 
-next-none : (b : ℕ) → ((n : ℕ) → n < 11 → eqb (lower (getD (bytes "Postmaster>") n 0)) (lower b) ≡ false) → (n : ℕ) → isNext (bytes "Postmaster>") n b ≡ false
-unfolding isNext bytes
-next-none b each n =
-    by-test (ltb n 11)
-    (λ t. rw (yes-true (ltb n 11) t) (each n (ltb-yes t)))
-    (λ t. rw (no-false (ltb n 11) t))
-
 no-at : (n : ℕ) → isNext (bytes "Postmaster>") n 64 ≡ false
 unfolding bytes lower
-no-at = next-none 64 (λ n h. no-false (eqb (lower (getD (bytes "Postmaster>") n 0)) 64) (below (λ i. not (eqb (lower (getD (bytes "Postmaster>") i 0)) 64)) 11 tt n h))
+no-at = next-never (bytes "Postmaster>") 64 tt
 
 no-13 : (n : ℕ) → isNext (bytes "Postmaster>") n 13 ≡ false
 unfolding bytes lower
-no-13 = next-none 13 (λ n h. no-false (eqb (lower (getD (bytes "Postmaster>") n 0)) 13) (below (λ i. not (eqb (lower (getD (bytes "Postmaster>") i 0)) 13)) 11 tt n h))
-
-high-lower : (b : ℕ) → 128 ≤ b → lower b ≡ b
-unfolding lower
-high-lower b h = rw (lt-leb b 90 (omega arith), and-false (leb 65 b))
+no-13 = next-never (bytes "Postmaster>") 13 tt
 
 no-high : (b : ℕ) → 128 ≤ b → (n : ℕ) → isNext (bytes "Postmaster>") n b ≡ false
 unfolding bytes lower
-no-high b h =
-    next-none b
-    (λ n k.
-    let low : lower (getD (bytes "Postmaster>") n 0) < 128 = ltb-yes (below (λ i. ltb (lower (getD (bytes "Postmaster>") i 0)) 128) 11 tt n k) in
-    rw (high-lower b h) (ne-eqb (lower (getD (bytes "Postmaster>") n 0)) b (λ e. omega (arith, low, e))))
+no-high = next-high (bytes "Postmaster>") tt
 
 -- ---- the fewest bytes
 
@@ -264,21 +247,6 @@ no-cr Literal = tt
 no-cr Closed = tt
 no-cr Off = tt
 
-pub path-exact : Exact path
-path-exact = record {
-  Valid = λ p. Unit;
-  stays = λ p b v. tt;
-  at-end = λ p v. at-end p;
-  may-end = λ p v. may-end p;
-  most = λ p b v. most p b;
-  next = λ p k v t e. let n = next p k t e in (n .0, n .2, n .3);
-  no-cr = no-cr;
-}
-
-pub path-valid : (p : PathForm) → path-exact .Valid p
-unfolding path-exact
-path-valid p = tt
-
 -- ---- past ASCII only atoms and quoted strings go on, and stay
 
 high-atom : (b : ℕ) → 128 ≤ b → T (isAtomByte b)
@@ -327,5 +295,5 @@ high-stays p b c t h k = go p t
     go Closed = λ u. absurd u
     go Off = λ u. absurd u
 
-pub path-high : High path path-exact
-path-high = record { steady = high-stays; next = λ p k v. next p k }
+pub path-tells : Tells path
+path-tells = record { at-end = at-end; may-end = may-end; most = most; next = next; no-cr = no-cr; steady = high-stays }

@@ -1,19 +1,19 @@
 -- Laws of the path of an envelope line by one byte at a time: each byte leads to what is left of a path, its `>` and what passes after
 -- it. Assumes nothing.
-use mathlib.Core.Path.{_≡_, refl, sym, ap, _∙_}
-use mathlib.Core.Bool.{Bool, true, false, not, cond, _&&_, _||_, and-true, and-false, or-false}
+use mathlib.Core.Path.{_≡_, refl, sym, _∙_}
+use mathlib.Core.Bool.{Bool, true, false, not, cond, _&&_, _||_, and-false, or-false}
 use mathlib.Core.List.{List, [], _∷_, _++_}
-use Prim.Native.Nat.{ℕ, zero, suc, _+_, _≤_, _<_}
+use Prim.Native.Nat.{ℕ, suc, _+_, _<_}
 use native.Mathlib.Omega.{arith}
 use lib.Dec.{T, leb, ltb, eqb, eqb→eq}
 use lib.ListN.{length, take, drop, getD}
 use lib.Seq.{drop-drop}
-use mir.Facts.{and-yes, yes-and, ltb-yes, ltb-no, eqb-no}
-use borrow.Author.Tests.{lt-ltb, le-ltb, lt-leb, le-leb, eq-eqb, ne-eqb}
+use mir.Facts.{and-yes, yes-and, ltb-yes, eqb-no}
+use borrow.Author.Tests.{lt-ltb, le-leb}
 use Rattle.lists.specs.Lists.{all}
-use Rattle.lists.specs.ListsLaws.{by-test, cond-has, yes-true, true-yes, no-false}
+use Rattle.lists.specs.ListsLaws.{by-test, yes-true, no-false}
 use Rattle.lists.specs.Byte.{within}
-use Rattle.lists.specs.ByteLaws.{within-low, within-high, to-within, below}
+use Rattle.lists.specs.ByteLaws.{within-low, within-high, below}
 use Rattle.lists.specs.Run.{run}
 use Rattle.letter_case.specs.LetterCase.{bytes, lower, sameAnyCase}
 use Rattle.address.specs.declared.Scan.{Scan}
