@@ -2,12 +2,15 @@
 
 use crate::Answer;
 
+/// `hennelaku_answer` of include/hennelaku.h.
 #[repr(C)]
-struct ProvedAnswer {
-    number: u32,
-    place: usize,
-    envelope_len: usize,
-    header_len: usize,
+pub struct ProvedAnswer {
+    pub number: u32,
+    pub input: u32,
+    pub place: usize,
+    pub offset: usize,
+    pub envelope_len: usize,
+    pub header_len: usize,
 }
 
 #[link(name = "hennelaku", kind = "static")]
@@ -22,11 +25,20 @@ extern "C" {
         header_buffer: *mut u8,
         header_room: usize,
     ) -> ProvedAnswer;
+
+    fn hennelaku_version() -> u32;
 }
 
-pub fn downgrade(envelope: &[u8], header: &[u8], envelope_buffer: &mut [u8], header_buffer: &mut [u8]) -> Answer {
+/// The version of the library that is linked: 10000 * major + 100 * minor + patch.
+pub fn version() -> u32 {
+    // SAFETY: it takes nothing and touches no memory.
+    unsafe { hennelaku_version() }
+}
+
+/// The call as the library answers it.
+pub fn answer(envelope: &[u8], header: &[u8], envelope_buffer: &mut [u8], header_buffer: &mut [u8]) -> ProvedAnswer {
     // SAFETY: each pointer comes from a slice with its length; the two buffers are apart from all others.
-    let answer = unsafe {
+    unsafe {
         hennelaku_downgrade_slices(
             envelope.as_ptr(),
             envelope.len(),
@@ -37,7 +49,12 @@ pub fn downgrade(envelope: &[u8], header: &[u8], envelope_buffer: &mut [u8], hea
             header_buffer.as_mut_ptr(),
             header_buffer.len(),
         )
-    };
+    }
+}
+
+/// The same, as the model answers.
+pub fn downgrade(envelope: &[u8], header: &[u8], envelope_buffer: &mut [u8], header_buffer: &mut [u8]) -> Answer {
+    let answer = answer(envelope, header, envelope_buffer, header_buffer);
     Answer {
         number: answer.number,
         place: answer.place,
