@@ -301,10 +301,10 @@ const test_case cases[] = {
     {"6: held name in any case",
      IN_LINES(6, 2, "A: b\r\n c\r\nreCEIved: ", E_ACUTE "\r\n")},
     {"6: in a later line of the field",
-     IN_LINES(6, 1, "A: b\r\nContent-Type: text/plain;\r\n name=",
+     IN_LINES(6, 1, "A: b\r\nKeywords: a,\r\n b, ",
               E_ACUTE E_ACUTE "\r\n")},
     {"6: first of two in a field",
-     IN_LINES(6, 1, "X: " E_ACUTE "\r\nContent-Type: a (",
+     IN_LINES(6, 1, "X: " E_ACUTE "\r\nDate: (",
               E_ACUTE ")\r\n " E_ACUTE "\r\n")},
 
     /* Which is told first. */
