@@ -60,60 +60,53 @@ static const char *const rests[] = {
     "MAIL FROM:<x@x>", "RCPT TO:<x@x>", "\"@x>", "x\"@x>", "]>", "=x", "x:"
 };
 
-static const char *const ends[] = {"\r\n", "\n"};
-
 #define COUNT(array) (sizeof(array) / sizeof(array)[0])
 
-/* Whether a call takes for well formed the line that a front of an input ends
- * with, where these follow. */
-static int goes_on(bytes envelope, bytes header, hennelaku_answer a,
-                   bytes front, const char *character, const char *rest,
-                   const char *end)
+/* Whether a call finds no fault in the line of an answer, where its input is
+ * this one. */
+static int is_well_formed(bytes envelope, bytes header, hennelaku_answer a,
+                          const text *input)
 {
-    text t = text_new(front.len + 40);
     uint8_t none[1];
     hennelaku_answer got;
 
-    memcpy(t.at, front.at, front.len);
-    t.len = front.len;
-    text_add(&t, character);
-    text_add(&t, rest);
-    text_add(&t, end);
     if (a.input == HENNELAKU_ENVELOPE) {
-        envelope = text_bytes(&t);
+        envelope = text_bytes(input);
     } else {
-        header = text_bytes(&t);
+        header = text_bytes(input);
     }
     got = hennelaku_downgrade(envelope.at, envelope.len, header.at, header.len,
                               none, 0, none, 0);
-    text_free(&t);
     return got.number != a.number || got.place != a.place;
 }
 
-/* Whether the line that a front of an input ends with is a beginning of a
- * well-formed line. */
+/* Whether the first `len` bytes of an input end in a beginning of a well-formed
+ * line. After a CR only LF can complete it. */
 static int is_beginning(bytes envelope, bytes header, hennelaku_answer a,
                         size_t len)
 {
-    bytes front = {input_of(envelope, header, a).at, len};
+    bytes input = input_of(envelope, header, a);
+    const char *end = input.at[len - 1] == '\r' ? "\n" : "\r\n";
+    text t = text_new(len + 40);
+    int found = 0;
     size_t i;
     size_t j;
-    size_t k;
     size_t at;
 
+    memcpy(t.at, input.at, len);
     for (i = 0; i < COUNT(rests); i++) {
         for (at = 0; at <= strlen(rests[i]); at++) {
-            for (j = 0; j < COUNT(characters); j++) {
-                for (k = 0; k < COUNT(ends); k++) {
-                    if (goes_on(envelope, header, a, front, characters[j],
-                                rests[i] + at, ends[k])) {
-                        return 1;
-                    }
-                }
+            for (j = 0; j < COUNT(characters) && !found; j++) {
+                t.len = len;
+                text_add(&t, characters[j]);
+                text_add(&t, rests[i] + at);
+                text_add(&t, end);
+                found = is_well_formed(envelope, header, a, &t);
             }
         }
     }
-    return 0;
+    text_free(&t);
+    return found;
 }
 
 /* For 2 and 5 "the first byte at which .. the line, its CRLF with it, stops
