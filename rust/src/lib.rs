@@ -9,6 +9,7 @@ pub mod envelope;
 #[cfg(feature = "proved")]
 pub mod generate;
 pub mod header;
+pub mod offset;
 #[cfg(feature = "proved")]
 pub mod proved;
 pub mod sink;
@@ -17,5 +18,7 @@ pub mod words;
 
 pub use call::{downgrade, Answer};
 
+#[cfg(test)]
+mod completions;
 #[cfg(test)]
 mod tests;

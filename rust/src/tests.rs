@@ -129,7 +129,7 @@ const WHOLE_HEADER: &str = "Subject: é\r\nX-Note: ok\r\n";
 #[test]
 fn whole_case() {
     let (answer, envelope, header) = call(WHOLE_ENVELOPE.as_bytes(), WHOLE_HEADER.as_bytes());
-    assert_eq!(answer, Answer { number: 0, place: 0, envelope_len: 54, header_len: 135 });
+    assert_eq!(answer, Answer { number: 0, place: 0, offset: 0, envelope_len: 54, header_len: 135 });
     assert_eq!(envelope, "MAIL FROM:<e+x@example.org>\r\nRCPT TO:<b@example.net>\r\n");
     assert_eq!(
         header,
