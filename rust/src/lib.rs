@@ -5,6 +5,8 @@
 pub mod address;
 pub mod address_list;
 pub mod call;
+#[cfg(feature = "proved")]
+pub mod causes;
 pub mod envelope;
 #[cfg(feature = "proved")]
 pub mod generate;

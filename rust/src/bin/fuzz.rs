@@ -4,9 +4,7 @@
 
 use hennelaku_model::generate::{self, Random};
 use hennelaku_model::header::{kind, next_non_ascii, Kind};
-use hennelaku_model::offset::{envelope_line, header_line, Reason, LINE};
 use hennelaku_model::{address_list, downgrade, header, proved, Answer};
-use std::collections::BTreeMap;
 use std::process::exit;
 use std::time::{Duration, Instant};
 
@@ -137,39 +135,6 @@ fn has(bytes: &[u8], part: &[u8]) -> bool {
     bytes.windows(part.len()).any(|window| window == part)
 }
 
-/// Why lines were malformed: the number, what the line had come to, and what was wrong there.
-type Causes = BTreeMap<(u32, &'static str, Reason), usize>;
-
-fn count_cause(causes: &mut Causes, input: &Input, answer: Answer) {
-    let (bytes, stop): (_, fn(&[u8], usize, usize) -> _) = match answer.number {
-        2 => (&input.envelope, envelope_line),
-        5 => (&input.header, header_line),
-        _ => return,
-    };
-    // Only the CRLFs of the lines before hold an LF.
-    let start: usize = bytes.split_inclusive(|&b| b == b'\n').take(answer.place).map(<[u8]>::len).sum();
-    let cause = match stop(&bytes[start..], answer.place, LINE) {
-        _ if start == bytes.len() => ("missing line", Reason::End),
-        Some(stop) => (stop.state, stop.reason),
-        None => ("not malformed", Reason::End),
-    };
-    *causes.entry((answer.number, cause.0, cause.1)).or_default() += 1;
-}
-
-fn print_causes(causes: &Causes) {
-    for ((number, state, reason), count) in causes {
-        let what = match reason {
-            Reason::Byte => "byte",
-            Reason::Character => "byte inside a character",
-            Reason::Limit => "no room for what must follow",
-            Reason::AfterCr => "byte after CR",
-            Reason::End => "end of the data",
-        };
-        println!("{number}, {state}, {what}: {count}");
-    }
-    println!("refusals with 2 or 5: {}, of {} causes", causes.values().sum::<usize>(), causes.len());
-}
-
 /// Looks at an input and what the model made of it.
 fn look(met: &mut Met, input: &Input, got: &Outcome) {
     let number = got.answer.number;
@@ -294,14 +259,14 @@ fn main() {
     let mut scratch = (vec![0; 17_000], vec![0; 700_000]);
     let mut numbers = [0; 9];
     let mut met = Met::default();
-    let mut causes = Causes::new();
+    let mut causes = hennelaku_model::causes::Causes::default();
     let mut done = 0;
     while done < count && seconds.is_none_or(|limit| start.elapsed() < limit) {
         let input = next_input(&mut r, &mut scratch);
         let got = compare(&input, r.next() as u8, &format!("seed {seed}, input {done}"));
         numbers[got.answer.number as usize] += 1;
         look(&mut met, &input, &got);
-        count_cause(&mut causes, &input, got.answer);
+        causes.count(&input.envelope, &input.header, got.answer);
         done += 1;
     }
     for (number, count) in numbers.iter().enumerate() {
@@ -310,6 +275,6 @@ fn main() {
     for (rule, count) in &met.counts {
         println!("{rule}: {count}");
     }
-    print_causes(&causes);
+    print!("{causes}");
     println!("{done} inputs, 0 differences");
 }
