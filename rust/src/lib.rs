@@ -5,12 +5,12 @@
 pub mod address;
 pub mod address_list;
 pub mod call;
-#[cfg(feature = "proved")]
-pub mod causes;
 pub mod envelope;
 #[cfg(feature = "proved")]
 pub mod generate;
 pub mod header;
+#[cfg(feature = "proved")]
+pub mod line_faults;
 pub mod offset;
 #[cfg(feature = "proved")]
 pub mod proved;

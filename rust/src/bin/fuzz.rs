@@ -259,14 +259,14 @@ fn main() {
     let mut scratch = (vec![0; 17_000], vec![0; 700_000]);
     let mut numbers = [0; 9];
     let mut met = Met::default();
-    let mut causes = hennelaku_model::causes::Causes::default();
+    let mut line_faults = hennelaku_model::line_faults::LineFaults::default();
     let mut done = 0;
     while done < count && seconds.is_none_or(|limit| start.elapsed() < limit) {
         let input = next_input(&mut r, &mut scratch);
         let got = compare(&input, r.next() as u8, &format!("seed {seed}, input {done}"));
         numbers[got.answer.number as usize] += 1;
         look(&mut met, &input, &got);
-        causes.count(&input.envelope, &input.header, got.answer);
+        line_faults.count(&input.envelope, &input.header, got.answer);
         done += 1;
     }
     for (number, count) in numbers.iter().enumerate() {
@@ -275,6 +275,6 @@ fn main() {
     for (rule, count) in &met.counts {
         println!("{rule}: {count}");
     }
-    print!("{causes}");
+    print!("{line_faults}");
     println!("{done} inputs, 0 differences");
 }

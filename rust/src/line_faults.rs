@@ -7,11 +7,11 @@ use std::fmt;
 
 /// By number, what the line had come to, and what was wrong there.
 #[derive(Default)]
-pub struct Causes {
+pub struct LineFaults {
     counts: BTreeMap<(u32, &'static str, Reason), usize>,
 }
 
-impl Causes {
+impl LineFaults {
     /// Counts a refusal with 2 or 5.
     pub fn count(&mut self, envelope: &[u8], header: &[u8], answer: Answer) {
         let (bytes, stop): (_, fn(&[u8], usize, usize) -> Option<Stop>) = match answer.number {
@@ -30,7 +30,7 @@ impl Causes {
     }
 }
 
-impl fmt::Display for Causes {
+impl fmt::Display for LineFaults {
     fn fmt(&self, out: &mut fmt::Formatter) -> fmt::Result {
         for ((number, state, reason), count) in &self.counts {
             let what = match reason {
