@@ -521,6 +521,7 @@ fn offsets_of_the_other_refusals() {
     let header = "A: é\r\nDate: x\r\nDate: (x\r\n y) aé\r\n é\r\nDate: é\r\n";
     assert_eq!(offset_of(good.as_bytes(), header.as_bytes()), (6, 2, header.find("aé").unwrap() + 1));
     assert_eq!(offset_of(good.as_bytes(), "Keywords:é\r\n".as_bytes()), (6, 0, 9));
+    assert_eq!(offset_of(good.as_bytes(), "Date: (é) é\r\n".as_bytes()), (6, 0, 7));
     // "For 0, 1, 7 and 8 it is 0."
     assert_eq!(offset_of(good.as_bytes(), "A: é\r\n".as_bytes()), (0, 0, 0));
     assert_eq!(offset_of(&[b'x'; 16_385], b""), (1, 0, 0));
