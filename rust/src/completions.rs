@@ -155,7 +155,7 @@ fn every_byte_at_every_place() {
         "<a@a> a", "<a@a> a=", "<a@a> a=a", "<a@a> ORCPT", "<a@a> orcpt=", "<a@a> ORCPT=a", "<a@a> ORCPTA=a",
         "<a@a> AORCPT=a", "<a@a> ALT-ADDRESS", "<a@a> ALT-ADDRESS=", "<a@a> alt-address=a",
         "<a@a> ALT-ADDRESS=a ALT-ADDRESS", "<a@a> ALT-ADDRESSA=a ALT-ADDRESS", "<Postmaster", "<postmaste",
-        "<Postmasters",
+        "<Postmasters", "<Post.master", "<Postéaster", "<Postmasteré",
     ] {
         for b in (0..=255).filter(|&b| b != b'\r') {
             for (kind, verb) in [(MAIL, "MAIL FROM:"), (RCPT, "RCPT TO:")] {
