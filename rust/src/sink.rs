@@ -1,4 +1,5 @@
 //! Where output goes: counted first, then written.
+//! Written from document 01, Answers by number: "A refusal changes no byte of either buffer".
 
 use crate::words::{SIZE, SPELLING};
 
