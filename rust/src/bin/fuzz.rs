@@ -66,6 +66,15 @@ fn fault(input: &Input, got: &Outcome, salt: u8) -> Option<String> {
     if a.number == 0 && a.place != 0 {
         return Some("a place after 0".into());
     }
+    let end = match a.number {
+        0 | 1 | 7 | 8 => 0,
+        5 => input.header.len(),
+        6 => input.envelope.len().max(input.header.len()),
+        _ => input.envelope.len(),
+    };
+    if a.offset > end {
+        return Some(format!("an offset past {end}"));
+    }
     if a.envelope_len > input.envelope_room || a.header_len > input.header_room {
         return Some("a length past the room".into());
     }
@@ -380,12 +389,14 @@ fn main() {
     let mut scratch = (vec![0; 17_000], vec![0; 700_000]);
     let mut numbers = [0; 9];
     let mut met = Met::default();
+    let mut line_faults = hennelaku_model::line_faults::LineFaults::default();
     let mut done = 0;
     while done < count && seconds.is_none_or(|limit| start.elapsed() < limit) {
         let input = next_input(&mut r, &mut scratch);
         let got = compare(&input, r.next() as u8, &format!("seed {seed}, input {done}"));
         numbers[got.answer.number as usize] += 1;
         look(&mut met, &input, &got);
+        line_faults.count(&input.envelope, &input.header, got.answer);
         done += 1;
     }
     for (number, count) in numbers.iter().enumerate() {
@@ -394,5 +405,6 @@ fn main() {
     for (rule, count) in &met.counts {
         println!("{rule}: {count}");
     }
+    print!("{line_faults}");
     println!("{done} inputs, 0 differences");
 }
