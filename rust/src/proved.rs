@@ -6,6 +6,7 @@ use crate::Answer;
 #[repr(C)]
 struct ProvedAnswer {
     number: u32,
+    input: u32,
     place: usize,
     offset: usize,
     envelope_len: usize,
@@ -42,6 +43,7 @@ pub fn downgrade(envelope: &[u8], header: &[u8], envelope_buffer: &mut [u8], hea
     };
     Answer {
         number: answer.number,
+        input: answer.input,
         place: answer.place,
         offset: answer.offset,
         envelope_len: answer.envelope_len,

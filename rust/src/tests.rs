@@ -1,5 +1,6 @@
 //! The papers' checked examples, each rule, and its near misses; a test of a settled reading tells its number.
 
+use crate::call::{ENVELOPE, HEADER, NEITHER};
 use crate::sink::Writer;
 use crate::words::row;
 use crate::{downgrade, Answer};
@@ -150,7 +151,7 @@ const WHOLE_HEADER: &str = "Subject: é\r\nX-Note: ok\r\n";
 fn whole_case() {
     let (answer, envelope, header) = call(WHOLE_ENVELOPE.as_bytes(), WHOLE_HEADER.as_bytes());
     // [5.7]
-    assert_eq!(answer, Answer { number: 0, place: 0, offset: 0, envelope_len: 54, header_len: 146 });
+    assert_eq!(answer, Answer { number: 0, input: NEITHER, place: 0, offset: 0, envelope_len: 54, header_len: 146 });
     assert_eq!(envelope, "MAIL FROM:<e+x@example.org>\r\nRCPT TO:<b@example.net>\r\n");
     assert_eq!(
         header,
@@ -554,6 +555,28 @@ fn offsets_of_the_other_refusals() {
     assert_eq!((refused.number, refused.offset), (7, 0));
     let refused = downgrade(good.as_bytes(), b"A: b\r\n", &mut [0; 32], &mut [0; 5]);
     assert_eq!((refused.number, refused.offset), (8, 0));
+}
+
+#[test]
+fn input_that_an_answer_is_about() {
+    let good = MAIL.to_string() + RCPT;
+    let orcpt = "MAIL FROM:<a@x>\r\nRCPT TO:<b@y> ORCPT=é\r\n";
+    let input = |envelope: &[u8], header: &[u8], rooms: (usize, usize)| {
+        let answer = downgrade(envelope, header, &mut vec![0; rooms.0], &mut vec![0; rooms.1]);
+        (answer.number, answer.input)
+    };
+    let whole = |envelope: &str, header: &str| input(envelope.as_bytes(), header.as_bytes(), (1000, 1000));
+    assert_eq!(whole(&good, "A: é\r\n"), (0, NEITHER));
+    assert_eq!(whole(&"x".repeat(16_385), ""), (1, ENVELOPE));
+    assert_eq!(whole(&good, &"x".repeat(32_769)), (1, HEADER));
+    assert_eq!(whole("", ""), (2, ENVELOPE));
+    assert_eq!(whole("MAIL FROM:<é@x>\r\n", "bad"), (3, ENVELOPE));
+    assert_eq!(whole("MAIL FROM:<a@x> ALT-ADDRESS=a@x\r\n", ""), (4, ENVELOPE));
+    assert_eq!(whole(&good, "bad"), (5, HEADER));
+    assert_eq!(whole(orcpt, "Date: é\r\n"), (6, ENVELOPE));
+    assert_eq!(whole(&good, "Date: é\r\n"), (6, HEADER));
+    assert_eq!(input(good.as_bytes(), b"A: b\r\n", (31, 0)), (7, ENVELOPE));
+    assert_eq!(input(good.as_bytes(), b"A: b\r\n", (32, 5)), (8, HEADER));
 }
 
 // Envelope lines
