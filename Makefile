@@ -17,7 +17,7 @@
 IN = examples/bulletin.txt
 PREFIX = /usr/local
 DESTDIR =
-VERSION = 0.1.0
+VERSION = 0.2.0
 
 INSTALL = install
 CARGO = cd rust && HENNELAKU_LIB_DIR=$(CURDIR)/dist cargo

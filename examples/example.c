@@ -29,8 +29,9 @@ int main(void)
         out_header, sizeof out_header);
 
     if (answer.number != HENNELAKU_OK) {
-        fprintf(stderr, "refused by %u at %zu: %s\n", (unsigned)answer.number,
-                answer.place, hennelaku_number_text(answer.number));
+        fprintf(stderr, "refused by %u, place %zu, offset %zu: %s\n",
+                (unsigned)answer.number, answer.place, answer.offset,
+                hennelaku_number_text(answer.number));
         return 1;
     }
     fwrite(out_envelope, 1, answer.envelope_len, stdout);

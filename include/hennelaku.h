@@ -14,6 +14,19 @@
 extern "C" {
 #endif
 
+/*
+ * The version of this header. HENNELAKU_VERSION is 10000 times the major number
+ * plus 100 times the minor number plus the patch number: a later version has a
+ * greater one.
+ */
+#define HENNELAKU_VERSION_MAJOR 0
+#define HENNELAKU_VERSION_MINOR 2
+#define HENNELAKU_VERSION_PATCH 0
+#define HENNELAKU_VERSION \
+    (10000 * HENNELAKU_VERSION_MAJOR + 100 * HENNELAKU_VERSION_MINOR \
+     + HENNELAKU_VERSION_PATCH)
+#define HENNELAKU_VERSION_TEXT "0.2.0"
+
 /* Limits of one call. */
 #define HENNELAKU_MAX_ENVELOPE 16384   /* bytes of an envelope */
 #define HENNELAKU_MAX_HEADER 32768     /* bytes of a header */
@@ -54,6 +67,13 @@ extern "C" {
  *
  * Lines count from 0, each from the start of the envelope or of the header; a
  * continuation line of a header counts as a line.
+ *
+ * Offsets count bytes from 0, from the start of the envelope or of the header,
+ * not of the line. For 2 and 5 the offset is that of the first byte at which
+ * the line, its CRLF with it, stops being a beginning of any well-formed line
+ * at its number; where a last line without CRLF has no such byte, it is the end
+ * of the input. What can no longer be completed within HENNELAKU_MAX_LINE bytes
+ * is not such a beginning. For 0, 1, 7 and 8 the offset is 0.
  */
 enum hennelaku_number {
     /* Downgraded. place is 0; both lengths say what was written. */
@@ -63,21 +83,24 @@ enum hennelaku_number {
     HENNELAKU_TOO_LONG = 1,
     /* An envelope line is malformed, or missing (an envelope has one MAIL line
      * and 1 to 100 RCPT lines). place is the line of the envelope; for a
-     * missing line it is the number that the line would have. */
+     * missing line it is the number that the line would have. offset: see
+     * above; for a missing line it is the envelope's length. */
     HENNELAKU_ENVELOPE_LINE = 2,
     /* A path is not ASCII, and its line has no ALT-ADDRESS. place is the line
-     * of the envelope. */
+     * of the envelope, offset the byte after its '<'. */
     HENNELAKU_NO_ALT_ADDRESS = 3,
     /* An ALT-ADDRESS stands beside a path that is ASCII, or is not xtext of an
-     * ASCII address. place is the line of the envelope. */
+     * ASCII address. place is the line of the envelope, offset the first byte
+     * of the ALT-ADDRESS value. */
     HENNELAKU_BAD_ALT_ADDRESS = 4,
-    /* A header line is malformed. place is the line of the header. */
+    /* A header line is malformed. place is the line of the header. offset: see
+     * above. */
     HENNELAKU_HEADER_LINE = 5,
-    /* An ORCPT value holds non-ASCII: place is the line of the envelope. Or no
-     * ORCPT does, and a held header field (see hennelaku_downgrade) does: place
-     * is the first line of that field in the header. Which of the two it is
-     * shows in the envelope: its lines hold non-ASCII after the path only in an
-     * ORCPT value. */
+    /* An ORCPT value holds non-ASCII: input is HENNELAKU_ENVELOPE, place the
+     * line of the envelope, offset the first such byte of an ORCPT value there.
+     * Or no ORCPT does, and a held header field (see hennelaku_downgrade) does:
+     * input is HENNELAKU_HEADER, place the first line of that field, offset its
+     * first such byte, which may stand in a later line of the field. */
     HENNELAKU_HELD = 6,
     /* The outgoing envelope is longer than its buffer. place is the length
      * that it needs, in bytes. */
@@ -87,16 +110,33 @@ enum hennelaku_number {
     HENNELAKU_HEADER_ROOM = 8
 };
 
+/* The input that number, place and offset of an answer are about; for 7 and 8
+ * the one whose output has no room. */
+enum hennelaku_input {
+    HENNELAKU_NO_INPUT = 0,  /* with the number 0 */
+    HENNELAKU_ENVELOPE = 1,
+    HENNELAKU_HEADER = 2
+};
+
 /* What a call answers. */
 typedef struct hennelaku_answer {
     uint32_t number;      /* one of enum hennelaku_number */
+    uint32_t input;       /* one of enum hennelaku_input */
     size_t place;         /* a line, a number of bytes or an input: see there */
+    size_t offset;        /* the byte that tells why: see there */
     size_t envelope_len;  /* bytes written to the envelope's buffer, or 0 */
     size_t header_len;    /* bytes written to the header's buffer, or 0 */
 } hennelaku_answer;
 
 /* The library is built for size_t of 8 bytes; another ABI fails here. */
 typedef char hennelaku_size_t_has_8_bytes[sizeof(size_t) == 8 ? 1 : -1];
+
+/*
+ * The HENNELAKU_VERSION of the library that is linked. Where it differs from
+ * that of the header, the two are of different releases, and an answer may have
+ * other members: do not call.
+ */
+uint32_t hennelaku_version(void);
 
 /*
  * The library's own symbol. Each pointer has to be that of a byte array of the

@@ -29,8 +29,9 @@ enum {
 /* The largest message file, in bytes. */
 #define MAX_FILE ((size_t)64 * 1024 * 1024)
 
-/* So many bytes of a line are quoted. */
-#define MAX_QUOTED 160
+/* So many columns are for the quoted bytes of a line: with quotes and dots they
+ * and the mark stay on one row of a terminal with 80. */
+#define MAX_QUOTED 70
 
 /* Some bytes; not owned. */
 typedef struct part {
@@ -45,6 +46,14 @@ typedef struct message {
     part header;
     part body;
 } message;
+
+/* A line of a part. */
+typedef struct part_line {
+    size_t number;  /* from 0 */
+    size_t start;   /* its offset in the part */
+    part text;      /* without its CRLF */
+    int has_crlf;
+} part_line;
 
 typedef struct options {
     const char *file;
@@ -65,29 +74,26 @@ static size_t next_crlf(part p, size_t at)
     return p.len;
 }
 
-/* Line number `line` of p, counted from 0, without its CRLF. Returns 0 where p
- * has no such line. */
-static int find_line(part p, size_t line, part *found)
+/* The line of p in which the byte at `offset` stands, its CRLF with it; for the
+ * end of p a last line without CRLF. Returns 0 where p has no such line: then
+ * the number is the one that it would have. */
+static int find_line(part p, size_t offset, part_line *found)
 {
-    size_t at = 0;
+    found->number = 0;
+    found->start = 0;
+    while (found->start < p.len) {
+        size_t end = next_crlf(p, found->start);
 
-    for (;;) {
-        size_t end = next_crlf(p, at);
-
-        if (at >= p.len) {
-            return 0;
-        }
-        if (line == 0) {
-            found->bytes = p.bytes + at;
-            found->len = end - at;
+        if (end == p.len || offset < end + 2) {
+            found->text.bytes = p.bytes + found->start;
+            found->text.len = end - found->start;
+            found->has_crlf = end < p.len;
             return 1;
         }
-        if (end == p.len) {
-            return 0;
-        }
-        at = end + 2;
-        line--;
+        found->start = end + 2;
+        found->number++;
     }
+    return 0;
 }
 
 /* How many CRLF p has. */
@@ -103,112 +109,175 @@ static size_t count_lines(part p)
     return count;
 }
 
-/* Writes a line in quotes; bytes that are not printable ASCII as \xNN. */
-static void print_quoted(FILE *out, part line)
+/* The length of the character at `at` (RFC 3629, section 4); 1 for a byte that
+ * belongs to none. */
+static size_t character_len(part p, size_t at)
 {
+    uint8_t lead = p.bytes[at];
+    uint8_t low = lead == 0xE0 ? 0xA0 : lead == 0xF0 ? 0x90 : 0x80;
+    uint8_t high = lead == 0xED ? 0x9F : lead == 0xF4 ? 0x8F : 0xBF;
+    size_t len = lead < 0xC2 || lead > 0xF4 ? 1
+               : lead < 0xE0 ? 2
+               : lead < 0xF0 ? 3 : 4;
     size_t i;
 
-    fputc('"', out);
-    for (i = 0; i < line.len && i < MAX_QUOTED; i++) {
-        uint8_t c = line.bytes[i];
-
-        if (c == '"' || c == '\\') {
-            fprintf(out, "\\%c", c);
-        } else if (c >= 32 && c <= 126) {
-            fputc(c, out);
-        } else {
-            fprintf(out, "\\x%02x", (unsigned)c);
-        }
+    if (len > p.len - at) {
+        return 1;
     }
-    fputs(line.len > MAX_QUOTED ? "\"..." : "\"", out);
-}
-
-/* Whether a line of a well-formed envelope holds non-ASCII after its path; only
- * an ORCPT value can. A quoted string and a domain literal may hold '>'. */
-static int orcpt_not_ascii(part line)
-{
-    size_t i = 0;
-    int in_string = 0;
-    int in_literal = 0;
-
-    while (i < line.len && line.bytes[i] != '<') {
-        i++;
-    }
-    for (; i < line.len; i++) {
-        uint8_t c = line.bytes[i];
-
-        if (in_string && c == '\\') {
-            i++;
-        } else if (c == '"' && !in_literal) {
-            in_string = !in_string;
-        } else if (c == '[' && !in_string) {
-            in_literal = 1;
-        } else if (c == ']' && !in_string) {
-            in_literal = 0;
-        } else if (c == '>' && !in_string && !in_literal) {
-            break;
-        }
-    }
-    for (; i < line.len; i++) {
-        if (line.bytes[i] > 127) {
+    for (i = 1; i < len; i++) {
+        if (p.bytes[at + i] < low || p.bytes[at + i] > high) {
             return 1;
         }
+        low = 0x80;
+        high = 0xBF;
     }
-    return 0;
+    return len;
 }
 
-/* Whether the place of an answer is a line of the envelope. The answer 6 may
- * be about either part; the envelope comes first. */
-static int place_in_envelope(const message *m, hennelaku_answer answer)
+/* The column, from 1, of the byte at `at` of a line, in characters: a byte that
+ * belongs to none counts as one, as do CR and LF after the text. */
+static size_t character_column(part text, size_t at)
 {
-    part line;
+    size_t column = 1;
+    size_t i = 0;
 
-    switch (answer.number) {
-    case HENNELAKU_ENVELOPE_LINE:
-    case HENNELAKU_NO_ALT_ADDRESS:
-    case HENNELAKU_BAD_ALT_ADDRESS:
-        return 1;
-    case HENNELAKU_HELD:
-        return find_line(m->envelope, answer.place, &line)
-            && orcpt_not_ascii(line);
+    while (i < at) {
+        i += i < text.len ? character_len(text, i) : 1;
+        if (i <= at) {
+            column++;
+        }
+    }
+    return column;
+}
+
+/* How many columns a quoted byte takes. */
+static size_t quoted_width(uint8_t c)
+{
+    return c == '"' || c == '\\' ? 2 : c >= 32 && c <= 126 ? 1 : 4;
+}
+
+/* Writes a byte as ASCII that a terminal takes for text: \xNN where it is not
+ * printable ASCII. */
+static void print_quoted(FILE *out, uint8_t c)
+{
+    switch (quoted_width(c)) {
+    case 1:
+        fputc(c, out);
+        break;
+    case 2:
+        fprintf(out, "\\%c", c);
+        break;
     default:
-        return 0;
+        fprintf(out, "\\x%02x", (unsigned)c);
+        break;
     }
 }
 
-/* Tells a refusal about a line: the file's line from 1, as editors count, then
- * the part and its line from 0, as the library counts. */
+/* The bytes around `at` that MAX_QUOTED allows, on both sides alike as far as
+ * the text goes: from *from on, before *to. */
+static void find_window(part text, size_t at, size_t *from, size_t *to)
+{
+    size_t left = MAX_QUOTED;
+    int grown = 1;
+
+    *from = *to = at;
+    while (grown) {
+        grown = 0;
+        if (*to < text.len && quoted_width(text.bytes[*to]) <= left) {
+            left -= quoted_width(text.bytes[*to]);
+            ++*to;
+            grown = 1;
+        }
+        if (*from > 0 && quoted_width(text.bytes[*from - 1]) <= left) {
+            --*from;
+            left -= quoted_width(text.bytes[*from]);
+            grown = 1;
+        }
+    }
+}
+
+/* Writes a line in quotes, and below it a mark under the byte at `at`. What
+ * follows the text is not quoted: the mark is then under the closing quote, and
+ * says what it stands for. */
+static void print_marked(FILE *out, const part_line *l, size_t at)
+{
+    size_t shown = at < l->text.len ? at : l->text.len;
+    size_t column = 1;
+    size_t from;
+    size_t to;
+    size_t i;
+
+    find_window(l->text, shown, &from, &to);
+    if (from > 0) {
+        fputs("...", out);
+        column += 3;
+    }
+    fputc('"', out);
+    for (i = from; i < to; i++) {
+        print_quoted(out, l->text.bytes[i]);
+        if (i < shown) {
+            column += quoted_width(l->text.bytes[i]);
+        }
+    }
+    fputs(to < l->text.len ? "\"...\n" : "\"\n", out);
+    fprintf(out, "%*s^%s\n", (int)column, "",
+            at < l->text.len ? ""
+            : !l->has_crlf ? " the end of the line"
+            : at == l->text.len ? " the CR at the end of the line"
+            : " the LF at the end of the line");
+}
+
+/* What an answer means; its input tells the two meanings of 6 apart. */
+static const char *meaning(hennelaku_answer answer)
+{
+    if (answer.number != HENNELAKU_HELD) {
+        return hennelaku_number_text(answer.number);
+    }
+    return answer.input == HENNELAKU_ENVELOPE
+        ? "an ORCPT value holds non-ASCII"
+        : "a held header field holds non-ASCII";
+}
+
+/* Tells a refusal about a line: the file's line and the byte's columns from 1,
+ * as editors count; then place and offset from 0, as the library counts. The
+ * byte of a held field may stand in a later line than its place. */
 static void tell_line(const message *m, hennelaku_answer answer)
 {
-    int in_envelope = place_in_envelope(m, answer);
+    int in_envelope = answer.input == HENNELAKU_ENVELOPE;
+    const char *name = in_envelope ? "envelope" : "header";
     size_t before = in_envelope ? 0 : count_lines(m->envelope) + 1;
-    part line;
+    part_line l;
+    int there = find_line(in_envelope ? m->envelope : m->header,
+                          answer.offset, &l);
+    size_t at = there ? answer.offset - l.start : 0;
 
-    fprintf(stderr, "%s:%zu: refused by %u: %s; line %zu of the %s, from 0",
-            m->file, before + answer.place + 1, (unsigned)answer.number,
-            hennelaku_number_text(answer.number), answer.place,
-            in_envelope ? "envelope" : "header");
-    if (find_line(in_envelope ? m->envelope : m->header, answer.place,
-                  &line)) {
-        fputs(": ", stderr);
-        print_quoted(stderr, line);
-        fputc('\n', stderr);
+    fprintf(stderr, "%s:%zu:%zu: character %zu: refused by %u: %s; "
+            "%s %zu and byte %zu of the %s, from 0\n",
+            m->file, before + l.number + 1, at + 1,
+            there ? character_column(l.text, at) : 1,
+            (unsigned)answer.number, meaning(answer),
+            l.number == answer.place ? "line" : "field at line",
+            answer.place, answer.offset, name);
+    if (there) {
+        print_marked(stderr, &l, at);
     } else {
-        fputs(": there is no such line\n", stderr);
+        fprintf(stderr, "there is no such line: the %s ends before it\n",
+                name);
     }
 }
 
 /* Tells a refusal in words and returns the exit status for it. */
 static int tell_refusal(const message *m, hennelaku_answer answer)
 {
+    int in_envelope = answer.input == HENNELAKU_ENVELOPE;
+
     switch (answer.number) {
     case HENNELAKU_TOO_LONG:
         fprintf(stderr, "%s: refused by 1: the %s has %zu bytes; at most %d "
                 "are taken\n", m->file,
-                answer.place == 0 ? "envelope" : "header",
-                answer.place == 0 ? m->envelope.len : m->header.len,
-                answer.place == 0 ? HENNELAKU_MAX_ENVELOPE
-                                  : HENNELAKU_MAX_HEADER);
+                in_envelope ? "envelope" : "header",
+                in_envelope ? m->envelope.len : m->header.len,
+                in_envelope ? HENNELAKU_MAX_ENVELOPE : HENNELAKU_MAX_HEADER);
         return EXIT_REFUSED;
     case HENNELAKU_ENVELOPE_LINE:
     case HENNELAKU_NO_ALT_ADDRESS:

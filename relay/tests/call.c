@@ -22,6 +22,66 @@ static int all_ascii(const uint8_t *at, size_t len)
     return 1;
 }
 
+/* Whether the input of an answer goes with its number. */
+static int input_fits(hennelaku_answer a)
+{
+    switch (a.number) {
+    case HENNELAKU_OK:
+        return a.input == HENNELAKU_NO_INPUT;
+    case HENNELAKU_TOO_LONG:
+        return a.input == (a.place == 0 ? HENNELAKU_ENVELOPE
+                                        : HENNELAKU_HEADER);
+    case HENNELAKU_HELD:
+        return a.input == HENNELAKU_ENVELOPE || a.input == HENNELAKU_HEADER;
+    case HENNELAKU_HEADER_LINE:
+    case HENNELAKU_HEADER_ROOM:
+        return a.input == HENNELAKU_HEADER;
+    default:
+        return a.input == HENNELAKU_ENVELOPE;
+    }
+}
+
+/* The line in which an offset lies, from 0. */
+static size_t line_of(bytes input, size_t offset)
+{
+    size_t line = 0;
+    size_t i;
+
+    for (i = 1; i < offset; i++) {
+        if (input.at[i - 1] == '\r' && input.at[i] == '\n') {
+            line++;
+        }
+    }
+    return line;
+}
+
+/* Whether the byte of an answer goes with its number and place. */
+static int offset_fits(hennelaku_answer a, bytes envelope, bytes header)
+{
+    bytes input = a.input == HENNELAKU_ENVELOPE ? envelope : header;
+    size_t line;
+
+    if (a.number < HENNELAKU_ENVELOPE_LINE || a.number > HENNELAKU_HELD) {
+        return a.offset == 0;
+    }
+    if (a.offset > input.len) {
+        return 0;
+    }
+    line = line_of(input, a.offset);
+    switch (a.number) {
+    case HENNELAKU_NO_ALT_ADDRESS:
+        return line == a.place && input.at[a.offset - 1] == '<';
+    case HENNELAKU_BAD_ALT_ADDRESS:
+        return line == a.place && input.at[a.offset - 1] == '=';
+    case HENNELAKU_HELD:
+        return a.offset < input.len && input.at[a.offset] > 127
+            && (a.input == HENNELAKU_HEADER ? line >= a.place
+                                            : line == a.place);
+    default:
+        return line == a.place;
+    }
+}
+
 static const char *broken_answer(const outcome *o, bytes envelope,
                                  bytes header)
 {
@@ -30,11 +90,18 @@ static const char *broken_answer(const outcome *o, bytes envelope,
     if (a.number > HENNELAKU_HEADER_ROOM) {
         return "a number over 8";
     }
-    if (a.number != HENNELAKU_OK && (a.envelope_len != 0 || a.header_len != 0)) {
+    if (a.number != HENNELAKU_OK
+        && (a.envelope_len != 0 || a.header_len != 0)) {
         return "a refusal with a length";
     }
     if (a.number == HENNELAKU_OK && a.place != 0) {
         return "a place with 0";
+    }
+    if (!input_fits(a)) {
+        return "an input that does not go with the number";
+    }
+    if (!offset_fits(a, envelope, header)) {
+        return "an offset that does not go with number and place";
     }
     if (a.envelope_len > o->envelope.len || a.header_len > o->header.len) {
         return "a length over the buffer's";

@@ -3,14 +3,14 @@
 #define CASES_H
 
 #include <stddef.h>
-#include <stdint.h>
+
+#include "hennelaku.h"
 
 typedef struct test_case {
     const char *name;
     const char *envelope;
     const char *header;
-    uint32_t number;
-    size_t place;
+    hennelaku_answer answer;  /* without the lengths */
     const char *envelope_out; /* null where refused */
     const char *header_out;
 } test_case;

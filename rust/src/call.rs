@@ -5,24 +5,34 @@ use crate::address_list;
 use crate::comment;
 use crate::envelope::{self, Envelope};
 use crate::header::{self, Field, Kind};
+use crate::offset;
 use crate::sink::{Counter, Sink, Writer};
+use crate::utf8::find;
 use crate::words::Row;
 
 #[derive(Clone, Copy, PartialEq, Eq, Debug)]
 pub struct Answer {
     pub number: u32,
+    /// Which input the answer is about: `ENVELOPE`, `HEADER` or `NEITHER`.
+    pub input: u32,
     pub place: usize,
+    /// From the start of that input.
+    pub offset: usize,
     pub envelope_len: usize,
     pub header_len: usize,
 }
+
+pub const NEITHER: u32 = 0;
+pub const ENVELOPE: u32 = 1;
+pub const HEADER: u32 = 2;
 
 /// 1: "envelope over 16,384 bytes, or header over 32,768"
 const LONGEST_ENVELOPE: usize = 16_384;
 const LONGEST_HEADER: usize = 32_768;
 
 /// "A refusal changes no byte of either buffer and gives both lengths as 0."
-fn refuse(number: u32, place: usize) -> Answer {
-    Answer { number, place, envelope_len: 0, header_len: 0 }
+fn refuse(number: u32, input: u32, place: usize, offset: usize) -> Answer {
+    Answer { number, input, place, offset, envelope_len: 0, header_len: 0 }
 }
 
 /// "Order: 1 (envelope first); then 2, 3 and 4 as the first envelope line at fault, the lowest number within one
@@ -30,39 +40,42 @@ fn refuse(number: u32, place: usize) -> Answer {
 /// then 8."
 pub fn downgrade(envelope: &[u8], header: &[u8], envelope_buffer: &mut [u8], header_buffer: &mut [u8]) -> Answer {
     if envelope.len() > LONGEST_ENVELOPE {
-        return refuse(1, 0);
+        return refuse(1, ENVELOPE, 0, 0);
     }
     if header.len() > LONGEST_HEADER {
-        return refuse(1, 1);
+        return refuse(1, HEADER, 1, 0);
     }
     let envelope = match envelope::check(envelope) {
         Ok(envelope) => envelope,
-        Err(refusal) => return refuse(refusal.number, refusal.line),
+        Err(refusal) => return refuse(refusal.number, ENVELOPE, refusal.line, refusal.offset),
     };
-    if let Err(line) = header::check(header) {
-        return refuse(5, line);
+    if let Err((line, start)) = header::check(header) {
+        let stop = offset::header_line(&header[start..], line, offset::LINE);
+        return refuse(5, HEADER, line, start + stop.expect("a malformed line stops somewhere").at);
     }
-    if let Some(line) = envelope.held {
-        return refuse(6, line);
+    if let Some((line, offset)) = envelope.held {
+        return refuse(6, ENVELOPE, line, offset);
     }
     // Both outputs are counted before a byte is written.
     let mut scratch = Vec::new();
     let mut header_count = Counter::default();
     if let Err(start) = write_header(&mut header_count, &envelope, header, &mut scratch) {
-        return refuse(6, header::line_number(header, start));
+        // [8.5]: "the field's first non-ASCII byte"; the field has one.
+        return refuse(6, HEADER, header::line_number(header, start), find(header, start, |b| b >= 128));
     }
     let mut envelope_count = Counter::default();
     envelope.write(&mut envelope_count);
     if envelope_count.len > envelope_buffer.len() {
-        return refuse(7, envelope_count.len);
+        return refuse(7, ENVELOPE, envelope_count.len, 0);
     }
     if header_count.len > header_buffer.len() {
-        return refuse(8, header_count.len);
+        return refuse(8, HEADER, header_count.len, 0);
     }
     envelope.write(&mut Writer { buffer: envelope_buffer, at: 0 });
     // The count met no held name.
     let _ = write_header(&mut Writer { buffer: header_buffer, at: 0 }, &envelope, header, &mut scratch);
-    Answer { number: 0, place: 0, envelope_len: envelope_count.len, header_len: header_count.len }
+    let (envelope_len, header_len) = (envelope_count.len, header_count.len);
+    Answer { number: 0, input: NEITHER, place: 0, offset: 0, envelope_len, header_len }
 }
 
 /// The new first fields, then each field downgraded. "A field whose value is ASCII is copied." Stops where a held

@@ -2,6 +2,7 @@
 //! Written from document 01, Envelope lines and Address fields, and the requests named below.
 
 use crate::address::{address, decode_xtext, is_ascii_address, value_end, LINE};
+use crate::offset;
 use crate::sink::Sink;
 use crate::utf8::{find, is_utf8};
 use crate::words::Row;
@@ -27,22 +28,24 @@ pub struct Envelope<'a> {
     lines: usize,
     swaps: [Swap; LINES],
     swapped: usize,
-    /// The first line with an ORCPT that carries non-ASCII.
-    pub held: Option<usize>,
+    /// The first line with an ORCPT that carries non-ASCII, and the first such byte of its values.
+    pub held: Option<(usize, usize)>,
 }
 
 pub struct Refusal {
     pub number: u32,
     pub line: usize,
+    pub offset: usize,
 }
 
 /// The parts of a well-formed line; places in the line.
-struct Line {
+pub struct Line {
     path: usize,
     path_end: usize,
     /// The space before it, its value, its end.
     alternative: Option<(usize, usize, usize)>,
-    held: bool,
+    /// The first non-ASCII byte of an ORCPT value.
+    held: Option<usize>,
 }
 
 /// "2, 3 and 4 as the first envelope line at fault, the lowest number within one line"
@@ -51,11 +54,12 @@ pub fn check(bytes: &[u8]) -> Result<Envelope<'_>, Refusal> {
     let mut start = 0;
     while start < bytes.len() {
         let line = envelope.lines;
-        start = envelope.take_line(start).map_err(|number| Refusal { number, line })?;
+        start = envelope.take_line(start).map_err(|(number, offset)| Refusal { number, line, offset })?;
     }
-    // "A missing line is malformed at its number, so an empty envelope is 2 at line 0"
+    // "A missing line is malformed at its number, so an empty envelope is 2 at line 0". [8.3]: "A missing line is
+    // empty and ends at the end of the envelope".
     if envelope.lines < 2 {
-        return Err(Refusal { number: 2, line: envelope.lines });
+        return Err(Refusal { number: 2, line: envelope.lines, offset: bytes.len() });
     }
     Ok(envelope)
 }
@@ -67,7 +71,7 @@ fn is_alternative(value: &[u8]) -> bool {
 
 /// "The form is `MAIL FROM:<path>` or `RCPT TO:<path>`, verbs in any case, then parameters, each after one space".
 /// None where the line is malformed.
-fn line_parts(line: &[u8], number: usize) -> Option<Line> {
+pub fn line_parts(line: &[u8], number: usize) -> Option<Line> {
     // "at most 998 bytes", "the 101st RCPT is malformed", "bad UTF-8"
     if line.len() > LINE || number == LINES || !is_utf8(line) {
         return None;
@@ -87,7 +91,7 @@ fn line_parts(line: &[u8], number: usize) -> Option<Line> {
     if line.get(path_end) != Some(&b'>') {
         return None;
     }
-    let mut parts = Line { path, path_end, alternative: None, held: false };
+    let mut parts = Line { path, path_end, alternative: None, held: None };
     let mut at = path_end + 1;
     while at < line.len() {
         at = parameter(line, at, &mut parts)?;
@@ -128,8 +132,8 @@ fn parameter(line: &[u8], space: usize, parts: &mut Line) -> Option<usize> {
     if end == value {
         return None;
     }
-    if orcpt && !line[value..end].is_ascii() {
-        parts.held = true;
+    if orcpt && parts.held.is_none() {
+        parts.held = (value..end).find(|&at| line[at] >= 128);
     }
     if alternative {
         // "a second ALT-ADDRESS" is malformed
@@ -143,22 +147,28 @@ fn parameter(line: &[u8], space: usize, parts: &mut Line) -> Option<usize> {
 
 impl Envelope<'_> {
     /// Checks the line that begins at `start` and notes what the call needs of it: where the next line begins, or the
-    /// number of the refusal.
-    fn take_line(&mut self, start: usize) -> Result<usize, u32> {
+    /// number and the offset of the refusal.
+    fn take_line(&mut self, start: usize) -> Result<usize, (u32, usize)> {
+        let malformed = || {
+            let stop = offset::envelope_line(&self.bytes[start..], self.lines, LINE);
+            (2, start + stop.expect("a malformed line stops somewhere").at)
+        };
         // "each ended by CRLF": a CR without LF, and a last line without CRLF, are malformed.
         let end = find(self.bytes, start, |b| b == b'\r');
         if self.bytes.get(end + 1) != Some(&b'\n') {
-            return Err(2);
+            return Err(malformed());
         }
         let line = &self.bytes[start..end];
-        let parts = line_parts(line, self.lines).ok_or(2u32)?;
+        let parts = line_parts(line, self.lines).ok_or_else(malformed)?;
         let path = &line[parts.path..parts.path_end];
         match parts.alternative {
-            // 3: "path not ASCII, no ALT-ADDRESS"
-            None if !path.is_ascii() => return Err(3),
+            // 3: "path not ASCII, no ALT-ADDRESS". [8.8]: "3 points at the byte after `<`, 4 at the byte after the `=`".
+            None if !path.is_ascii() => return Err((3, start + parts.path)),
             None => {}
             // 4: "ALT-ADDRESS beside an ASCII path, or not xtext of an ASCII address"
-            Some((_, value, end)) if path.is_ascii() || !is_alternative(&line[value..end]) => return Err(4),
+            Some((_, value, end)) if path.is_ascii() || !is_alternative(&line[value..end]) => {
+                return Err((4, start + value))
+            }
             Some((parameter, value, value_end)) => {
                 self.swaps[self.swapped] = Swap {
                     line: self.lines,
@@ -171,8 +181,8 @@ impl Envelope<'_> {
                 self.swapped += 1;
             }
         }
-        if parts.held && self.held.is_none() {
-            self.held = Some(self.lines);
+        if self.held.is_none() {
+            self.held = parts.held.map(|at| (self.lines, start + at));
         }
         self.lines += 1;
         Ok(end + 2)

@@ -377,6 +377,139 @@ pub fn envelope(r: &mut Random) -> Vec<u8> {
     out
 }
 
+/// A short line in which every place of the grammar is about as likely.
+fn short_line(r: &mut Random, out: &mut Vec<u8>, mail: bool) {
+    in_any_case(r, out, if mail { "MAIL FROM:<" } else { "RCPT TO:<" });
+    let locals = ["a", "a.b", "é", "é.a", "\"\"", "\"a\"", "\"\\a\"", "\"é\"", "Postmaster", "postmaste", "😀b"];
+    out.extend_from_slice(r.pick(&locals).as_bytes());
+    out.push(b'@');
+    out.extend_from_slice(r.pick(&["x", "x.y", "é", "漢.x", "[]", "[1.2]", "[a", "x"]).as_bytes());
+    out.push(b'>');
+    for _ in 0..r.below(4) {
+        out.push(b' ');
+        let parameters = [
+            "X", "X-", "X=1", "ORCPT=é", "orcpt=a漢b", "ORCPT", "ALT-ADDRESS=a@x", "ALT-ADDRESS", "Alt-AddressX",
+            "S=😀",
+        ];
+        let parameter = r.pick(&parameters);
+        in_any_case(r, out, parameter);
+    }
+}
+
+/// Fills the line that begins at `start` up to about 998 bytes, and then a few parts more.
+fn fill(r: &mut Random, out: &mut Vec<u8>, start: usize, ends: &[&str]) {
+    let end = start + r.from(986, 999);
+    let way = r.below(3);
+    while out.len() < end {
+        if way == 0 || (out.len() + 4 > end && r.once_in(8)) {
+            character(r, out);
+        } else {
+            out.push(b'a');
+        }
+    }
+    for _ in 0..r.below(4) {
+        out.extend_from_slice(r.pick(ends).as_bytes());
+    }
+}
+
+/// What may stand before and behind the long part of an envelope line, from its `<` on.
+const FULL: &[&str] = &[
+    "", "a.", "\"", "a@", "a@x.", "a@[", "a@x> X", "a@x> X=", "a@x> ORCPT=", "a@x> ALT-ADDRESS=",
+    "a@x> ALT-ADDRESS=a X=",
+];
+const FULL_ENDS: &[&str] = &[
+    "a", ".", ".é", "\\", "\"", "@", "@x", "@é", "@[", "@x>", "@x.é", ">", "]", "]>", " ", "=", " ORCPT=é", "-",
+    " ALT-ADDRESS", " ALT-ADDRESS=", "é", "😀",
+];
+
+/// An envelope line at each place of its grammar, from its `<` on.
+const PLACES: &[&str] = &[
+    "", "a", "a.", "\"", "\"\\", "\"a\"", "a@", "a@x", "a@x.", "a@[", "a@[1]", "a@x>", "a@x> ", "a@x> X", "a@x> X=",
+    "a@x> X=1", "a@x> ORCPT=", "a@x> ORCPT=é", "é@x> ALT-ADDRESS", "é@x> ALT-ADDRESS=a X", "Postmaster",
+    "é@x> alt-address=a Alt-Address",
+];
+
+/// One change by which a line may stop being a beginning: a byte, a part of a character, a line end.
+fn spoil(r: &mut Random, out: &mut Vec<u8>, start: usize) {
+    let at = r.from(start, out.len());
+    match r.below(8) {
+        0 => out.insert(at, r.next() as u8),
+        1 | 2 => out.insert(at, r.byte(SPECIAL)),
+        3 => {
+            if at < out.len() {
+                out[at] = r.byte(SPECIAL);
+            }
+        }
+        4 => {
+            if at < out.len() {
+                out.remove(at);
+            }
+        }
+        5 => out.truncate(at),
+        6 => {
+            let part: &[&[u8]] = &[
+                b"\xC3", b"\xE2\x82", b"\xF0\x9F\x98", b"\xED\xA0", b"\xE0\x9F", b"\xF4\x90", b"\xF0\x8F", b"\xC3(",
+                b"\xC0\x80", b"\x80", b"\xF5",
+            ];
+            let part = r.pick(part);
+            out.splice(at..at, part.iter().copied());
+        }
+        _ => {
+            let part: &[&[u8]] = &[b"\r", b"\n", b"\rx", b"\r\r", b"\n\r", b"\r ", b"\0"];
+            let part = r.pick(part);
+            // At the end more often than inside.
+            let at = if r.once_in(2) { out.len() } else { at };
+            out.splice(at..at, part.iter().copied());
+        }
+    }
+}
+
+/// Good lines, then one that is malformed or nearly so, then perhaps no more.
+fn malformed_envelope(r: &mut Random) -> Vec<u8> {
+    let mut out = Vec::new();
+    let number = match r.below(20) {
+        0 => 100,
+        1 => 101,
+        _ => r.below(4),
+    };
+    for line in 0..number {
+        out.extend_from_slice(if line == 0 { b"MAIL FROM:<a@x>\r\n" } else { b"RCPT TO:<b@y>\r\n" });
+    }
+    let start = out.len();
+    match r.below(5) {
+        0 | 1 => {
+            in_any_case(r, &mut out, if number == 0 { "MAIL FROM:<" } else { "RCPT TO:<" });
+            out.extend_from_slice(r.pick(FULL).as_bytes());
+            fill(r, &mut out, start, FULL_ENDS);
+        }
+        2 => {
+            // Each place of the grammar, and any byte there, or what is left of the ways to end.
+            in_any_case(r, &mut out, if number == 0 { "MAIL FROM:<" } else { "RCPT TO:<" });
+            out.extend_from_slice(r.pick(PLACES).as_bytes());
+            match r.below(4) {
+                0 => out.push(r.next() as u8),
+                1 | 2 => out.push(r.byte(SPECIAL)),
+                _ => {}
+            }
+        }
+        _ => {
+            short_line(r, &mut out, number == 0);
+            spoil(r, &mut out, start);
+        }
+    }
+    match r.below(6) {
+        0 => {
+            // The data end inside the line.
+            let end = r.from(start, out.len());
+            out.truncate(end);
+        }
+        1 => {}
+        2 => out.push(b'\r'),
+        _ => out.extend_from_slice(b"\r\nRCPT TO:<b@y>\r\n"),
+    }
+    out
+}
+
 /// About 16,384 bytes.
 fn long_envelope(r: &mut Random) -> Vec<u8> {
     let mut out = b"MAIL FROM:<a@x>\r\n".to_vec();
@@ -863,6 +996,44 @@ fn damage_header_line(r: &mut Random, out: &mut Vec<u8>) {
     out.splice(at..at, line.iter().copied());
 }
 
+/// Good lines, then one that is malformed or nearly so, then perhaps no more.
+fn malformed_header(r: &mut Random) -> Vec<u8> {
+    let mut out = Vec::new();
+    for _ in 0..r.below(3) {
+        out.extend_from_slice(r.pick(&["A: b\r\n", "Subject: é\r\n", "To: a@x,\r\n b@y\r\n"]).as_bytes());
+    }
+    let start = out.len();
+    match r.below(4) {
+        0 => {
+            out.extend_from_slice(r.pick(&["X:", "X: é", " ", "\té", "Subject:"]).as_bytes());
+            fill(r, &mut out, start, &["a", " ", "é", "漢", "😀", "\u{7f}"]);
+        }
+        1 => {
+            let len = r.from(74, 78);
+            out.resize(start + len, b'n');
+            out.extend_from_slice(r.pick(&[":", ": é", "", " :", "n:", "é:"]).as_bytes());
+            if r.once_in(3) {
+                spoil(r, &mut out, start);
+            }
+        }
+        _ => {
+            let lines = ["X: a", "X:", "Subject: é", "X-Y: a漢b", " é", "\ta", "A", "", ":", " ", "To: 😀@x", "a b: c"];
+            out.extend_from_slice(r.pick(&lines).as_bytes());
+            spoil(r, &mut out, start);
+        }
+    }
+    match r.below(6) {
+        0 => {
+            let end = r.from(start, out.len());
+            out.truncate(end);
+        }
+        1 => {}
+        2 => out.push(b'\r'),
+        _ => out.extend_from_slice(b"\r\nX-Last: x\r\n"),
+    }
+    out
+}
+
 /// About 32,768 bytes.
 fn long_header(r: &mut Random) -> Vec<u8> {
     let mut out = Vec::new();
@@ -956,6 +1127,18 @@ pub fn input(r: &mut Random) -> (Vec<u8>, Vec<u8>) {
         _ => envelope(r),
     };
     let mut h = if r.once_in(40) { random_bytes(r) } else { header(r) };
+    match r.below(10) {
+        0 => return (malformed_envelope(r), h),
+        1 => {
+            h = malformed_header(r);
+            // Mostly with an envelope that is not refused before it.
+            if !r.once_in(8) {
+                e = b"MAIL FROM:<>\r\nRCPT TO:<b@y>\r\n".to_vec();
+            }
+            return (e, h);
+        }
+        _ => {}
+    }
     match r.below(12) {
         0 => damage(r, &mut e),
         1 | 2 => damage(r, &mut h),

@@ -64,9 +64,9 @@ pub fn kind(name: &[u8]) -> Kind {
     Kind::Other
 }
 
-/// The first malformed line. "Each line ends in CRLF, has 1 to 998 bytes before it, holds no NUL, lone CR or lone LF,
-/// and is UTF-8."
-pub fn check(header: &[u8]) -> Result<(), usize> {
+/// The first malformed line, its number and its start. "Each line ends in CRLF, has 1 to 998 bytes before it, holds no
+/// NUL, lone CR or lone LF, and is UTF-8."
+pub fn check(header: &[u8]) -> Result<(), (usize, usize)> {
     // A CRLF is inside no character, so a line is UTF-8 when the first fault of the whole header is not in it.
     let good = valid_len(header);
     let mut number = 0;
@@ -80,13 +80,13 @@ pub fn check(header: &[u8]) -> Result<(), usize> {
         let ended = header.get(end) == Some(&b'\r') && header.get(end + 1) == Some(&b'\n');
         let len = end - start;
         if !ended || len == 0 || len > LINE || end > good {
-            return Err(number);
+            return Err((number, start));
         }
         // "It is a continuation (starts with space or TAB; not the first line) or a name of 1 to 76 bytes 33 to 126
         // without colon, then a colon."
         let continuation = is_blank(header[start]) && number > 0;
         if !continuation && name_end(&header[start..end]).is_none() {
-            return Err(number);
+            return Err((number, start));
         }
         number += 1;
         start = end + 2;

@@ -11,6 +11,9 @@ pub mod envelope;
 pub mod generate;
 pub mod header;
 #[cfg(feature = "proved")]
+pub mod line_faults;
+pub mod offset;
+#[cfg(feature = "proved")]
 pub mod proved;
 pub mod sink;
 pub mod utf8;
@@ -18,5 +21,7 @@ pub mod words;
 
 pub use call::{downgrade, Answer};
 
+#[cfg(test)]
+mod completions;
 #[cfg(test)]
 mod tests;

@@ -2,10 +2,13 @@
 
 use crate::Answer;
 
+/// `hennelaku_answer` of hennelaku.h, member by member.
 #[repr(C)]
 struct ProvedAnswer {
     number: u32,
+    input: u32,
     place: usize,
+    offset: usize,
     envelope_len: usize,
     header_len: usize,
 }
@@ -40,7 +43,9 @@ pub fn downgrade(envelope: &[u8], header: &[u8], envelope_buffer: &mut [u8], hea
     };
     Answer {
         number: answer.number,
+        input: answer.input,
         place: answer.place,
+        offset: answer.offset,
         envelope_len: answer.envelope_len,
         header_len: answer.header_len,
     }

@@ -17,6 +17,7 @@ use Rattle.outgoing_field.specs.declared.HeldField.the-variants.{Absent, At as 
 use Rattle.header_line.specs.Lines.{checkedLines}
 use Rattle.rules.specs.declared.Rules.the-variants.{Spool}
 use Rattle.outgoing_field.specs.Fate.{heldOf}
+use Rattle.offset.specs.Offset.{faultOffset, orcptOffset, headerLineOffset, fieldOffset}
 use Rattle.call.specs.declared.Refusal.{Refusal}
 use Rattle.call.specs.declared.Refusal.the-variants.{EnvelopeOver, HeaderOver, EnvelopeLine, HeaderLine, OrcptLine, HeldLine, EnvelopeNeeds, HeaderNeeds}
 use Rattle.call.specs.declared.Verdict.{Verdict}
@@ -30,10 +31,10 @@ use Rattle.call.specs.OutgoingHeader.{outgoingHeader}
 unfoldable pub numberOf : Refusal → ℕ
 numberOf EnvelopeOver = 1
 numberOf HeaderOver = 1
-numberOf (EnvelopeLine fault line) = faultNumber fault
-numberOf (HeaderLine line) = 5
-numberOf (OrcptLine line) = 6
-numberOf (HeldLine line) = 6
+numberOf (EnvelopeLine fault line offset) = faultNumber fault
+numberOf (HeaderLine line offset) = 5
+numberOf (OrcptLine line offset) = 6
+numberOf (HeldLine line offset) = 6
 numberOf (EnvelopeNeeds size) = 7
 numberOf (HeaderNeeds size) = 8
 
@@ -41,12 +42,34 @@ numberOf (HeaderNeeds size) = 8
 unfoldable pub placeOf : Refusal → ℕ
 placeOf EnvelopeOver = 0
 placeOf HeaderOver = 1
-placeOf (EnvelopeLine fault line) = line
-placeOf (HeaderLine line) = line
-placeOf (OrcptLine line) = line
-placeOf (HeldLine line) = line
+placeOf (EnvelopeLine fault line offset) = line
+placeOf (HeaderLine line offset) = line
+placeOf (OrcptLine line offset) = line
+placeOf (HeldLine line offset) = line
 placeOf (EnvelopeNeeds size) = size
 placeOf (HeaderNeeds size) = size
+
+-- and its offset: a byte, "from the start of the envelope or header". "For 0, 1, 7 and 8 it is 0."
+unfoldable pub offsetOf : Refusal → ℕ
+offsetOf EnvelopeOver = 0
+offsetOf HeaderOver = 0
+offsetOf (EnvelopeLine fault line offset) = offset
+offsetOf (HeaderLine line offset) = offset
+offsetOf (OrcptLine line offset) = offset
+offsetOf (HeldLine line offset) = offset
+offsetOf (EnvelopeNeeds size) = 0
+offsetOf (HeaderNeeds size) = 0
+
+-- and which input it is about: 1 the envelope, 2 the header
+unfoldable pub inputOf : Refusal → ℕ
+inputOf EnvelopeOver = 1
+inputOf HeaderOver = 2
+inputOf (EnvelopeLine fault line offset) = 1
+inputOf (HeaderLine line offset) = 2
+inputOf (OrcptLine line offset) = 1
+inputOf (HeldLine line offset) = 2
+inputOf (EnvelopeNeeds size) = 1
+inputOf (HeaderNeeds size) = 2
 
 -- ---- the order of refusals
 
@@ -55,24 +78,24 @@ unfoldable pub over : ℕ → ℕ → Refusal → Verdict
 over limit size refusal = cond (ltb limit size) (Refuse refusal) Accept
 
 -- 2, 3 and 4: "the first envelope line at fault"
-unfoldable pub ofEnvelope : Checked → Verdict
-ofEnvelope (Passed count) = Accept
-ofEnvelope (Refused fault line) = Refuse (EnvelopeLine fault line)
+unfoldable pub ofEnvelope : List ℕ → Checked → Verdict
+ofEnvelope e (Passed count) = Accept
+ofEnvelope e (Refused fault line) = Refuse (EnvelopeLine fault line (faultOffset e fault line))
 
 -- "then the first 5"
-unfoldable pub ofLines : LineCheck → Verdict
-ofLines WellFormed = Accept
-ofLines (Malformed line at) = Refuse (HeaderLine line)
+unfoldable pub ofLines : List ℕ → LineCheck → Verdict
+ofLines h WellFormed = Accept
+ofLines h (Malformed line at) = Refuse (HeaderLine line (headerLineOffset h line at))
 
 -- 6 of an ORCPT
-unfoldable pub ofOrcpt : Orcpt → Verdict
-ofOrcpt Clean = Accept
-ofOrcpt (At line) = Refuse (OrcptLine line)
+unfoldable pub ofOrcpt : List ℕ → Orcpt → Verdict
+ofOrcpt e Clean = Accept
+ofOrcpt e (At line) = Refuse (OrcptLine line (orcptOffset e line))
 
 -- 6 of a held field
-unfoldable pub ofHeld : HeldField → Verdict
-ofHeld Absent = Accept
-ofHeld (HeldAt line at) = Refuse (HeldLine line)
+unfoldable pub ofHeld : List ℕ → HeldField → Verdict
+ofHeld h Absent = Accept
+ofHeld h (HeldAt line at) = Refuse (HeldLine line (fieldOffset h at))
 
 -- the first refusal of these
 unfoldable pub firstOf : List Verdict → Verdict
@@ -87,10 +110,10 @@ verdict e h room₁ room₂ =
     firstOf
     (over 16384 (length e) EnvelopeOver
     ∷ over 32768 (length h) HeaderOver
-    ∷ ofEnvelope (checked e)
-    ∷ ofLines (checkedLines h)
-    ∷ ofOrcpt (orcptLine e)
-    ∷ ofHeld (heldOf Spool h)
+    ∷ ofEnvelope e (checked e)
+    ∷ ofLines h (checkedLines h)
+    ∷ ofOrcpt e (orcptLine e)
+    ∷ ofHeld h (heldOf Spool h)
     ∷ over room₁ (length (written e)) (EnvelopeNeeds (length (written e)))
     ∷ over room₂ (length (outgoingHeader e h)) (HeaderNeeds (length (outgoingHeader e h)))
     ∷ [])
@@ -100,7 +123,9 @@ verdict e h room₁ room₂ =
 -- what a call answers and leaves
 pub record Outcome : Type 0 where
   pub number : ℕ
+  pub input : ℕ
   pub place : ℕ
+  pub offset : ℕ
   pub envelopeLen : ℕ
   pub headerLen : ℕ
   pub envelopeBuffer : List ℕ
@@ -110,7 +135,9 @@ pub record Outcome : Type 0 where
 unfoldable pub outcomeOf : Verdict → List ℕ → List ℕ → List ℕ → List ℕ → Outcome
 outcomeOf (Refuse refusal) e h b c = record {
   number = numberOf refusal;
+  input = inputOf refusal;
   place = placeOf refusal;
+  offset = offsetOf refusal;
   envelopeLen = 0;
   headerLen = 0;
   envelopeBuffer = b;
@@ -118,7 +145,9 @@ outcomeOf (Refuse refusal) e h b c = record {
 }
 outcomeOf Accept e h b c = record {
   number = 0;
+  input = 0;
   place = 0;
+  offset = 0;
   envelopeLen = length (written e);
   headerLen = length (outgoingHeader e h);
   envelopeBuffer = overlay (written e) b;
@@ -133,7 +162,9 @@ outcome e h b c = outcomeOf (verdict e h (length b) (length c)) e h b c
 abbrev pub observed : Answer → List ℕ → List ℕ → Outcome
 observed answer envelopeBuffer headerBuffer = record {
   number = answer .number;
+  input = answer .input;
   place = answer .place;
+  offset = answer .offset;
   envelopeLen = answer .«envelope_len»;
   headerLen = answer .«header_len»;
   envelopeBuffer = envelopeBuffer;

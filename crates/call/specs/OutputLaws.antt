@@ -33,6 +33,7 @@ use Rattle.call.specs.declared.Verdict.the-variants.{Accept, Refuse}
 use Rattle.call.specs.declared.Answer.{Answer}
 use Rattle.call.specs.OutgoingHeader.{newField, newFields, outgoingSegments, outgoingHeader}
 use Rattle.call.specs.Outcome.{over, ofEnvelope, ofLines, ofOrcpt, ofHeld, firstOf, verdict, outcomeOf, outcome, observed}
+use Rattle.offset.specs.Offset.{faultOffset}
 use Rattle.call.specs.OutcomeLaws.{RefusedBy}
 use Rattle.call.specs.NewFieldLaws.{length-new-field}
 
@@ -41,7 +42,7 @@ use Rattle.call.specs.NewFieldLaws.{length-new-field}
 -- where a verdict refuses, so does the call
 pub refused-observed : (e h b c : List ℕ) {refusal : Refusal} {r : Answer} → verdict e h (length b) (length c) ≡ Refuse refusal → RefusedBy refusal r → observed r b c ≡ outcome e h b c
 unfolding outcome outcomeOf
-refused-observed e h b c v a = rw (v, a .number, a .place, a .none₁, a .none₂)
+refused-observed e h b c v a = rw (v, a .number, a .input, a .place, a .offset, a .none₁, a .none₂)
 
 pub over-yes : (limit size : ℕ) (refusal : Refusal) → limit < size → over limit size refusal ≡ Refuse refusal
 unfolding over
@@ -62,16 +63,16 @@ module _ (e h : List ℕ) (room₁ room₂ : ℕ) where
     header-over k = rw (over-no 16384 (length e) EnvelopeOver short₁, over-yes 32768 (length h) HeaderOver k)
 
     module _ (short₂ : length h ≤ 32768) where
-      pub envelope-line : (fault : Fault) (line : ℕ) → checked e ≡ Refused fault line → verdict e h room₁ room₂ ≡ Refuse (EnvelopeLine fault line)
+      pub envelope-line : (fault : Fault) (line offset : ℕ) → checked e ≡ Refused fault line → offset ≡ faultOffset e fault line → verdict e h room₁ room₂ ≡ Refuse (EnvelopeLine fault line offset)
       unfolding verdict firstOf ofEnvelope
-      envelope-line fault line k = rw (over-no 16384 (length e) EnvelopeOver short₁, over-no 32768 (length h) HeaderOver short₂, k)
+      envelope-line fault line offset k q = rw (over-no 16384 (length e) EnvelopeOver short₁, over-no 32768 (length h) HeaderOver short₂, k, q)
 
       module _ (count : ℕ) (passed : checked e ≡ Passed count) where
         past-envelope : verdict e h room₁ room₂
             ≡ firstOf
-            (ofLines (checkedLines h)
-            ∷ ofOrcpt (orcptLine e)
-            ∷ ofHeld (heldOf Spool h)
+            (ofLines h (checkedLines h)
+            ∷ ofOrcpt e (orcptLine e)
+            ∷ ofHeld h (heldOf Spool h)
             ∷ over room₁ (length (written e)) (EnvelopeNeeds (length (written e)))
             ∷ over room₂ (length (outgoingHeader e h)) (HeaderNeeds (length (outgoingHeader e h)))
             ∷ [])
@@ -96,10 +97,10 @@ abbrev pub ofInput : List ℕ → List ℕ → List Verdict
 ofInput e h =
     over 16384 (length e) EnvelopeOver
     ∷ over 32768 (length h) HeaderOver
-    ∷ ofEnvelope (checked e)
-    ∷ ofLines (checkedLines h)
-    ∷ ofOrcpt (orcptLine e)
-    ∷ ofHeld (heldOf Spool h)
+    ∷ ofEnvelope e (checked e)
+    ∷ ofLines h (checkedLines h)
+    ∷ ofOrcpt e (orcptLine e)
+    ∷ ofHeld h (heldOf Spool h)
     ∷ []
 
 -- an input that none of them refuses is decided by the buffers
@@ -127,13 +128,13 @@ module _ (e h : List ℕ) (room₁ room₂ : ℕ) (q : firstOf (ofInput e h) ≡
 
 -- no header line is malformed, and no ORCPT and no held field carries non-ASCII
 pub record Accepted (e h : List ℕ) : Type 0 where
-  pub content : firstOf (ofLines (checkedLines h) ∷ ofOrcpt (orcptLine e) ∷ ofHeld (heldOf Spool h) ∷ []) ≡ Accept
+  pub content : firstOf (ofLines h (checkedLines h) ∷ ofOrcpt e (orcptLine e) ∷ ofHeld h (heldOf Spool h) ∷ []) ≡ Accept
 
 pub accepted-lines : {e h : List ℕ} → Accepted e h → checkedLines h ≡ WellFormed
 unfolding firstOf ofLines
 accepted-lines {e} {h} ok = go (checkedLines h) refl (ok .content)
   where
-    go : (l : LineCheck) → checkedLines h ≡ l → firstOf (ofLines l ∷ ofOrcpt (orcptLine e) ∷ ofHeld (heldOf Spool h) ∷ []) ≡ Accept → checkedLines h ≡ WellFormed
+    go : (l : LineCheck) → checkedLines h ≡ l → firstOf (ofLines h l ∷ ofOrcpt e (orcptLine e) ∷ ofHeld h (heldOf Spool h) ∷ []) ≡ Accept → checkedLines h ≡ WellFormed
     go WellFormed q k = q
     go (Malformed line at) q k = absurd (let z : _≡_ {A = ℕ} 0 1 = cc in omega arith)
 
@@ -235,11 +236,11 @@ pub to-ready : {e h before after : List ℕ} {count : ℕ} {r : Checked} → len
 to-ready s t c k l = let d = rw k at c in record { short₁ = s; short₂ = t; passed = sym (d .answer); starts = stored d l }
 
 module _ {e h array : List ℕ} {count : ℕ} (r : Ready e h array count) where
-  pub content-refused : (room₁ room₂ : ℕ) {refusal : Refusal} → firstOf (ofLines (checkedLines h) ∷ ofOrcpt (orcptLine e) ∷ ofHeld (heldOf Spool h) ∷ []) ≡ Refuse refusal
+  pub content-refused : (room₁ room₂ : ℕ) {refusal : Refusal} → firstOf (ofLines h (checkedLines h) ∷ ofOrcpt e (orcptLine e) ∷ ofHeld h (heldOf Spool h) ∷ []) ≡ Refuse refusal
       → verdict e h room₁ room₂ ≡ Refuse refusal
   content-refused room₁ room₂ {refusal} k =
       past-envelope e h room₁ room₂ (r .short₁) (r .short₂) count (r .passed)
-      ∙ first-refused (ofLines (checkedLines h) ∷ ofOrcpt (orcptLine e) ∷ ofHeld (heldOf Spool h) ∷ []) _ refusal k
+      ∙ first-refused (ofLines h (checkedLines h) ∷ ofOrcpt e (orcptLine e) ∷ ofHeld h (heldOf Spool h) ∷ []) _ refusal k
 
   pub mail-short : length (mailReplacement e) ≤ 2048
   mail-short = omega (arith, mail-replacement-short e count (r .passed))
@@ -272,7 +273,7 @@ module _ {e h array : List ℕ} {count : ℕ} (r : Ready e h array count) where
         ∷ [])
     past-content =
         past-envelope e h (length b) (length c) (r .short₁) (r .short₂) count (r .passed)
-        ∙ first-accepted (ofLines (checkedLines h) ∷ ofOrcpt (orcptLine e) ∷ ofHeld (heldOf Spool h) ∷ []) _ (ok .content)
+        ∙ first-accepted (ofLines h (checkedLines h) ∷ ofOrcpt e (orcptLine e) ∷ ofHeld h (heldOf Spool h) ∷ []) _ (ok .content)
 
     pub envelope-needs : {n : ℕ} {a : Answer} → n ≡ length (written e) → length b < n → RefusedBy (EnvelopeNeeds n) a → observed a b c ≡ outcome e h b c
     unfolding firstOf
@@ -291,13 +292,13 @@ module _ {e h array : List ℕ} {count : ℕ} (r : Ready e h array count) where
 
     -- both fit
     pub downgraded : {mail rcpt : List ℕ} {n m : ℕ} {b′ c′ : List ℕ} {a : Answer} → Texts e mail rcpt → n ≡ length (written e) → n ≤ length b → Needed (length (headerOf mail rcpt h)) (length c) m → m ≤ length c
-        → a .number ≡ 0 → a .place ≡ 0 → Wrote (written e) b b′ (a .«envelope_len») → Wrote (headerOf mail rcpt h) c c′ (a .«header_len»)
+        → a .number ≡ 0 → a .input ≡ 0 → a .place ≡ 0 → a .offset ≡ 0 → Wrote (written e) b b′ (a .«envelope_len») → Wrote (headerOf mail rcpt h) c c′ (a .«header_len»)
         → observed a b′ c′ ≡ outcome e h b c
     unfolding firstOf outcome outcomeOf
-    downgraded {mail} {rcpt} {n} {m} {b′} {c′} {a} t q k d l x y v u =
+    downgraded {mail} {rcpt} {n} {m} {b′} {c′} {a} t q k d l x i y z v u =
         let p : length (outgoingHeader e h) ≤ length c = rw (header-of t h) at (d .enough l) in
         let w : Wrote (outgoingHeader e h) c c′ (a .«header_len») = rw (header-of t h) at u in
         let fine : verdict e h (length b) (length c) ≡ Accept =
         past-content
         ∙ rw (over-no (length b) (length (written e)) (EnvelopeNeeds (length (written e))) (rw q at k), over-no (length c) (length (outgoingHeader e h)) (HeaderNeeds (length (outgoingHeader e h))) p) in
-        rw (fine, x, y, v .size, w .size, v .bytes, w .bytes)
+        rw (fine, x, i, y, z, v .size, w .size, v .bytes, w .bytes)

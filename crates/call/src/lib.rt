@@ -10,14 +10,14 @@ use envelope::Checked;
 use envelope_line::Fault;
 use refusals::refused;
 
-// Why a call is refused, with the paper's place: a line, or the length needed.
+// Why a call is refused, with the paper's place: a line, and the byte in it that tells why, or the length needed.
 pub enum Refusal {
     EnvelopeOver,
     HeaderOver,
-    EnvelopeLine(Fault, usize),
-    HeaderLine(usize),
-    OrcptLine(usize),
-    HeldLine(usize),
+    EnvelopeLine(Fault, usize, usize),
+    HeaderLine(usize, usize),
+    OrcptLine(usize, usize),
+    HeldLine(usize, usize),
     EnvelopeNeeds(usize),
     HeaderNeeds(usize),
 }
@@ -27,11 +27,14 @@ pub enum Verdict {
     Refuse(Refusal),
 }
 
-// What a call answers: the paper's number and place, and the lengths of what was written.
+// What a call answers: the paper's number, which input it is about (1 the envelope, 2 the header, 0 neither), the paper's place and
+// offset, and the lengths of what was written.
 #[repr(C)]
 pub struct Answer {
     pub number: u32,
+    pub input: u32,
     pub place: usize,
+    pub offset: usize,
     pub envelope_len: usize,
     pub header_len: usize,
 }
@@ -63,7 +66,7 @@ fn downgrade_checked(
     }
 }
 
-// Downgrades an envelope and a header into two buffers, or refuses them by number and place.
+// Downgrades an envelope and a header into two buffers, or refuses them by number, place and offset.
 pub fn downgrade(
     envelope: &[u8],
     header: &[u8],
@@ -80,7 +83,10 @@ pub fn downgrade(
     }
     let mut starts = [0usize; 100];
     match envelope::check(envelope, &mut starts) {
-        Checked::Refused(fault, line) => refused(Refusal::EnvelopeLine(fault, line)),
+        Checked::Refused(fault, line) => {
+            let offset = offset::of_fault(envelope, fault, line);
+            refused(Refusal::EnvelopeLine(fault, line, offset))
+        }
         Checked::Passed(count) => {
             downgrade_checked(
                 envelope,

@@ -79,7 +79,9 @@ fn fill_with(
     }
     Answer {
         number: 0,
+        input: 0,
         place: 0,
+        offset: 0,
         envelope_len: envelope::put(envelope_buffer, envelope, starts, count),
         header_len: put_header(header_buffer, mail, rcpt, header),
     }

@@ -5,7 +5,7 @@ ghost use Rattle.envelope.specs.Envelope.{faultNumber, orcptLine};
 ghost use Rattle.header_line.specs.Lines.{checkedLines};
 ghost use Rattle.outgoing_field.specs.Fate.{heldOf};
 ghost use Rattle.rules.specs.declared.Rules.the-variants.{Spool};
-ghost use Rattle.call.specs.Outcome.{numberOf, placeOf, firstOf, ofLines, ofOrcpt, ofHeld};
+ghost use Rattle.call.specs.Outcome.{numberOf, placeOf, offsetOf, inputOf, firstOf, ofLines, ofOrcpt, ofHeld};
 ghost use Rattle.call.specs.OutcomeLaws.{RefusedBy};
 use crate::Answer;
 use crate::Refusal;
@@ -33,10 +33,10 @@ fn number(refusal: Refusal) -> u32
     match refusal {
         Refusal::EnvelopeOver => 1,
         Refusal::HeaderOver => 1,
-        Refusal::EnvelopeLine(fault, line) => fault_number(fault),
-        Refusal::HeaderLine(line) => 5,
-        Refusal::OrcptLine(line) => 6,
-        Refusal::HeldLine(line) => 6,
+        Refusal::EnvelopeLine(fault, line, offset) => fault_number(fault),
+        Refusal::HeaderLine(line, offset) => 5,
+        Refusal::OrcptLine(line, offset) => 6,
+        Refusal::HeldLine(line, offset) => 6,
         Refusal::EnvelopeNeeds(size) => 7,
         Refusal::HeaderNeeds(size) => 8,
     }
@@ -48,12 +48,44 @@ fn place(refusal: Refusal) -> usize
     match refusal {
         Refusal::EnvelopeOver => 0,
         Refusal::HeaderOver => 1,
-        Refusal::EnvelopeLine(fault, line) => line,
-        Refusal::HeaderLine(line) => line,
-        Refusal::OrcptLine(line) => line,
-        Refusal::HeldLine(line) => line,
+        Refusal::EnvelopeLine(fault, line, offset) => line,
+        Refusal::HeaderLine(line, offset) => line,
+        Refusal::OrcptLine(line, offset) => line,
+        Refusal::HeldLine(line, offset) => line,
         Refusal::EnvelopeNeeds(size) => size,
         Refusal::HeaderNeeds(size) => size,
+    }
+}
+
+// The byte that it points to.
+fn offset(refusal: Refusal) -> usize
+    ensures { λ r. ⌜ r ≡ offsetOf refusal ⌝ }
+{
+    match refusal {
+        Refusal::EnvelopeOver => 0,
+        Refusal::HeaderOver => 0,
+        Refusal::EnvelopeLine(fault, line, offset) => offset,
+        Refusal::HeaderLine(line, offset) => offset,
+        Refusal::OrcptLine(line, offset) => offset,
+        Refusal::HeldLine(line, offset) => offset,
+        Refusal::EnvelopeNeeds(size) => 0,
+        Refusal::HeaderNeeds(size) => 0,
+    }
+}
+
+// Which input it is about.
+fn input(refusal: Refusal) -> u32
+    ensures { λ r. ⌜ r ≡ inputOf refusal ⌝ }
+{
+    match refusal {
+        Refusal::EnvelopeOver => 1,
+        Refusal::HeaderOver => 2,
+        Refusal::EnvelopeLine(fault, line, offset) => 1,
+        Refusal::HeaderLine(line, offset) => 2,
+        Refusal::OrcptLine(line, offset) => 1,
+        Refusal::HeldLine(line, offset) => 2,
+        Refusal::EnvelopeNeeds(size) => 1,
+        Refusal::HeaderNeeds(size) => 2,
     }
 }
 
@@ -63,7 +95,9 @@ pub(crate) fn refused(refusal: Refusal) -> Answer
 {
     Answer {
         number: number(refusal),
+        input: input(refusal),
         place: place(refusal),
+        offset: offset(refusal),
         envelope_len: 0,
         header_len: 0,
     }
@@ -71,30 +105,37 @@ pub(crate) fn refused(refusal: Refusal) -> Answer
 
 // A held field with non-ASCII.
 fn held(header: &[u8]) -> Verdict
-    ensures { λ r. ⌜ r ≡ firstOf (ofHeld (heldOf Spool (now (header .entry))) ∷ []) ⌝ }
+    ensures { λ r. ⌜ r ≡ firstOf (ofHeld (now (header .entry)) (heldOf Spool (now (header .entry))) ∷ []) ⌝ }
 {
     match outgoing_field::first_held(Rules::Spool, header) {
         HeldField::Absent => Verdict::Accept,
-        HeldField::At(line, at) => Verdict::Refuse(Refusal::HeldLine(line)),
+        HeldField::At(line, at) => {
+            Verdict::Refuse(Refusal::HeldLine(line, offset::of_field(header, at)))
+        }
     }
 }
 
 // Non-ASCII in an ORCPT, or else in a held field.
 fn non_ascii(envelope: &[u8], header: &[u8]) -> Verdict
-    ensures { λ r. ⌜ r ≡ firstOf (ofOrcpt (orcptLine (now (envelope .entry))) ∷ ofHeld (heldOf Spool (now (header .entry))) ∷ []) ⌝ }
+    ensures { λ r. ⌜ r ≡ firstOf (ofOrcpt (now (envelope .entry)) (orcptLine (now (envelope .entry))) ∷ ofHeld (now (header .entry)) (heldOf Spool (now (header .entry))) ∷ []) ⌝ }
 {
     match envelope::orcpt_line(envelope) {
         Orcpt::Clean => held(header),
-        Orcpt::At(line) => Verdict::Refuse(Refusal::OrcptLine(line)),
+        Orcpt::At(line) => {
+            Verdict::Refuse(Refusal::OrcptLine(line, offset::of_orcpt(envelope, line)))
+        }
     }
 }
 
 // A malformed header line, or else non-ASCII that cannot be passed on.
 pub(crate) fn of_content(envelope: &[u8], header: &[u8]) -> Verdict
-    ensures { λ r. ⌜ r ≡ firstOf (ofLines (checkedLines (now (header .entry))) ∷ ofOrcpt (orcptLine (now (envelope .entry))) ∷ ofHeld (heldOf Spool (now (header .entry))) ∷ []) ⌝ }
+    ensures { λ r. ⌜ r ≡ firstOf (ofLines (now (header .entry)) (checkedLines (now (header .entry))) ∷ ofOrcpt (now (envelope .entry)) (orcptLine (now (envelope .entry))) ∷ ofHeld (now (header .entry)) (heldOf Spool (now (header .entry))) ∷ []) ⌝ }
 {
     match header_line::check(header) {
         LineCheck::WellFormed => non_ascii(envelope, header),
-        LineCheck::Malformed(line, at) => Verdict::Refuse(Refusal::HeaderLine(line)),
+        LineCheck::Malformed(line, at) => {
+            let offset = offset::of_header_line(header, line, at);
+            Verdict::Refuse(Refusal::HeaderLine(line, offset))
+        }
     }
 }

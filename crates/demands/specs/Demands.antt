@@ -3,8 +3,8 @@
 -- and leaves. Assumes nothing.
 use mathlib.Core.Path.{_≡_}
 use mathlib.Core.List.{List, [], _∷_, _++_, map}
-use Prim.Native.Nat.{ℕ, _≤_, _<_}
-use lib.Dec.{T}
+use Prim.Native.Nat.{ℕ, _+_, _≤_, _<_}
+use lib.Dec.{T, eqb}
 use lib.ListN.{length, take, drop}
 use Rattle.lists.specs.Byte.{isAscii}
 use Rattle.lists.specs.Lists.{all, joined}
@@ -15,7 +15,7 @@ use Rattle.encoded_word.specs.Segments.Segment.{raw, words, labelled}
 use Rattle.envelope_line.specs.declared.Fault.the-variants.{Malformed, NoAlternative, BadAlternative}
 use Rattle.envelope.specs.declared.Checked.the-variants.{Passed, Refused}
 use Rattle.envelope.specs.declared.Orcpt.the-variants.{Clean, At}
-use Rattle.envelope.specs.Envelope.{checked, orcptLine, written}
+use Rattle.envelope.specs.Envelope.{lineText, checked, orcptLine, written}
 use Rattle.envelope.specs.EnvelopeDemand.{EnvelopeWritten}
 use Rattle.header_line.specs.declared.LineCheck.the-variants.{WellFormed, Malformed as MalformedLine}
 use Rattle.outgoing_field.specs.declared.HeldField.the-variants.{Absent, At as HeldAt}
@@ -23,6 +23,9 @@ use Rattle.header_line.specs.Lines.{checkedLines}
 use Rattle.header.specs.Fields.{fieldsOf, valueOf}
 use Rattle.rules.specs.declared.Rules.the-variants.{Spool}
 use Rattle.outgoing_field.specs.Fate.{fieldSegments, heldOf}
+use Rattle.envelope_stop.specs.EnvelopeStop.{LineStop as EnvelopeStop}
+use Rattle.header_stop.specs.HeaderStop.{LineStop as HeaderStop}
+use Rattle.offset.specs.Offset.{frontLine, lineStart, lineAt, pathByte, altValueByte, orcptOffset, fieldOffset}
 use Rattle.call.specs.OutgoingHeader.{newFields, outgoingSegments, outgoingHeader}
 use Rattle.call.specs.Outcome.{Outcome}
 
@@ -55,21 +58,24 @@ pub record Passes (e h : List ℕ) : Type 0 where
   pub orcpt : OrcptPasses e h
   pub held : heldOf Spool h ≡ Absent
 
--- The table "Answers by number": a number and a place, and when they are given, by the order of the refusals. Which fault a line of the
+-- The table "Answers by number": a number, the input that it is about (1 the envelope, 2 the header, 0 neither), a place and an offset,
+-- and when they are given, by the order of the refusals. `EnvelopeStop` and `HeaderStop`: "the first byte at which .. the line, its
+-- CRLF with it, stops being a beginning of any well-formed line at that number". Which fault a line of the
 -- envelope has is defined by scans. The same in the paper's words is `Answer`, in envelope_line/specs/LineGrammar; `answers` and
 -- `answer-exact`, in LineGrammarLaws there, prove that just its answers are given.
-pub data Given (e h b c : List ℕ) : ℕ → ℕ → Type 0 where
-  envelope-over : 16384 < length e → Given e h b c 1 0
-  header-over : length e ≤ 16384 → 32768 < length h → Given e h b c 1 1
-  envelope-malformed : {line : ℕ} → InLimits e h → checked e ≡ Refused Malformed line → Given e h b c 2 line
-  no-alternative : {line : ℕ} → InLimits e h → checked e ≡ Refused NoAlternative line → Given e h b c 3 line
-  bad-alternative : {line : ℕ} → InLimits e h → checked e ≡ Refused BadAlternative line → Given e h b c 4 line
-  header-malformed : {line at : ℕ} → EnvelopePasses e h → checkedLines h ≡ MalformedLine line at → Given e h b c 5 line
-  orcpt-non-ascii : {line : ℕ} → HeaderPasses e h → orcptLine e ≡ At line → Given e h b c 6 line
-  held-non-ascii : {line at : ℕ} → OrcptPasses e h → heldOf Spool h ≡ HeldAt line at → Given e h b c 6 line
-  envelope-longer : Passes e h → length b < length (written e) → Given e h b c 7 (length (written e))
-  header-longer : Passes e h → length (written e) ≤ length b → length c < length (outgoingHeader e h) → Given e h b c 8 (length (outgoingHeader e h))
-  none-holds : Passes e h → length (written e) ≤ length b → length (outgoingHeader e h) ≤ length c → Given e h b c 0 0
+pub data Given (e h b c : List ℕ) : ℕ → ℕ → ℕ → ℕ → Type 0 where
+  envelope-over : 16384 < length e → Given e h b c 1 1 0 0
+  header-over : length e ≤ 16384 → 32768 < length h → Given e h b c 1 2 1 0
+  envelope-malformed : {line n : ℕ} → InLimits e h → checked e ≡ Refused Malformed line → EnvelopeStop line (lineAt line e) n → Given e h b c 2 1 line (lineStart line e + n)
+  no-alternative : {line : ℕ} → InLimits e h → checked e ≡ Refused NoAlternative line → Given e h b c 3 1 line (lineStart line e + pathByte (eqb line 0) (lineText (lineAt line e)))
+  bad-alternative : {line : ℕ} → InLimits e h → checked e ≡ Refused BadAlternative line → Given e h b c 4 1 line (lineStart line e + altValueByte (eqb line 0) (lineText (lineAt line e)))
+  header-malformed : {line at n : ℕ} → EnvelopePasses e h → checkedLines h ≡ MalformedLine line at → HeaderStop (eqb line 0) (frontLine (drop at h)) n
+      → Given e h b c 5 2 line (at + n)
+  orcpt-non-ascii : {line : ℕ} → HeaderPasses e h → orcptLine e ≡ At line → Given e h b c 6 1 line (orcptOffset e line)
+  held-non-ascii : {line at : ℕ} → OrcptPasses e h → heldOf Spool h ≡ HeldAt line at → Given e h b c 6 2 line (fieldOffset h at)
+  envelope-longer : Passes e h → length b < length (written e) → Given e h b c 7 1 (length (written e)) 0
+  header-longer : Passes e h → length (written e) ≤ length b → length c < length (outgoingHeader e h) → Given e h b c 8 2 (length (outgoingHeader e h)) 0
+  none-holds : Passes e h → length (written e) ≤ length b → length (outgoingHeader e h) ≤ length c → Given e h b c 0 0 0 0
 
 -- "A refusal changes no byte of either buffer and gives both lengths as 0."
 pub record Untouched (b c : List ℕ) (o : Outcome) : Type 0 where
@@ -86,9 +92,9 @@ pub record KeptPast (len : ℕ) (before after : List ℕ) : Type 0 where
 
 pub record Demand1 (e h b c : List ℕ) (o : Outcome) : Type 0 where
   -- every input has an answer, and the condition of that answer holds;
-  pub answered : Given e h b c (o .number) (o .place)
+  pub answered : Given e h b c (o .number) (o .input) (o .place) (o .offset)
   -- a condition holds for that answer alone
-  pub exact : (number place : ℕ) → Given e h b c number place → (number ≡ o .number) × (place ≡ o .place)
+  pub exact : (number input place offset : ℕ) → Given e h b c number input place offset → (number ≡ o .number) × (input ≡ o .input) × (place ≡ o .place) × (offset ≡ o .offset)
   pub refusal : (o .number ≡ 0 → ⊥) → Untouched b c o
   pub success : o .number ≡ 0 → KeptPast (o .envelopeLen) b (o .envelopeBuffer) × KeptPast (o .headerLen) c (o .headerBuffer)
 

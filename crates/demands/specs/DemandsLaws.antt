@@ -4,7 +4,7 @@ use mathlib.Core.Bool.{true}
 use mathlib.Core.List.{List, [], _∷_, _++_, append-assoc, map, List·Memᴰ, List·Memᴰ·head, List·Memᴰ·tail}
 use Prim.Native.Nat.{ℕ, zero, suc, _+_, _≤_}
 use native.Mathlib.Omega.{arith}
-use lib.Dec.{T, ltb}
+use lib.Dec.{T, eqb, ltb}
 use lib.ListN.{length, take, drop}
 use mir.Facts.{ltb-yes, ltb-no, yes-and}
 use Rattle.lists.specs.Byte.{isAscii}
@@ -45,7 +45,11 @@ use Rattle.call.specs.declared.Refusal.the-variants.{EnvelopeOver, HeaderOver, 
 use Rattle.call.specs.declared.Verdict.{Verdict}
 use Rattle.call.specs.declared.Verdict.the-variants.{Accept, Refuse}
 use Rattle.call.specs.OutgoingHeader.{newField, newFields, outgoingSegments, outgoingHeader}
-use Rattle.call.specs.Outcome.{numberOf, placeOf, ofEnvelope, ofLines, ofOrcpt, ofHeld, firstOf, verdict, Outcome, outcomeOf, outcome}
+use Rattle.line_stop.specs.FirstBadLaws.{first-once}
+use Rattle.envelope_stop.specs.EnvelopeStopLaws.{line-stop as envelope-stop}
+use Rattle.header_stop.specs.HeaderStopLaws.{line-stop as header-stop}
+use Rattle.offset.specs.Offset.{frontLine, lineStart, lineAt, faultByte, faultOffset, headerLineOffset}
+use Rattle.call.specs.Outcome.{numberOf, inputOf, placeOf, offsetOf, ofEnvelope, ofLines, ofOrcpt, ofHeld, firstOf, verdict, Outcome, outcomeOf, outcome}
 use Rattle.call.specs.OutputLaws.{over-yes, over-no}
 use Rattle.demands.specs.Demands.{InLimits, EnvelopePasses, HeaderPasses, OrcptPasses, Passes, Given, Untouched, KeptPast, Demand1, became, Demand2, DemandThree, Demands}
 use Rattle.demands.specs.Demands.Given.{envelope-over, header-over, envelope-malformed, no-alternative, bad-alternative, header-malformed, orcpt-non-ascii, held-non-ascii, envelope-longer, header-longer, none-holds}
@@ -57,46 +61,52 @@ module _ (e h b c : List ℕ) where
   o = outcome e h b c
 
   -- the answer of a verdict
-  abbrev Answers : Verdict → ℕ → ℕ → Type 0
-  Answers v number place = (number ≡ outcomeOf v e h b c .number) × (place ≡ outcomeOf v e h b c .place)
+  abbrev Answers : Verdict → ℕ → ℕ → ℕ → ℕ → Type 0
+  Answers v number input place offset =
+      (number ≡ outcomeOf v e h b c .number) × (input ≡ outcomeOf v e h b c .input) × (place ≡ outcomeOf v e h b c .place) × (offset ≡ outcomeOf v e h b c .offset)
 
   -- each condition gives its verdict
-  exactly : (number place : ℕ) → Given e h b c number place → Answers (verdict e h (length b) (length c)) number place
-  unfolding verdict firstOf outcomeOf numberOf placeOf faultNumber ofEnvelope ofLines ofOrcpt ofHeld
-  exactly number place (envelope-over k) = rw (over-yes 16384 (length e) EnvelopeOver k) (refl, refl)
-  exactly number place (header-over k l) = rw (over-no 16384 (length e) EnvelopeOver k, over-yes 32768 (length h) HeaderOver l) (refl, refl)
-  exactly number place (envelope-malformed s k) = rw (over-no 16384 (length e) EnvelopeOver (s .envelope), over-no 32768 (length h) HeaderOver (s .header), k) (refl, refl)
-  exactly number place (no-alternative s k) = rw (over-no 16384 (length e) EnvelopeOver (s .envelope), over-no 32768 (length h) HeaderOver (s .header), k) (refl, refl)
-  exactly number place (bad-alternative s k) = rw (over-no 16384 (length e) EnvelopeOver (s .envelope), over-no 32768 (length h) HeaderOver (s .header), k) (refl, refl)
-  exactly number place (header-malformed p k) =
-      rw (over-no 16384 (length e) EnvelopeOver (p .limits .envelope), over-no 32768 (length h) HeaderOver (p .limits .header), p .lines, k) (refl, refl)
-  exactly number place (orcpt-non-ascii p k) =
+  exactly : (number input place offset : ℕ) → Given e h b c number input place offset → Answers (verdict e h (length b) (length c)) number input place offset
+  unfolding verdict firstOf outcomeOf numberOf inputOf placeOf offsetOf faultNumber faultOffset faultByte headerLineOffset ofEnvelope ofLines ofOrcpt ofHeld
+  exactly number input place offset (envelope-over k) = rw (over-yes 16384 (length e) EnvelopeOver k) (refl, refl, refl, refl)
+  exactly number input place offset (header-over k l) = rw (over-no 16384 (length e) EnvelopeOver k, over-yes 32768 (length h) HeaderOver l) (refl, refl, refl, refl)
+  exactly number input place offset (envelope-malformed {line} {n} s k f) =
+      rw (over-no 16384 (length e) EnvelopeOver (s .envelope), over-no 32768 (length h) HeaderOver (s .header), k)
+      (refl, refl, refl, ap (λ (m : ℕ). lineStart line e + m) (first-once f (envelope-stop line (lineAt line e))))
+  exactly number input place offset (no-alternative s k) = rw (over-no 16384 (length e) EnvelopeOver (s .envelope), over-no 32768 (length h) HeaderOver (s .header), k) (refl, refl, refl, refl)
+  exactly number input place offset (bad-alternative s k) = rw (over-no 16384 (length e) EnvelopeOver (s .envelope), over-no 32768 (length h) HeaderOver (s .header), k) (refl, refl, refl, refl)
+  exactly number input place offset (header-malformed {line} {at} {n} p k f) =
+      rw (over-no 16384 (length e) EnvelopeOver (p .limits .envelope), over-no 32768 (length h) HeaderOver (p .limits .header), p .lines, k)
+      (refl, refl, refl, ap (λ (m : ℕ). at + m) (first-once f (header-stop (eqb line 0) (frontLine (drop at h)))))
+  exactly number input place offset (orcpt-non-ascii p k) =
       let s = p .envelope .limits in
-      rw (over-no 16384 (length e) EnvelopeOver (s .envelope), over-no 32768 (length h) HeaderOver (s .header), p .envelope .lines, p .lines, k) (refl, refl)
-  exactly number place (held-non-ascii p k) =
+      rw (over-no 16384 (length e) EnvelopeOver (s .envelope), over-no 32768 (length h) HeaderOver (s .header), p .envelope .lines, p .lines, k) (refl, refl, refl, refl)
+  exactly number input place offset (held-non-ascii p k) =
       let s = p .header .envelope .limits in
-      rw (over-no 16384 (length e) EnvelopeOver (s .envelope), over-no 32768 (length h) HeaderOver (s .header), p .header .envelope .lines, p .header .lines, p .orcpt, k) (refl, refl)
-  exactly number place (envelope-longer p k) =
+      rw (over-no 16384 (length e) EnvelopeOver (s .envelope), over-no 32768 (length h) HeaderOver (s .header), p .header .envelope .lines, p .header .lines, p .orcpt, k) (refl, refl, refl, refl)
+  exactly number input place offset (envelope-longer p k) =
       let q = p .orcpt .header in
       let s = q .envelope .limits in
-      rw (over-no 16384 (length e) EnvelopeOver (s .envelope), over-no 32768 (length h) HeaderOver (s .header), q .envelope .lines, q .lines, p .orcpt .orcpt, p .held, over-yes (length b) (length (written e)) (EnvelopeNeeds (length (written e))) k) (refl, refl)
-  exactly number place (header-longer p k l) =
+      rw (over-no 16384 (length e) EnvelopeOver (s .envelope), over-no 32768 (length h) HeaderOver (s .header), q .envelope .lines, q .lines, p .orcpt .orcpt, p .held, over-yes (length b) (length (written e)) (EnvelopeNeeds (length (written e))) k) (refl, refl, refl, refl)
+  exactly number input place offset (header-longer p k l) =
       let q = p .orcpt .header in
       let s = q .envelope .limits in
-      rw (over-no 16384 (length e) EnvelopeOver (s .envelope), over-no 32768 (length h) HeaderOver (s .header), q .envelope .lines, q .lines, p .orcpt .orcpt, p .held, over-no (length b) (length (written e)) (EnvelopeNeeds (length (written e))) k, over-yes (length c) (length (outgoingHeader e h)) (HeaderNeeds (length (outgoingHeader e h))) l) (refl, refl)
-  exactly number place (none-holds p k l) =
+      rw (over-no 16384 (length e) EnvelopeOver (s .envelope), over-no 32768 (length h) HeaderOver (s .header), q .envelope .lines, q .lines, p .orcpt .orcpt, p .held, over-no (length b) (length (written e)) (EnvelopeNeeds (length (written e))) k, over-yes (length c) (length (outgoingHeader e h)) (HeaderNeeds (length (outgoingHeader e h))) l) (refl, refl, refl, refl)
+  exactly number input place offset (none-holds p k l) =
       let q = p .orcpt .header in
       let s = q .envelope .limits in
-      rw (over-no 16384 (length e) EnvelopeOver (s .envelope), over-no 32768 (length h) HeaderOver (s .header), q .envelope .lines, q .lines, p .orcpt .orcpt, p .held, over-no (length b) (length (written e)) (EnvelopeNeeds (length (written e))) k, over-no (length c) (length (outgoingHeader e h)) (HeaderNeeds (length (outgoingHeader e h))) l) (refl, refl)
+      rw (over-no 16384 (length e) EnvelopeOver (s .envelope), over-no 32768 (length h) HeaderOver (s .header), q .envelope .lines, q .lines, p .orcpt .orcpt, p .held, over-no (length b) (length (written e)) (EnvelopeNeeds (length (written e))) k, over-no (length c) (length (outgoingHeader e h)) (HeaderNeeds (length (outgoingHeader e h))) l) (refl, refl, refl, refl)
 
   -- some condition holds
   record Some : Type 0 where
     pub number : ℕ
+    pub input : ℕ
     pub place : ℕ
-    pub given : Given e h b c number place
+    pub offset : ℕ
+    pub given : Given e h b c number input place offset
 
-  found : {number place : ℕ} → Given e h b c number place → Some
-  found {number} {place} g = record { number = number; place = place; given = g }
+  found : {number input place offset : ℕ} → Given e h b c number input place offset → Some
+  found {number} {input} {place} {offset} g = record { number = number; input = input; place = place; offset = offset; given = g }
 
   some-room : Passes e h → Some
   some-room p =
@@ -117,11 +127,11 @@ module _ (e h b c : List ℕ) where
 
   some-header : EnvelopePasses e h → (found : LineCheck) → checkedLines h ≡ found → Some
   some-header p WellFormed k = some-orcpt (record { envelope = p; lines = k }) (orcptLine e) refl
-  some-header p (MalformedLine line at) k = found (header-malformed p k)
+  some-header p (MalformedLine line at) k = found (header-malformed p k (header-stop (eqb line 0) (frontLine (drop at h))))
 
   some-fault : InLimits e h → (fault : Fault) (line : ℕ) → checked e ≡ Refused fault line → Some
   some-fault s Fine line k = absurd (checked-not-fine e line k)
-  some-fault s Malformed line k = found (envelope-malformed s k)
+  some-fault s Malformed line k = found (envelope-malformed s k (envelope-stop line (lineAt line e)))
   some-fault s NoAlternative line k = found (no-alternative s k)
   some-fault s BadAlternative line k = found (bad-alternative s k)
 
@@ -136,12 +146,12 @@ module _ (e h b c : List ℕ) where
       by-test (ltb 32768 (length h)) (λ u. found (header-over k (ltb-yes {a = 32768} {b = length h} u)))
       (λ u. some-envelope (record { envelope = k; header = ltb-no {a = 32768} {b = length h} u }) (checked e) refl))
 
-  given-exact : (number place : ℕ) → Given e h b c number place → (number ≡ o .number) × (place ≡ o .place)
+  given-exact : (number input place offset : ℕ) → Given e h b c number input place offset → (number ≡ o .number) × (input ≡ o .input) × (place ≡ o .place) × (offset ≡ o .offset)
   unfolding outcome
-  given-exact number place g = exactly number place g
+  given-exact number input place offset g = exactly number input place offset g
 
-  given-answered : Given e h b c (o .number) (o .place)
-  given-answered = let q = given-exact (some .number) (some .place) (some .given) in rw (← q .0, ← q .1) (some .given)
+  given-answered : Given e h b c (o .number) (o .input) (o .place) (o .offset)
+  given-answered = let q = given-exact (some .number) (some .input) (some .place) (some .offset) (some .given) in rw (← q .0, ← q .1, ← q .2, ← q .3) (some .given)
 
   -- a refusal has a number from 1 on
   refusal-untouched : (v : Verdict) → (outcomeOf v e h b c .number ≡ 0 → ⊥) → Untouched b c (outcomeOf v e h b c)
@@ -155,18 +165,18 @@ module _ (e h b c : List ℕ) where
     pub envelope-fits : length (written e) ≤ length b
     pub header-fits : length (outgoingHeader e h) ≤ length c
 
-  taken : (number place : ℕ) → Given e h b c number place → number ≡ 0 → Taken
-  taken number place (envelope-over k) z = absurd (omega arith)
-  taken number place (header-over k l) z = absurd (omega arith)
-  taken number place (envelope-malformed s k) z = absurd (omega arith)
-  taken number place (no-alternative s k) z = absurd (omega arith)
-  taken number place (bad-alternative s k) z = absurd (omega arith)
-  taken number place (header-malformed p k) z = absurd (omega arith)
-  taken number place (orcpt-non-ascii p k) z = absurd (omega arith)
-  taken number place (held-non-ascii p k) z = absurd (omega arith)
-  taken number place (envelope-longer p k) z = absurd (omega arith)
-  taken number place (header-longer p k l) z = absurd (omega arith)
-  taken number place (none-holds p k l) z = record { passes = p; envelope-fits = k; header-fits = l }
+  taken : (number input place offset : ℕ) → Given e h b c number input place offset → number ≡ 0 → Taken
+  taken number input place offset (envelope-over k) z = absurd (omega arith)
+  taken number input place offset (header-over k l) z = absurd (omega arith)
+  taken number input place offset (envelope-malformed s k f) z = absurd (omega arith)
+  taken number input place offset (no-alternative s k) z = absurd (omega arith)
+  taken number input place offset (bad-alternative s k) z = absurd (omega arith)
+  taken number input place offset (header-malformed p k f) z = absurd (omega arith)
+  taken number input place offset (orcpt-non-ascii p k) z = absurd (omega arith)
+  taken number input place offset (held-non-ascii p k) z = absurd (omega arith)
+  taken number input place offset (envelope-longer p k) z = absurd (omega arith)
+  taken number input place offset (header-longer p k l) z = absurd (omega arith)
+  taken number input place offset (none-holds p k l) z = record { passes = p; envelope-fits = k; header-fits = l }
 
   module _ (t : Taken) where
     accepted : verdict e h (length b) (length c) ≡ Accept
@@ -195,7 +205,7 @@ module _ (e h b c : List ℕ) where
     answered = given-answered;
     exact = given-exact;
     refusal = refusal-untouched (verdict e h (length b) (length c));
-    success = λ z. success-kept (taken (o .number) (o .place) given-answered z);
+    success = λ z. success-kept (taken (o .number) (o .input) (o .place) (o .offset) given-answered z);
   }
 
 -- ---- demands 2 and 3
@@ -286,7 +296,7 @@ demands e h b c = record {
 }
   where
     after-zero : outcome e h b c .number ≡ 0 → Taken e h b c
-    after-zero z = taken e h b c (outcome e h b c .number) (outcome e h b c .place) (given-answered e h b c) z
+    after-zero z = taken e h b c (outcome e h b c .number) (outcome e h b c .input) (outcome e h b c .place) (outcome e h b c .offset) (given-answered e h b c) z
 
 -- what equals the outcome meets them
 pub met : {e h b c : List ℕ} {o : Outcome} → o ≡ outcome e h b c → Demands e h b c o

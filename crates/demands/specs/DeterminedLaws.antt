@@ -12,16 +12,16 @@ use Rattle.call.specs.Outcome.{Outcome, outcome}
 use Rattle.demands.specs.Demands.{Given, Untouched, KeptPast, Demand1, Demand2, Demands}
 use Rattle.demands.specs.DemandsLaws.{demands}
 
-same-outcome : {o p : Outcome} → o .number ≡ p .number → o .place ≡ p .place → o .envelopeLen ≡ p .envelopeLen → o .headerLen ≡ p .headerLen
+same-outcome : {o p : Outcome} → o .number ≡ p .number → o .input ≡ p .input → o .place ≡ p .place → o .offset ≡ p .offset → o .envelopeLen ≡ p .envelopeLen → o .headerLen ≡ p .headerLen
     → o .envelopeBuffer ≡ p .envelopeBuffer → o .headerBuffer ≡ p .headerBuffer → o ≡ p
-same-outcome {o} {p} a b c d e f = same
+same-outcome {o} {p} a i b k c d e f = same
   where
-    made : ℕ → ℕ → ℕ → ℕ → List ℕ → List ℕ → Outcome
-    made n q l m x y = record { number = n; place = q; envelopeLen = l; headerLen = m; envelopeBuffer = x; headerBuffer = y }
+    made : ℕ → ℕ → ℕ → ℕ → ℕ → ℕ → List ℕ → List ℕ → Outcome
+    made n i q k l m x y = record { number = n; input = i; place = q; offset = k; envelopeLen = l; headerLen = m; envelopeBuffer = x; headerBuffer = y }
 
-    same : made (o .number) (o .place) (o .envelopeLen) (o .headerLen) (o .envelopeBuffer) (o .headerBuffer)
-        ≡ made (p .number) (p .place) (p .envelopeLen) (p .headerLen) (p .envelopeBuffer) (p .headerBuffer)
-    same = rw (a, b, c, d, e, f)
+    same : made (o .number) (o .input) (o .place) (o .offset) (o .envelopeLen) (o .headerLen) (o .envelopeBuffer) (o .headerBuffer)
+        ≡ made (p .number) (p .input) (p .place) (p .offset) (p .envelopeLen) (p .headerLen) (p .envelopeBuffer) (p .headerBuffer)
+    same = rw (a, i, b, k, c, d, e, f)
 
 -- a buffer is what was written and what stayed
 same-buffer : (text before after : List ℕ) (len : ℕ) → take len after ≡ text → KeptPast len before after → after ≡ text ++ drop len before
@@ -31,8 +31,8 @@ module _ (e h b c : List ℕ) (o : Outcome) (d : Demands e h b c o) where
   meets : Demands e h b c (outcome e h b c)
   meets = demands e h b c
 
-  numbers : (o .number ≡ outcome e h b c .number) × (o .place ≡ outcome e h b c .place)
-  numbers = meets .demand-1 .exact (o .number) (o .place) (d .demand-1 .answered)
+  numbers : (o .number ≡ outcome e h b c .number) × (o .input ≡ outcome e h b c .input) × (o .place ≡ outcome e h b c .place) × (o .offset ≡ outcome e h b c .offset)
+  numbers = meets .demand-1 .exact (o .number) (o .input) (o .place) (o .offset) (d .demand-1 .answered)
 
   after-zero : o .number ≡ 0 → o ≡ outcome e h b c
   after-zero z =
@@ -44,7 +44,7 @@ module _ (e h b c : List ℕ) (o : Outcome) (d : Demands e h b c o) where
       let stayed = meets .demand-1 .success y in
       let len₁ : o .envelopeLen ≡ p .envelopeLen = mine .envelope-len ∙ sym (theirs .envelope-len) in
       let len₂ : o .headerLen ≡ p .headerLen = mine .header-len ∙ sym (theirs .header-len) in
-      same-outcome (numbers .0) (numbers .1) len₁ len₂
+      same-outcome (numbers .0) (numbers .1) (numbers .2) (numbers .3) len₁ len₂
       (same-buffer _ b _ _ (mine .envelope) (kept .0) ∙ rw len₁ (sym (same-buffer _ b _ _ (theirs .envelope) (stayed .0))))
       (same-buffer _ c _ _ (mine .header) (kept .1) ∙ rw len₂ (sym (same-buffer _ c _ _ (theirs .header) (stayed .1))))
 
@@ -52,7 +52,7 @@ module _ (e h b c : List ℕ) (o : Outcome) (d : Demands e h b c o) where
   after-refusal z =
       let mine = d .demand-1 .refusal z in
       let theirs = meets .demand-1 .refusal (λ y. z (numbers .0 ∙ y)) in
-      same-outcome (numbers .0) (numbers .1)
+      same-outcome (numbers .0) (numbers .1) (numbers .2) (numbers .3)
       (mine .envelope-len ∙ sym (theirs .envelope-len))
       (mine .header-len ∙ sym (theirs .header-len))
       (mine .envelope-buffer ∙ sym (theirs .envelope-buffer))

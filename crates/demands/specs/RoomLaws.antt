@@ -9,13 +9,13 @@ use Rattle.demands.specs.Demands.{Passes, Given}
 use Rattle.demands.specs.Demands.Given.{envelope-over, header-over, envelope-malformed, no-alternative, bad-alternative, header-malformed, orcpt-non-ascii, held-non-ascii, envelope-longer, header-longer, none-holds}
 
 -- With room for 30 bytes for each byte of the header, and 20,600 more, the answer 8 is never given.
-pub never-eight : (e h b c : List ℕ) → 30 * length h + 20600 ≤ length c → {number place : ℕ} → Given e h b c number place → number ≡ 8 → ⊥
+pub never-eight : (e h b c : List ℕ) → 30 * length h + 20600 ≤ length c → {number input place offset : ℕ} → Given e h b c number input place offset → number ≡ 8 → ⊥
 never-eight e h b c k (envelope-over x) z = omega arith
 never-eight e h b c k (header-over x y) z = omega arith
-never-eight e h b c k (envelope-malformed x y) z = omega arith
+never-eight e h b c k (envelope-malformed x y w) z = omega arith
 never-eight e h b c k (no-alternative x y) z = omega arith
 never-eight e h b c k (bad-alternative x y) z = omega arith
-never-eight e h b c k (header-malformed x y) z = omega arith
+never-eight e h b c k (header-malformed x y w) z = omega arith
 never-eight e h b c k (orcpt-non-ascii x y) z = omega arith
 never-eight e h b c k (held-non-ascii x y) z = omega arith
 never-eight e h b c k (envelope-longer x y) z = omega arith

@@ -8,6 +8,8 @@ pub use faults::line_fault;
 pub use orcpt::orcpt_fault;
 pub use output::add_line;
 pub use output::add_replacement;
+pub use path::path_start;
+pub use path::tail_start;
 
 // The fault of a line. Fine: none. Malformed: refusal 2. NoAlternative: 3. BadAlternative: 4.
 pub enum Fault {

@@ -9,7 +9,7 @@ use letter_case::same_any_case;
 use line::part;
 
 // Where the path starts.
-pub(crate) fn path_start(mail: bool) -> usize
+pub fn path_start(mail: bool) -> usize
     ensures { λ r. ⌜ r ≡ verbLen mail ⌝ }
 {
     if mail { 11 } else { 9 }
@@ -52,7 +52,7 @@ pub(crate) fn path_end(line: &[u8], mail: bool) -> usize
 }
 
 // Where what follows the path and its `>` starts.
-pub(crate) fn tail_start(line: &[u8], mail: bool) -> usize
+pub fn tail_start(line: &[u8], mail: bool) -> usize
     ensures { λ r. ⌜ drop r (now (line .entry)) ≡ tail mail (now (line .entry)) ⌝ }
 {
     buffer::place_after(path_end(line, mail), 1)

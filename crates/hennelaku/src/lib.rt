@@ -1,9 +1,10 @@
 // The library's exported calls, for C and for Rust.
 ghost use mathlib.Core.Path.{_≡_};
 ghost use Rattle.call.specs.Outcome.{observed, outcome};
+ghost use Rattle.hennelaku.specs.Version.{version};
 use call::Answer;
 
-// Downgrades an envelope and a header into two buffers, or refuses them by number and place.
+// Downgrades an envelope and a header into two buffers, or refuses them by number, place and offset.
 #[no_mangle]
 pub extern "C" fn hennelaku_downgrade_slices(
     envelope: &[u8],
@@ -14,4 +15,12 @@ pub extern "C" fn hennelaku_downgrade_slices(
     ensures { λ r. ⌜ observed r (now («envelope_buffer» .exit)) (now («header_buffer» .exit)) ≡ outcome (now (envelope .entry)) (now (header .entry)) (now («envelope_buffer» .entry)) (now («header_buffer» .entry)) ⌝ }
 {
     call::downgrade(envelope, header, envelope_buffer, header_buffer)
+}
+
+// The version of the library.
+#[no_mangle]
+pub extern "C" fn hennelaku_version() -> u32
+    ensures { λ r. ⌜ r ≡ version ⌝ }
+{
+    200
 }

@@ -16,7 +16,7 @@ pub fn char_len(b: u8) -> usize
 }
 
 // The least and the greatest second byte after the first byte a.
-fn second_low(a: u8) -> u8
+pub fn second_low(a: u8) -> u8
     ensures { λ r. ⌜ r ≡ secondLow a ⌝ }
 {
     if a == 224 {
@@ -28,7 +28,7 @@ fn second_low(a: u8) -> u8
     128
 }
 
-fn second_high(a: u8) -> u8
+pub fn second_high(a: u8) -> u8
     ensures { λ r. ⌜ r ≡ secondHigh a ⌝ }
 {
     if a == 237 {

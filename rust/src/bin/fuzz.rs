@@ -3,6 +3,7 @@
 //!     fuzz [--seed N] [--count N] [--seconds N]
 
 use hennelaku_model::address_list::Parts;
+use hennelaku_model::call::{ENVELOPE, HEADER, NEITHER};
 use hennelaku_model::comment::{self, Part};
 use hennelaku_model::generate::{self, Random};
 use hennelaku_model::header::{kind, next_non_ascii, Field, Kind};
@@ -65,6 +66,20 @@ fn fault(input: &Input, got: &Outcome, salt: u8) -> Option<String> {
     }
     if a.number == 0 && a.place != 0 {
         return Some("a place after 0".into());
+    }
+    let (about, end) = match (a.number, a.input) {
+        (0, _) => (NEITHER, 0),
+        (1, _) => (if a.place == 0 { ENVELOPE } else { HEADER }, 0),
+        (7, _) => (ENVELOPE, 0),
+        (8, _) => (HEADER, 0),
+        (5, _) | (6, HEADER) => (HEADER, input.header.len()),
+        _ => (ENVELOPE, input.envelope.len()),
+    };
+    if a.input != about {
+        return Some(format!("about input {} and not {about}", a.input));
+    }
+    if a.offset > end {
+        return Some(format!("an offset past {end}"));
     }
     if a.envelope_len > input.envelope_room || a.header_len > input.header_room {
         return Some("a length past the room".into());
@@ -161,7 +176,8 @@ fn look(met: &mut Met, input: &Input, got: &Outcome) {
     met.count("envelope line of 999", lines(&input.envelope, 999) && number == 2);
     met.count("header line of 998", lines(&input.header, 998) && matches!(number, 0 | 6..=8));
     met.count("header line of 999", lines(&input.header, 999) && number == 5);
-    met.count("6 for an ORCPT", number == 6 && has(&input.envelope.to_ascii_uppercase(), b"ORCPT=UTF-8"));
+    met.count("6 for an ORCPT", number == 6 && got.answer.input == ENVELOPE);
+    met.count("6 for a field", number == 6 && got.answer.input == HEADER);
     met.count("6 for a field with a comment", number == 6 && held_beside_a_comment(&input.header));
     if number != 0 {
         return;
@@ -380,12 +396,14 @@ fn main() {
     let mut scratch = (vec![0; 17_000], vec![0; 700_000]);
     let mut numbers = [0; 9];
     let mut met = Met::default();
+    let mut line_faults = hennelaku_model::line_faults::LineFaults::default();
     let mut done = 0;
     while done < count && seconds.is_none_or(|limit| start.elapsed() < limit) {
         let input = next_input(&mut r, &mut scratch);
         let got = compare(&input, r.next() as u8, &format!("seed {seed}, input {done}"));
         numbers[got.answer.number as usize] += 1;
         look(&mut met, &input, &got);
+        line_faults.count(&input.envelope, &input.header, got.answer);
         done += 1;
     }
     for (number, count) in numbers.iter().enumerate() {
@@ -394,5 +412,6 @@ fn main() {
     for (rule, count) in &met.counts {
         println!("{rule}: {count}");
     }
+    print!("{line_faults}");
     println!("{done} inputs, 0 differences");
 }

@@ -1,0 +1,2 @@
+pub mod EnvelopeStop
+pub mod EnvelopeStopLaws

@@ -1,0 +1,2 @@
+pub mod HeaderStop
+pub mod HeaderStopLaws

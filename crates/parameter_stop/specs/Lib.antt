@@ -1,0 +1,2 @@
+pub mod ParameterStop
+pub mod ParameterStopLaws

@@ -1,0 +1,19 @@
+use Rattle.path_stop.specs.PathStop.{localStep}
+use borrow.Author.Tests.{eq-eqb, ne-eqb}
+use borrow.Author.Needs.{needs}
+use Rattle.path_stop.proofs.local_step.Statement.{statement}
+use Rattle.path_stop.proofs.local_step.Tie as tie
+
+returns : tie.Need-returns
+unfolding localStep
+returns c = rw (eq-eqb _ _ (c .if1 .taken))
+
+atoms-step-requires : tie.Need-atoms-step-requires
+atoms-step-requires c κs = search needs
+
+returns-2 : tie.Need-returns-2
+unfolding localStep
+returns-2 c = rw (ne-eqb _ _ (c .before .if1 .left)) (c .atoms-step .ensures)
+
+pub local-step-spec : {M : Type 1} → statement M
+local-step-spec = tie.close (tie.spec returns atoms-step-requires returns-2)

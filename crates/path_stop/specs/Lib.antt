@@ -1,0 +1,3 @@
+pub mod PathStop
+pub mod PathStopLaws
+pub mod PathNeedLaws
