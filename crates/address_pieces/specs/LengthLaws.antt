@@ -1,15 +1,16 @@
 -- How long a rewritten address field can be. Assumes nothing.
 use mathlib.Core.Path.{ap}
-use mathlib.Core.Bool.{Bool, true, false, cond}
+use mathlib.Core.Bool.{Bool, true, false, cond, not, _&&_}
 use mathlib.Core.List.{List, [], _∷_, map}
 use Prim.Native.Nat.{ℕ, zero, suc, pred, _+_, _-_, _*_, _≤_, _<_, zero-le}
 use native.Mathlib.Omega.{arith}
 use native.Mathlib.Nat.{not-suc-le-zero}
-use lib.Dec.{leb}
+use lib.Dec.{T, leb}
+use mir.Facts.{and-yes}
 use lib.ListN.{length, take, drop, length-drop, length-take, length-append}
 use Rattle.lists.specs.Byte.{isAscii}
 use Rattle.lists.specs.Lists.{all}
-use Rattle.lists.specs.ListsLaws.{cond-has}
+use Rattle.lists.specs.ListsLaws.{by-test, no-false, cond-has}
 use Rattle.lists.specs.Run.{run}
 use Rattle.line.specs.Line.{blank}
 use Rattle.letter_case.specs.LetterCase.{bytes}
@@ -31,7 +32,7 @@ use Rattle.phrase.specs.Phrase.{wordSize, wordsFrom, phraseWords, phraseText}
 use Rattle.phrase.specs.PhraseLaws.{word-size-some, length-phrase-text}
 use Rattle.comment.specs.Comment.{commentLen}
 use Rattle.piece.specs.CommentPiecesLaws.{comment-le}
-use Rattle.address_list.specs.Parts.{partAt, partsFrom, partsOf}
+use Rattle.address_list.specs.Parts.{Part, partAt, partsFrom, partsOf}
 use Rattle.address_list.specs.PartCasesLaws.{part-has}
 use Rattle.address_list.specs.declared.Front.{Front}
 use Rattle.address_list.specs.Table.{examined}
@@ -39,8 +40,11 @@ use Rattle.address_list.specs.declared.Examined.{Examined}
 use Rattle.address_list.specs.declared.Examined.the-variants.{DoesNotFit, Kept, Changed}
 use Rattle.address_list.specs.declared.PartKind.{PartKind}
 use Rattle.address_list.specs.declared.PartKind.the-variants.{Blank, Comment, Comma, Colon, Semicolon, Phrase, Address, Angled, Alternative, Stray}
+use Rattle.group.specs.Group.{isColon, isSemicolon, isLost, inside, anyLost, textOf, trimmed, Turn, turnsFrom, turnsOf}
+use Rattle.group.specs.GroupLaws.{Each, each-inside}
+use Rattle.group.specs.TrimmedLaws.{trimmed-le}
 use Rattle.piece.specs.Piece.{piece}
-use Rattle.address_pieces.specs.Pieces.{phrasePieces, removed, inAngles, addressPieces, pieces, piecesOf}
+use Rattle.address_pieces.specs.Pieces.{phrasePieces, removed, inAngles, addressPieces, pieces, turnPieces, piecesOf}
 use Rattle.piece.specs.PieceLaws.{rendered-one}
 use Rattle.address_pieces.specs.AddressField.{rewrittenField, fieldBy, addressField}
 
@@ -165,22 +169,105 @@ part-enough rules s h = part-has (Enough s) rules s (record {
     one : 1 ≤ length (take 1 s)
     one = front-length 1 1 s (omega arith) h
 
+-- ---- the parts of a text
+
+abbrev EnoughPart : Part → Type 0
+EnoughPart p = least (p .kind) ≤ length (p .text)
+
+parts-enough : (rules : Rules) (k : ℕ) (s : List ℕ) → Each EnoughPart (partsFrom rules k s)
+unfolding partsFrom
+parts-enough rules k [] = tt
+parts-enough rules (suc k) (b ∷ s) = parts-enough rules k s
+parts-enough rules zero (b ∷ s) = (part-enough rules (b ∷ s) (omega arith) .bytes, parts-enough rules (pred (partAt rules (b ∷ s) .size)) s)
+
+-- the parts are no longer than the text
+parts-length : (rules : Rules) (k : ℕ) (s : List ℕ) → length (textOf (partsFrom rules k s)) ≤ length (drop k s)
+unfolding partsFrom textOf
+parts-length rules k [] = zero-le
+parts-length rules (suc k) (b ∷ s) = parts-length rules k s
+parts-length rules zero (b ∷ s) =
+    let f = partAt rules (b ∷ s) in
+    rw length-append (omega (arith, part-enough rules (b ∷ s) (omega arith) .some, parts-length rules (pred (f .size)) s, length-drop (pred (f .size)) s, length-take (f .size) (b ∷ s)))
+
+-- ---- a group that is removed
+
+least-some : (kind : PartKind) → 1 ≤ least kind
+least-some Blank = omega arith
+least-some Comment = omega arith
+least-some Comma = omega arith
+least-some Colon = omega arith
+least-some Semicolon = omega arith
+least-some Phrase = omega arith
+least-some Address = omega arith
+least-some (Angled start size) = omega arith
+least-some (Alternative start size) = omega arith
+least-some Stray = omega arith
+
+lost-least : (kind : PartKind) (t : List ℕ) → T (isLost kind t) → 3 ≤ least kind
+unfolding isLost
+lost-least Blank t h = absurd h
+lost-least Comment t h = absurd h
+lost-least Comma t h = absurd h
+lost-least Colon t h = absurd h
+lost-least Semicolon t h = absurd h
+lost-least Phrase t h = absurd h
+lost-least Address t h = omega arith
+lost-least (Angled start size) t h = omega arith
+lost-least (Alternative start size) t h = absurd h
+lost-least Stray t h = absurd h
+
+-- a lost member has at least 3 bytes
+lost-length : (ps : List Part) → Each EnoughPart ps → T (anyLost ps) → 3 ≤ length (textOf ps)
+unfolding anyLost textOf
+lost-length [] e h = absurd h
+lost-length (p ∷ ps) e h =
+    rw length-append (by-test (isLost (p .kind) (p .text))
+    (λ y. omega (arith, lost-least (p .kind) (p .text) y, e .0))
+    (λ n. omega (arith, lost-length ps (e .1) (rw (no-false (isLost (p .kind) (p .text)) n) at h))))
+
 -- ---- the value
 
-parts-le : (rules : Rules) (k : ℕ) (s : List ℕ) → length (rendered (piecesOf rules (partsFrom rules k s))) ≤ 25 * length (drop k s)
-unfolding partsFrom piecesOf rendered
-parts-le rules k [] = zero-le
-parts-le rules (suc k) (b ∷ s) = parts-le rules k s
-parts-le rules zero (b ∷ s) =
-    let f = partAt rules (b ∷ s) in
-    let t = take (f .size) (b ∷ s) in
-    let e = part-enough rules (b ∷ s) (omega arith) in
-    rw (rendered-append, length-append)
-    (omega (arith, e .some, pieces-le rules (f .kind) t (e .bytes), parts-le rules (pred (f .size)) s, length-drop (pred (f .size)) s, length-take (f .size) (b ∷ s)))
+-- at most 25 bytes are written for each byte of the parts; of a group that is passed over none
+record Short (rules : Rules) (ps : List Part) : Type 0 where
+  written : length (rendered (piecesOf rules (turnsFrom false ps))) ≤ 25 * length (textOf ps)
+  passing : length (rendered (piecesOf rules (turnsFrom true ps))) + 25 * length (textOf (inside ps)) ≤ 25 * length (textOf ps)
 
-value-le : (rules : Rules) (text : List ℕ) → length (rendered (piecesOf rules (partsOf rules text))) ≤ 25 * length text
-unfolding partsOf
-value-le rules text = parts-le rules 0 text
+module _ (rules : Rules) (p : Part) (ps : List Part) (enough : EnoughPart p) (rest : Each EnoughPart ps) (more : Short rules ps) where
+  group-le : T (anyLost (inside ps)) → length (rendered (piecesOf rules (Turn.lostGroup (textOf (inside ps)) ∷ turnsFrom true ps))) ≤ 25 * length (textOf (p ∷ ps))
+  unfolding piecesOf turnPieces textOf
+  group-le h =
+      let t = textOf (inside ps) in
+      rw (rendered-append, length-append, length-append)
+      (omega (arith, removed-le rules (trimmed t), trimmed-le t, lost-length (inside ps) (each-inside EnoughPart ps rest) h, more .passing))
+
+  part-turn-le : length (rendered (piecesOf rules (Turn.part (p .kind) (p .text) ∷ turnsFrom false ps))) ≤ 25 * length (textOf (p ∷ ps))
+  unfolding piecesOf turnPieces textOf
+  part-turn-le = rw (rendered-append, length-append, length-append) (omega (arith, pieces-le rules (p .kind) (p .text) enough, more .written))
+
+  next-written : length (rendered (piecesOf rules (turnsFrom false (p ∷ ps)))) ≤ 25 * length (textOf (p ∷ ps))
+  unfolding turnsFrom
+  next-written =
+      let c : Bool = isColon (p .kind) in
+      let r : Bool = anyLost (inside ps) in
+      cond-has (λ (ts : List Turn). length (rendered (piecesOf rules ts)) ≤ 25 * length (textOf (p ∷ ps))) (c && r) (Turn.lostGroup (textOf (inside ps)) ∷ turnsFrom true ps) (Turn.part (p .kind) (p .text) ∷ turnsFrom false ps)
+      (λ y. group-le (and-yes c r y .1))
+      (λ _. part-turn-le)
+
+  next-passing : (m : Bool) → length (rendered (piecesOf rules (turnsFrom (not m) ps))) + 25 * length (textOf (cond m [] (p ∷ inside ps))) ≤ 25 * length (textOf (p ∷ ps))
+  unfolding textOf
+  next-passing true = rw length-append (omega (arith, more .written))
+  next-passing false = rw (length-append, length-append) (omega (arith, more .passing))
+
+turns-le : (rules : Rules) (ps : List Part) → Each EnoughPart ps → Short rules ps
+unfolding turnsFrom piecesOf rendered inside textOf
+turns-le rules [] e = record { written = zero-le; passing = omega arith }
+turns-le rules (p ∷ ps) e =
+    let more = turns-le rules ps (e .1) in
+    record { written = next-written rules p ps (e .0) (e .1) more; passing = next-passing rules p ps (e .0) (e .1) more (isSemicolon (p .kind)) }
+
+value-le : (rules : Rules) (text : List ℕ) → length (rendered (piecesOf rules (turnsOf (partsOf rules text)))) ≤ 25 * length text
+unfolding partsOf turnsOf
+value-le rules text = omega (arith, turns-le rules (partsFrom rules 0 text) (parts-enough rules 0 text) .written, parts-length rules 0 text)
 
 -- ---- the field
 

@@ -111,15 +111,13 @@ pub record GroupAt (rules : Rules) (s : List ℕ) (at : ℕ) (r : Group) : Type 
   pub on : r .end ≤ r .next
   pub within : r .next ≤ length s
 
--- a turn by its answer: the kind of its part, or that it is a group; and its bytes
-abbrev pub turnBy : Next → List ℕ → Turn
-turnBy r s =
-    let t = take (r .end - r .start) (drop (r .start) s) in
-    cond (r .lost) (Turn.lostGroup t) (Turn.part (r .kind) t)
+-- a turn by whether it is a group that loses a member, else the kind of its part; and by its bytes
+abbrev pub turnFor : Bool → PartKind → List ℕ → Turn
+turnFor lost kind t = cond lost (Turn.lostGroup t) (Turn.part kind t)
 
 -- The answer r is the turn at a place of a text, and after it come the turns from `r .next` on.
 pub record NextAt (rules : Rules) (s : List ℕ) (at : ℕ) (r : Next) : Type 0 where
-  pub is : turnsFrom false (partsAt rules s at) ≡ turnBy r s ∷ turnsFrom false (partsAt rules s (r .next))
+  pub is : turnsFrom false (partsAt rules s at) ≡ turnFor (r .lost) (r .kind) (take (r .end - r .start) (drop (r .start) s)) ∷ turnsFrom false (partsAt rules s (r .next))
   pub ordered : r .start ≤ r .end
   pub inner : innerEnd (r .kind) ≤ r .end - r .start
   pub on : at < r .next

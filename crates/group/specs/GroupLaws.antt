@@ -10,7 +10,7 @@ use lib.ListN.{length, take, drop, length-take, length-drop}
 use lib.Seq.{take-add, drop-drop}
 use Rattle.lists.specs.Byte.{isAscii}
 use Rattle.lists.specs.Lists.{all}
-use Rattle.lists.specs.ListsLaws.{true-yes}
+use Rattle.lists.specs.ListsLaws.{true-yes, cond-has}
 use Rattle.rules.specs.declared.Rules.{Rules}
 use Rattle.address_list.specs.Parts.{Part, TookFrom, partsFrom, innerEnd}
 use Rattle.address_list.specs.PartsLaws.{parts-step, parts-end}
@@ -24,6 +24,17 @@ use Rattle.group.specs.declared.Next.{Next}
 pub lost-angled : (t : List ℕ) (start size : ℕ) → not (all isAscii (take (start + size - start) (drop start t))) ≡ isLost (Angled start size) t
 unfolding isLost
 lost-angled t start size = let n : start + size - start ≡ size = omega arith in rw n
+
+-- ---- what holds of every part
+
+abbrev pub Each : (Part → Type 0) → List Part → Type 0
+Each P [] = Unit
+Each P (p ∷ ps) = P p × Each P ps
+
+pub each-inside : (P : Part → Type 0) (ps : List Part) → Each P ps → Each P (inside ps)
+unfolding inside
+each-inside P [] e = tt
+each-inside P (p ∷ ps) e = cond-has (Each P) (isSemicolon (p .kind)) [] (p ∷ inside ps) (λ _. tt) (λ _. (e .0, each-inside P ps (e .1)))
 
 -- ---- the parts of a group, one after another
 
