@@ -36,7 +36,13 @@ fn put_angled(out: &mut [u8], rules: Rules, address: &[u8]) -> usize
 }
 
 // The pieces of a part.
-pub(crate) fn put_part(out: &mut [u8], rules: Rules, t: &[u8], kind: PartKind, scratch: &mut [u8]) -> usize
+pub(crate) fn put_part(
+    out: &mut [u8],
+    rules: Rules,
+    t: &[u8],
+    kind: PartKind,
+    scratch: &mut [u8],
+) -> usize
     requires { ⌜ (length (now t) ≤ 32768) × ((2 * length (now t) ≤ length (now scratch)) × (innerEnd kind ≤ length (now t))) ⌝ }
     ensures { λ r. ⌜ Wrote (rendered (pieces rules kind (now (t .entry)))) (now (out .entry)) (now (out .exit)) r ⌝ }
 {

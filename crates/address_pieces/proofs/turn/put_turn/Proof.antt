@@ -1,3 +1,9 @@
+use Rattle.address_pieces.specs.PiecesLaws.{turn-group, turn-part}
+use Rattle.piece.specs.PieceLaws.{wrote-same}
+use Rattle.group.specs.TrimmedLaws.{trimmed-le}
+use lib.ListN.{length}
+use mathlib.Core.Path.{ap}
+use native.Mathlib.Omega.{arith}
 use borrow.Author.Needs.{needs}
 use Rattle.address_pieces.proofs.turn.put_turn.Statement.{statement}
 use Rattle.address_pieces.proofs.turn.put_turn.Tie as tie
@@ -13,7 +19,7 @@ trimmed-requires c κs = search needs
 
 -- src/turn.rt:27:9
 put-removed-requires : tie.Need-put-removed-requires
-put-removed-requires c κs = ?
+put-removed-requires c κs = omega (arith, ap length (c .trimmed .ensures), trimmed-le (c .before .before .before .before .before .before .args .t .now), c .before .before .before .before .before .before .pre .0)
 
 -- src/turn.rt:27:9
 same-length : tie.Need-same-length
@@ -21,7 +27,7 @@ same-length c = search needs
 
 -- src/turn.rt:27:9
 returns : tie.Need-returns
-returns c = ?
+returns c = wrote-same (turn-group _ _ _ (c .before .before .before .before .before .if1 .taken)) (rw (c .before .before .before .trimmed .ensures) at (c .before .before .put-removed .ensures))
 
 -- src/turn.rt:29:5
 put-part-requires : tie.Need-put-part-requires
@@ -37,7 +43,7 @@ same-length-3 c = search needs
 
 -- src/turn.rt:15:1
 returns-2 : tie.Need-returns-2
-returns-2 c = ?
+returns-2 c = wrote-same (turn-part _ _ _ (c .before .before .before .before .before .before .before .if1 .left)) (c .before .before .before .before .put-part .ensures)
 
 pub put-turn-spec : {M : Type 1} → statement M
 put-turn-spec =
