@@ -6,13 +6,13 @@ use Prim.Native.Nat.{ℕ, _+_, _-_, _≤_, _<_, zero-le}
 use native.Mathlib.Omega.{arith}
 use native.Mathlib.Nat.{not-suc-le-zero}
 use lib.Dec.{T}
-use lib.ListN.{length, take, drop, length-take, length-drop}
+use lib.ListN.{length, take, drop}
 use lib.Seq.{take-add, drop-drop}
 use Rattle.lists.specs.Byte.{isAscii}
 use Rattle.lists.specs.Lists.{all}
 use Rattle.lists.specs.ListsLaws.{true-yes, cond-has}
 use Rattle.rules.specs.declared.Rules.{Rules}
-use Rattle.address_list.specs.Parts.{Part, TookFrom, partsFrom, innerEnd}
+use Rattle.address_list.specs.Parts.{Part, TookFrom, innerEnd}
 use Rattle.address_list.specs.PartsLaws.{parts-step, parts-end}
 use Rattle.address_list.specs.declared.Front.{Front}
 use Rattle.address_list.specs.declared.PartKind.{PartKind}

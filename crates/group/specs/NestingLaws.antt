@@ -4,8 +4,8 @@ use mathlib.Core.Bool.{Bool, true, false, cond, not, _&&_, _||_}
 use mathlib.Core.List.{List, [], _∷_}
 use Prim.Native.Nat.{ℕ}
 use lib.Dec.{T}
-use mir.Facts.{and-yes, yes-and}
-use Rattle.lists.specs.ListsLaws.{by-test, cond-has}
+use mir.Facts.{yes-and}
+use Rattle.lists.specs.ListsLaws.{cond-has}
 use Rattle.address_list.specs.Parts.{Part}
 use Rattle.address_list.specs.declared.PartKind.{PartKind}
 use Rattle.address_list.specs.declared.PartKind.the-variants.{Blank, Comment, Comma, Colon, Semicolon, Phrase, Address, Angled, Alternative, Stray}

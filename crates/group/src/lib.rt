@@ -1,15 +1,16 @@
 // Groups of an address field: where one ends, and whether it loses a member. A field is written by turns: a part, or a whole group that
 // loses one.
-mod part_kind;
+mod mark;
+mod member;
 mod text;
 
 pub use text::trimmed;
 ghost use Prim.Native.Nat.{_≤_, _<_};
 ghost use lib.ListN.{length};
 ghost use Rattle.group.specs.Group.{GroupAt, NextAt};
-use crate::part_kind::is_colon;
-use crate::part_kind::is_lost;
-use crate::part_kind::is_semicolon;
+use crate::mark::is_colon;
+use crate::mark::is_semicolon;
+use crate::member::is_lost;
 use address_list::PartKind;
 use address_list::part_from;
 use rules::Rules;

@@ -2,15 +2,10 @@ use Rattle.group.specs.GroupLaws.{Passing, passing-start, passing-next, 
 use lib.ListN.{length}
 use borrow.Author.Needs.{needs}
 use native.Mathlib.Omega.{arith}
-use Prim.Native.Nat.{ℕ, _-_}
-use mathlib.Core.Path.{_≡_, refl, sym, _∙_}
+use Prim.Native.Nat.{_-_}
+use mathlib.Core.Path.{refl, sym, _∙_}
 use Rattle.group.proofs.group_at.Statement.{statement}
 use Rattle.group.proofs.group_at.Tie as tie
-use Rattle.group.proofs.group_at.Reads as reads
-use Rattle.group.proofs.group_at.Lts as lts
-use Rattle.address_list.proofs.part_from.Reads as part-from-reads
-use Rattle.group.proofs.part_kind.is_lost.Reads as is-lost-reads
-use Rattle.group.proofs.part_kind.is_semicolon.Reads as is-semicolon-reads
 
 abbrev Inv-loop : tie.InvT-loop
 Inv-loop s at rules lost₀ i₀ lost i = Passing rules s at lost i
@@ -18,51 +13,39 @@ Inv-loop s at rules lost₀ i₀ lost i = Passing rules s at lost i
 abbrev μ-loop : tie.MeasureT-loop
 μ-loop s at rules lost₀ i₀ lost i = length s - i
 
--- src/lib.rt:41:5
 loop-holds : tie.Need-loop-holds Inv-loop μ-loop
 loop-holds c = passing-start _ _ _ (c .before .pre)
 
--- src/lib.rt:42:13
 part-from-requires : tie.Need-part-from-requires Inv-loop μ-loop
 part-from-requires c κs = search needs
 
--- src/lib.rt:44:17
 add-e : tie.Need-add-e Inv-loop μ-loop
 add-e c = omega (arith, c .before .part-from .ensures .within (c .before .before .loop-test .taken))
 
--- src/lib.rt:45:12
 is-semicolon-requires : tie.Need-is-semicolon-requires Inv-loop μ-loop
 is-semicolon-requires c κs = search needs
 
--- src/lib.rt:46:13
 returns : tie.Need-returns Inv-loop μ-loop
 returns c = passing-end (c .before .before .before .before .before .loop .inv) (c .before .before .before .before .loop-test .taken) (c .before .before .before .part-from .ensures) refl (sym (c .before .is-semicolon .ensures) ∙ c .if1 .taken)
 
--- src/lib.rt:52:31
 sub-is-lost : tie.Need-sub-is-lost Inv-loop μ-loop
 sub-is-lost c = omega arith
 
--- src/lib.rt:52:31
 part-is-lost-start : tie.Need-part-is-lost-start Inv-loop μ-loop
 part-is-lost-start c = omega arith
 
--- src/lib.rt:52:31
 part-is-lost-end : tie.Need-part-is-lost-end Inv-loop μ-loop
 part-is-lost-end c = c .before .before .before .part-from .ensures .within (c .before .before .before .before .loop-test .taken)
 
--- src/lib.rt:52:23
 is-lost-requires : tie.Need-is-lost-requires Inv-loop μ-loop
 is-lost-requires c κs = search needs
 
--- src/lib.rt:41:5
 loop-less : tie.Need-loop-less Inv-loop μ-loop
 loop-less c = omega (arith, c .before .before .before .before .before .part-from .ensures .within (c .before .before .before .before .before .before .loop-test .taken), c .before .before .before .before .before .part-from .ensures .some)
 
--- src/lib.rt:41:5
 loop-again : tie.Need-loop-again Inv-loop μ-loop
 loop-again c = passing-next (c .before .before .before .before .before .before .before .loop .inv) (c .before .before .before .before .before .before .loop-test .taken) (c .before .before .before .before .before .part-from .ensures) refl (sym (c .before .before .before .is-semicolon .ensures) ∙ c .before .before .if1 .left) (c .is-lost .ensures)
 
--- src/lib.rt:35:1
 returns-2 : tie.Need-returns-2 Inv-loop μ-loop
 returns-2 c = passing-over (c .before .loop .inv) (c .loop-test .left)
 

@@ -4,37 +4,25 @@ use mathlib.Core.Path.{refl, sym, _∙_}
 use borrow.Author.Needs.{needs}
 use Rattle.group.proofs.next_at.Statement.{statement}
 use Rattle.group.proofs.next_at.Tie as tie
-use Rattle.group.proofs.next_at.Reads as reads
-use Rattle.group.proofs.next_at.Lts as lts
-use Rattle.address_list.proofs.part_from.Reads as part-from-reads
-use Rattle.group.proofs.group_at.Reads as group-at-reads
-use Rattle.group.proofs.part_kind.is_colon.Reads as is-colon-reads
 
--- src/lib.rt:67:9
 part-from-requires : tie.Need-part-from-requires
 part-from-requires c κs = search needs
 
--- src/lib.rt:69:13
 add-e : tie.Need-add-e
 add-e c = omega (arith, c .before .part-from .ensures .within (c .before .before .before .pre))
 
--- src/lib.rt:70:8
 is-colon-requires : tie.Need-is-colon-requires
 is-colon-requires c κs = search needs
 
--- src/lib.rt:71:13
 group-at-requires : tie.Need-group-at-requires
 group-at-requires c κs = c .before .before .before .part-from .ensures .within (c .before .before .before .before .before .pre)
 
--- src/lib.rt:73:13
 returns : tie.Need-returns
 returns c = next-group (c .before .before .before .before .before .before .before .pre) (c .before .before .before .before .before .part-from .ensures) refl (sym (c .before .before .before .is-colon .ensures) ∙ c .before .before .if1 .taken) (c .before .group-at .ensures) (c .if2 .taken)
 
--- src/lib.rt:63:1
 returns-2 : tie.Need-returns-2
 returns-2 c = next-whole (c .before .before .before .before .before .before .before .pre) (c .before .before .before .before .before .part-from .ensures) refl (c .before .group-at .ensures) (c .if2 .left)
 
--- src/lib.rt:63:1
 returns-3 : tie.Need-returns-3
 returns-3 c = next-other (c .before .before .before .before .before .pre) (c .before .before .before .part-from .ensures) refl (sym (c .before .is-colon .ensures) ∙ c .if1 .left)
 

@@ -2,19 +2,13 @@ use Rattle.group.specs.GroupLaws.{next-past}
 use borrow.Author.Needs.{needs}
 use Rattle.group.proofs.next_from.Statement.{statement}
 use Rattle.group.proofs.next_from.Tie as tie
-use Rattle.group.proofs.next_from.Reads as reads
-use Rattle.group.proofs.next_from.Lts as lts
-use Rattle.group.proofs.next_at.Reads as next-at-reads
 
--- src/lib.rt:96:9
 returns : tie.Need-returns
 returns c = λ h. next-past (c .if1 .taken) h
 
--- src/lib.rt:104:5
 next-at-requires : tie.Need-next-at-requires
 next-at-requires c κs = search needs
 
--- src/lib.rt:92:1
 returns-2 : tie.Need-returns-2
 returns-2 c = search needs
 

@@ -6,7 +6,7 @@ use Rattle.address_list.specs.Parts.{partsOf}
 use Rattle.encoded_word.specs.Segments.{rendered}
 use Rattle.buffer.specs.BufferLaws.{added-by, capped-start, capped-turn, capped-end, length-capped}
 use Rattle.buffer.specs.Buffer.{ReachedCapped}
-use lib.ListN.{length, drop}
+use lib.ListN.{length}
 use native.Mathlib.Omega.{arith}
 use Prim.Native.Nat.{_-_}
 use mathlib.Core.Bool.{false}
@@ -14,12 +14,6 @@ use mathlib.Core.Path.{_≡_, refl}
 use borrow.Author.Needs.{needs}
 use Rattle.address_pieces.proofs.turn.add_turns.Statement.{statement}
 use Rattle.address_pieces.proofs.turn.add_turns.Tie as tie
-use Rattle.address_pieces.proofs.turn.add_turns.Reads as reads
-use Rattle.address_pieces.proofs.turn.add_turns.Lts as lts
-use Rattle.address_pieces.proofs.turn.put_turn.Reads as put-turn-reads
-use Rattle.buffer.proofs.clip.Reads as clip-reads
-use Rattle.buffer.proofs.place_after.Reads as place-after-reads
-use Rattle.group.proofs.next_from.Reads as next-from-reads
 
 abbrev Inv-loop : tie.InvT-loop
 Inv-loop out₀ at rules text scratch₀ next₀ i₀ out scratch next i = ReachedCapped (rendered (piecesOf rules (turnsOf (partsOf rules text)))) (rendered (piecesOf rules (turnsFrom false (partsAt rules text i)))) at out₀ out next × (length scratch ≡ length scratch₀)
@@ -27,68 +21,52 @@ Inv-loop out₀ at rules text scratch₀ next₀ i₀ out scratch next i = Reach
 abbrev μ-loop : tie.MeasureT-loop
 μ-loop out₀ at rules text scratch₀ next₀ i₀ out scratch next i = length text - i
 
--- src/turn.rt:45:5
 loop-holds : tie.Need-loop-holds Inv-loop μ-loop
 unfolding partsOf turnsOf
 loop-holds c = (capped-start _ _ _ (omega arith), refl)
 
--- src/turn.rt:46:13
 next-from-requires : tie.Need-next-from-requires Inv-loop μ-loop
 next-from-requires c κs = search needs
 
--- src/turn.rt:51:13
 clip-requires : tie.Need-clip-requires Inv-loop μ-loop
 clip-requires c κs = search needs
 
--- src/turn.rt:54:22
 sub-put-turn : tie.Need-sub-put-turn Inv-loop μ-loop
 sub-put-turn c = omega (arith, c .clip .ensures)
 
--- src/turn.rt:54:22
 part-put-turn-start : tie.Need-part-put-turn-start Inv-loop μ-loop
 part-put-turn-start c = omega (arith, c .clip .ensures)
 
--- src/turn.rt:54:22
 part-put-turn-end : tie.Need-part-put-turn-end Inv-loop μ-loop
 part-put-turn-end c = omega arith
 
--- src/turn.rt:54:44
 sub-put-turn-2 : tie.Need-sub-put-turn-2 Inv-loop μ-loop
 sub-put-turn-2 c = c .before .before .next-from .ensures (c .before .before .before .loop-test .taken) .ordered
 
--- src/turn.rt:54:44
 part-put-turn-start-2 : tie.Need-part-put-turn-start-2 Inv-loop μ-loop
 part-put-turn-start-2 c = c .before .before .next-from .ensures (c .before .before .before .loop-test .taken) .ordered
 
--- src/turn.rt:54:44
 part-put-turn-end-2 : tie.Need-part-put-turn-end-2 Inv-loop μ-loop
 part-put-turn-end-2 c = let w = c .before .before .next-from .ensures (c .before .before .before .loop-test .taken) in omega (arith, w .covers, w .within)
 
--- src/turn.rt:54:13
 put-turn-requires : tie.Need-put-turn-requires Inv-loop μ-loop
 put-turn-requires c κs = turn-fits (c .before .before .before .before .next-from .ensures (c .before .before .before .before .before .loop-test .taken)) _ (c .before .before .before .before .before .before .before .before .before .before .pre .0) (omega (arith, c .before .before .before .before .before .before .loop .inv .1, c .before .before .before .before .before .before .before .before .before .before .pre .1))
 
--- src/turn.rt:52:9
 place-after-requires : tie.Need-place-after-requires Inv-loop μ-loop
 place-after-requires c κs = search needs
 
--- src/turn.rt:45:5
 loop-less : tie.Need-loop-less Inv-loop μ-loop
 loop-less c = turn-less (c .before .before .before .before .before .before .before .before .before .before .before .loop-test .taken) (c .before .before .before .before .before .before .before .before .before .before .next-from .ensures (c .before .before .before .before .before .before .before .before .before .before .before .loop-test .taken) .on)
 
--- src/turn.rt:45:5
 loop-again : tie.Need-loop-again Inv-loop μ-loop
 loop-again c = (capped-turn (c .before .before .before .before .before .before .before .before .before .before .before .before .loop .inv .0) (turns-step (c .before .before .before .before .before .before .before .before .before .before .next-from .ensures (c .before .before .before .before .before .before .before .before .before .before .before .loop-test .taken))) (added-by _ _ _ _ _ (c .before .before .before .before .before .before .before .before .before .clip .ensures) (c .before .before .before .before .before .put-turn .ensures) (c .place-after .ensures)) (omega arith), omega (arith, c .before .before .before .before .before .before .before .before .before .before .before .before .loop .inv .1))
 
--- src/turn.rt:33:1
 same-length : tie.Need-same-length Inv-loop μ-loop
 same-length c = length-capped (c .before .loop .inv .0)
 
--- src/turn.rt:33:1
 same-length-2 : tie.Need-same-length-2 Inv-loop μ-loop
 same-length-2 c = c .before .loop .inv .1
 
--- src/turn.rt:33:1
 returns : tie.Need-returns Inv-loop μ-loop
 returns c = capped-end (c .before .loop .inv .0) (turns-end _ _ _ (c .loop-test .left))
 

@@ -2,29 +2,19 @@ use Rattle.group.specs.TrimmedLaws.{trimmed-parts}
 use borrow.Author.Needs.{needs}
 use Rattle.group.proofs.text.trimmed.Statement.{statement}
 use Rattle.group.proofs.text.trimmed.Tie as tie
-use Rattle.group.proofs.text.trimmed.Reads as reads
-use Rattle.group.proofs.text.trimmed.Lts as lts
-use Rattle.group.proofs.text.content_len.Reads as content-len-reads
-use Rattle.line.proofs.blanks_end.Reads as blanks-end-reads
-use Rattle.line.proofs.part.Reads as part-reads
 
--- src/text.rt:24:9
 blanks-end-requires : tie.Need-blanks-end-requires
 blanks-end-requires c κs = search needs
 
--- src/text.rt:25:9
 part-requires : tie.Need-part-requires
 part-requires c κs = search needs
 
--- src/text.rt:26:25
 content-len-requires : tie.Need-content-len-requires
 content-len-requires c κs = search needs
 
--- src/text.rt:26:5
 part-requires-2 : tie.Need-part-requires-2
 part-requires-2 c κs = search needs
 
--- src/text.rt:21:1
 returns : tie.Need-returns
 returns c = trimmed-parts _ _ _ (c .before .before .before .blanks-end .ensures) _ _ (c .before .before .part .ensures) (c .before .content-len .ensures) (c .part2 .ensures)
 

@@ -2,121 +2,92 @@ use Rattle.group.specs.GroupLaws.{lost-angled}
 use Rattle.group.specs.Group.{isLost}
 use native.Mathlib.Omega.{arith}
 use borrow.Author.Needs.{needs}
-use Rattle.group.proofs.part_kind.is_lost.Statement.{statement}
-use Rattle.group.proofs.part_kind.is_lost.Tie as tie
-use Rattle.group.proofs.part_kind.is_lost.Reads as reads
-use Rattle.group.proofs.part_kind.is_lost.Lts as lts
-use Rattle.utf8.proofs.is_ascii.Reads as is-ascii-reads
+use Rattle.group.proofs.member.is_lost.Statement.{statement}
+use Rattle.group.proofs.member.is_lost.Tie as tie
 
--- src/part_kind.rt:51:28
 enum-told : tie.Need-enum-told
 enum-told c = search needs
 
--- src/part_kind.rt:52:30
 enum-told-2 : tie.Need-enum-told-2
 enum-told-2 c = search needs
 
--- src/part_kind.rt:53:28
 enum-told-3 : tie.Need-enum-told-3
 enum-told-3 c = search needs
 
--- src/part_kind.rt:54:28
 enum-told-4 : tie.Need-enum-told-4
 enum-told-4 c = search needs
 
--- src/part_kind.rt:55:32
 enum-told-5 : tie.Need-enum-told-5
 enum-told-5 c = search needs
 
--- src/part_kind.rt:56:29
 enum-told-6 : tie.Need-enum-told-6
 enum-told-6 c = search needs
 
--- src/part_kind.rt:57:31
 enum-told-7 : tie.Need-enum-told-7
 enum-told-7 c = search needs
 
--- src/part_kind.rt:57:31
 is-ascii-requires : tie.Need-is-ascii-requires
 is-ascii-requires c κs = search needs
 
--- src/part_kind.rt:58:26
 enum-known-kind : tie.Need-enum-known-kind
 enum-known-kind c = search needs
 
--- src/part_kind.rt:59:23
 add-end : tie.Need-add-end
 add-end c = omega (arith, rw (c .before .kind .given .1) at (c .before .before .before .before .pre))
 
--- src/part_kind.rt:60:29
 sub-is-ascii : tie.Need-sub-is-ascii
 sub-is-ascii c = search needs
 
--- src/part_kind.rt:60:29
 part-is-ascii-start : tie.Need-part-is-ascii-start
 part-is-ascii-start c = search needs
 
--- src/part_kind.rt:60:29
 part-is-ascii-end : tie.Need-part-is-ascii-end
 part-is-ascii-end c = omega (arith, rw (c .before .kind .given .1) at (c .before .before .before .before .pre))
 
--- src/part_kind.rt:60:14
 is-ascii-requires-2 : tie.Need-is-ascii-requires-2
 is-ascii-requires-2 c κs = search needs
 
--- src/part_kind.rt:62:40
 enum-told-8 : tie.Need-enum-told-8
 enum-told-8 c = search needs
 
--- src/part_kind.rt:63:28
 enum-told-9 : tie.Need-enum-told-9
 enum-told-9 c = search needs
 
--- src/part_kind.rt:46:1
 returns : tie.Need-returns
 unfolding isLost
 returns c = rw (c .enum-told .given .1)
 
--- src/part_kind.rt:46:1
 returns-2 : tie.Need-returns-2
 unfolding isLost
 returns-2 c = rw (c .enum-told2 .given .1)
 
--- src/part_kind.rt:46:1
 returns-3 : tie.Need-returns-3
 unfolding isLost
 returns-3 c = rw (c .enum-told3 .given .1)
 
--- src/part_kind.rt:46:1
 returns-4 : tie.Need-returns-4
 unfolding isLost
 returns-4 c = rw (c .enum-told4 .given .1)
 
--- src/part_kind.rt:46:1
 returns-5 : tie.Need-returns-5
 unfolding isLost
 returns-5 c = rw (c .enum-told5 .given .1)
 
--- src/part_kind.rt:46:1
 returns-6 : tie.Need-returns-6
 unfolding isLost
 returns-6 c = rw (c .enum-told6 .given .1)
 
--- src/part_kind.rt:46:1
 returns-7 : tie.Need-returns-7
 unfolding isLost
 returns-7 c = rw (c .before .enum-told7 .given .1, c .is-ascii .ensures)
 
--- src/part_kind.rt:46:1
 returns-8 : tie.Need-returns-8
 returns-8 c = rw (c .before .before .before .kind .given .1, c .is-ascii2 .ensures) (lost-angled _ _ _)
 
--- src/part_kind.rt:46:1
 returns-9 : tie.Need-returns-9
 unfolding isLost
 returns-9 c = rw (c .enum-told8 .given .1)
 
--- src/part_kind.rt:46:1
 returns-10 : tie.Need-returns-10
 unfolding isLost
 returns-10 c = rw (c .enum-told9 .given .1)
