@@ -1,12 +1,11 @@
 -- How long a rewritten address field can be. Assumes nothing.
 use mathlib.Core.Path.{ap}
-use mathlib.Core.Bool.{Bool, true, false, cond, not, _&&_}
+use mathlib.Core.Bool.{Bool, true, false, cond}
 use mathlib.Core.List.{List, [], _∷_, map}
 use Prim.Native.Nat.{ℕ, zero, suc, pred, _+_, _-_, _*_, _≤_, _<_, zero-le}
 use native.Mathlib.Omega.{arith}
 use native.Mathlib.Nat.{not-suc-le-zero}
 use lib.Dec.{T, leb}
-use mir.Facts.{and-yes}
 use lib.ListN.{length, take, drop, length-drop, length-take, length-append}
 use Rattle.lists.specs.Byte.{isAscii}
 use Rattle.lists.specs.Lists.{all}
@@ -40,8 +39,8 @@ use Rattle.address_list.specs.declared.Examined.{Examined}
 use Rattle.address_list.specs.declared.Examined.the-variants.{DoesNotFit, Kept, Changed}
 use Rattle.address_list.specs.declared.PartKind.{PartKind}
 use Rattle.address_list.specs.declared.PartKind.the-variants.{Blank, Comment, Comma, Colon, Semicolon, Phrase, Address, Angled, Alternative, Stray}
-use Rattle.group.specs.Group.{isColon, isSemicolon, isLost, inside, anyLost, textOf, trimmed, Turn, turnsFrom, turnsOf}
-use Rattle.group.specs.GroupLaws.{Each, each-inside}
+use Rattle.group.specs.Group.{isLost, inside, anyLost, textOf, trimmed, Turn, turnsOf}
+use Rattle.group.specs.GroupLaws.{Each, each-inside, TurnCases, turns-have}
 use Rattle.group.specs.TrimmedLaws.{trimmed-le}
 use Rattle.piece.specs.Piece.{piece}
 use Rattle.address_pieces.specs.Pieces.{phrasePieces, removed, inAngles, addressPieces, pieces, turnPieces, piecesOf}
@@ -191,18 +190,6 @@ parts-length rules zero (b ∷ s) =
 
 -- ---- a group that is removed
 
-least-some : (kind : PartKind) → 1 ≤ least kind
-least-some Blank = omega arith
-least-some Comment = omega arith
-least-some Comma = omega arith
-least-some Colon = omega arith
-least-some Semicolon = omega arith
-least-some Phrase = omega arith
-least-some Address = omega arith
-least-some (Angled start size) = omega arith
-least-some (Alternative start size) = omega arith
-least-some Stray = omega arith
-
 lost-least : (kind : PartKind) (t : List ℕ) → T (isLost kind t) → 3 ≤ least kind
 unfolding isLost
 lost-least Blank t h = absurd h
@@ -227,47 +214,32 @@ lost-length (p ∷ ps) e h =
 
 -- ---- the value
 
--- at most 25 bytes are written for each byte of the parts; of a group that is passed over none
-record Short (rules : Rules) (ps : List Part) : Type 0 where
-  written : length (rendered (piecesOf rules (turnsFrom false ps))) ≤ 25 * length (textOf ps)
-  passing : length (rendered (piecesOf rules (turnsFrom true ps))) + 25 * length (textOf (inside ps)) ≤ 25 * length (textOf ps)
+-- at most 25 bytes are written for each byte of the parts
+abbrev Written : Rules → List Part → List Turn → Type 0
+Written rules ps ts = Each EnoughPart ps → length (rendered (piecesOf rules ts)) ≤ 25 * length (textOf ps)
 
-module _ (rules : Rules) (p : Part) (ps : List Part) (enough : EnoughPart p) (rest : Each EnoughPart ps) (more : Short rules ps) where
-  group-le : T (anyLost (inside ps)) → length (rendered (piecesOf rules (Turn.lostGroup (textOf (inside ps)) ∷ turnsFrom true ps))) ≤ 25 * length (textOf (p ∷ ps))
-  unfolding piecesOf turnPieces textOf
-  group-le h =
+-- and none for a group that is passed over
+abbrev Passing : Rules → List Part → List Turn → Type 0
+Passing rules ps ts = Each EnoughPart ps → length (rendered (piecesOf rules ts)) + 25 * length (textOf (inside ps)) ≤ 25 * length (textOf ps)
+
+turns-le : (rules : Rules) → TurnCases (Written rules) (Passing rules)
+unfolding piecesOf turnPieces rendered inside textOf
+turns-le rules = record {
+  none = λ e. zero-le;
+  over = λ e. omega arith;
+  group =
+      λ p ps ts colon lost more e.
       let t = textOf (inside ps) in
       rw (rendered-append, length-append, length-append)
-      (omega (arith, removed-le rules (trimmed t), trimmed-le t, lost-length (inside ps) (each-inside EnoughPart ps rest) h, more .passing))
-
-  part-turn-le : length (rendered (piecesOf rules (Turn.part (p .kind) (p .text) ∷ turnsFrom false ps))) ≤ 25 * length (textOf (p ∷ ps))
-  unfolding piecesOf turnPieces textOf
-  part-turn-le = rw (rendered-append, length-append, length-append) (omega (arith, pieces-le rules (p .kind) (p .text) enough, more .written))
-
-  next-written : length (rendered (piecesOf rules (turnsFrom false (p ∷ ps)))) ≤ 25 * length (textOf (p ∷ ps))
-  unfolding turnsFrom
-  next-written =
-      let c : Bool = isColon (p .kind) in
-      let r : Bool = anyLost (inside ps) in
-      cond-has (λ (ts : List Turn). length (rendered (piecesOf rules ts)) ≤ 25 * length (textOf (p ∷ ps))) (c && r) (Turn.lostGroup (textOf (inside ps)) ∷ turnsFrom true ps) (Turn.part (p .kind) (p .text) ∷ turnsFrom false ps)
-      (λ y. group-le (and-yes c r y .1))
-      (λ _. part-turn-le)
-
-  next-passing : (m : Bool) → length (rendered (piecesOf rules (turnsFrom (not m) ps))) + 25 * length (textOf (cond m [] (p ∷ inside ps))) ≤ 25 * length (textOf (p ∷ ps))
-  unfolding textOf
-  next-passing true = rw length-append (omega (arith, more .written))
-  next-passing false = rw (length-append, length-append) (omega (arith, more .passing))
-
-turns-le : (rules : Rules) (ps : List Part) → Each EnoughPart ps → Short rules ps
-unfolding turnsFrom piecesOf rendered inside textOf
-turns-le rules [] e = record { written = zero-le; passing = omega arith }
-turns-le rules (p ∷ ps) e =
-    let more = turns-le rules ps (e .1) in
-    record { written = next-written rules p ps (e .0) (e .1) more; passing = next-passing rules p ps (e .0) (e .1) more (isSemicolon (p .kind)) }
+      (omega (arith, removed-le rules (trimmed t), trimmed-le t, lost-length (inside ps) (each-inside EnoughPart ps (e .1)) lost, more (e .1)));
+  part = λ p ps ts n more e. rw (rendered-append, length-append, length-append) (omega (arith, pieces-le rules (p .kind) (p .text) (e .0), more (e .1)));
+  end = λ p ps ts m more e. rw (m, length-append) (omega (arith, more (e .1)));
+  passed = λ p ps ts m more e. rw (m, length-append, length-append) (omega (arith, more (e .1)));
+}
 
 value-le : (rules : Rules) (text : List ℕ) → length (rendered (piecesOf rules (turnsOf (partsOf rules text)))) ≤ 25 * length text
 unfolding partsOf turnsOf
-value-le rules text = omega (arith, turns-le rules (partsFrom rules 0 text) (parts-enough rules 0 text) .written, parts-length rules 0 text)
+value-le rules text = omega (arith, turns-have (Written rules) (Passing rules) (turns-le rules) (partsFrom rules 0 text) .0 (parts-enough rules 0 text), parts-length rules 0 text)
 
 -- ---- the field
 

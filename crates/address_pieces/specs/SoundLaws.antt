@@ -1,6 +1,6 @@
 -- What an address field becomes is sound: bytes that stand as they are are ASCII, and texts that are encoded are UTF-8. Assumes nothing.
 use mathlib.Core.Path.{_≡_, refl, ap}
-use mathlib.Core.Bool.{Bool, true, false, cond, not, _&&_, _||_}
+use mathlib.Core.Bool.{true, false, cond, _||_}
 use mathlib.Core.List.{List, [], _∷_, _++_, map}
 use Prim.Native.Nat.{ℕ, zero, suc, pred, _+_, _-_, _≤_, _<_}
 use native.Mathlib.Nat.{not-suc-le-zero}
@@ -38,8 +38,8 @@ use Rattle.address_list.specs.declared.State.{State}
 use Rattle.address_list.specs.declared.State.the-variants.{ItemDue}
 use Rattle.address_list.specs.declared.Examined.{Examined}
 use Rattle.address_list.specs.declared.Examined.the-variants.{DoesNotFit, Kept, Changed}
-use Rattle.group.specs.Group.{isColon, isSemicolon, inside, anyLost, textOf, trimmed, Turn, turnsFrom, turnsOf}
-use Rattle.group.specs.GroupLaws.{Each, each-inside}
+use Rattle.group.specs.Group.{inside, textOf, trimmed, Turn, turnsFrom, turnsOf}
+use Rattle.group.specs.GroupLaws.{Each, each-inside, TurnCases, turns-have}
 use Rattle.group.specs.TrimmedLaws.{trimmed-utf8}
 use Rattle.piece.specs.Piece.{piece}
 use Rattle.address_pieces.specs.Pieces.{phrasePieces, removed, inAngles, addressPieces, pieces, turnPieces, piecesOf}
@@ -229,29 +229,22 @@ pieces-sound rules (Angled start size) t u a = angled-sound rules (take size (dr
 pieces-sound rules (Alternative start size) t u a = in-angles-sound (take size (drop start t)) a
 pieces-sound rules Stray t u a = tt
 
-record Sound (rules : Rules) (ps : List Part) : Type 0 where
-  written : T (all sound (piecesOf rules (turnsFrom false ps)))
-  passing : T (all sound (piecesOf rules (turnsFrom true ps)))
+abbrev SoundTurns : Rules → List Part → List Turn → Type 0
+SoundTurns rules ps ts = Each KnownPart ps → T (all sound (piecesOf rules ts))
 
-module _ (rules : Rules) (p : Part) (ps : List Part) (known : KnownPart p) (rest : Each KnownPart ps) (more : Sound rules ps) where
-  next-written : T (all sound (piecesOf rules (turnsFrom false (p ∷ ps))))
-  unfolding turnsFrom piecesOf turnPieces
-  next-written =
-      let t = textOf (inside ps) in
-      cond-has (λ (ts : List Turn). T (all sound (piecesOf rules ts))) (isColon (p .kind) && anyLost (inside ps)) (Turn.lostGroup t ∷ turnsFrom true ps) (Turn.part (p .kind) (p .text) ∷ turnsFrom false ps)
-      (λ _. all-append sound (removed rules (trimmed t)) (piecesOf rules (turnsFrom true ps)) (removed-sound rules (trimmed t) (trimmed-utf8 t (text-utf8 (inside ps) (each-inside KnownPart ps rest)))) (more .passing))
-      (λ _. all-append sound (pieces rules (p .kind) (p .text)) (piecesOf rules (turnsFrom false ps)) (pieces-sound rules (p .kind) (p .text) (known .0) (known .1)) (more .written))
-
-  next-passing : (m : Bool) → T (all sound (piecesOf rules (turnsFrom (not m) ps)))
-  next-passing true = more .written
-  next-passing false = more .passing
-
-turns-sound : (rules : Rules) (ps : List Part) → Each KnownPart ps → Sound rules ps
-unfolding turnsFrom piecesOf
-turns-sound rules [] e = record { written = tt; passing = tt }
-turns-sound rules (p ∷ ps) e =
-    let more = turns-sound rules ps (e .1) in
-    record { written = next-written rules p ps (e .0) (e .1) more; passing = next-passing rules p ps (e .0) (e .1) more (isSemicolon (p .kind)) }
+turns-sound : (rules : Rules) → TurnCases (SoundTurns rules) (SoundTurns rules)
+unfolding piecesOf turnPieces
+turns-sound rules = record {
+  none = λ e. tt;
+  over = λ e. tt;
+  group =
+      λ p ps ts colon lost more e.
+      let t = trimmed (textOf (inside ps)) in
+      all-append sound (removed rules t) (piecesOf rules ts) (removed-sound rules t (trimmed-utf8 (textOf (inside ps)) (text-utf8 (inside ps) (each-inside KnownPart ps (e .1))))) (more (e .1));
+  part = λ p ps ts n more e. all-append sound (pieces rules (p .kind) (p .text)) (piecesOf rules ts) (pieces-sound rules (p .kind) (p .text) (e .0 .0) (e .0 .1)) (more (e .1));
+  end = λ p ps ts m more e. more (e .1);
+  passed = λ p ps ts m more e. more (e .1);
+}
 
 -- ---- the field
 
@@ -263,7 +256,7 @@ module _ (rules : Rules) (name text : List ℕ) (a : T (all isAscii name)) (u : 
       let value = piecesOf rules (turnsFrom false ps) in
       yes-and (all isAscii (name ++ (58 ∷ []))) (all sound (value ++ (raw (13 ∷ 10 ∷ []) ∷ [])))
       (all-append isAscii name (58 ∷ []) a tt)
-      (all-append sound value (raw (13 ∷ 10 ∷ []) ∷ []) (turns-sound rules ps (parts-known rules 0 text ItemDue u t) .written) tt)
+      (all-append sound value (raw (13 ∷ 10 ∷ []) ∷ []) (turns-have (SoundTurns rules) (SoundTurns rules) (turns-sound rules) ps .0 (parts-known rules 0 text ItemDue u t)) tt)
 
   -- Every segment of an address field is sound.
   pub address-field-sound : T (all sound (addressField rules name text))

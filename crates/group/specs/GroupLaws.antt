@@ -6,6 +6,7 @@ use Prim.Native.Nat.{ℕ, _+_, _-_, _≤_, _<_, zero-le}
 use native.Mathlib.Omega.{arith}
 use native.Mathlib.Nat.{not-suc-le-zero}
 use lib.Dec.{T}
+use mir.Facts.{and-yes}
 use lib.ListN.{length, take, drop}
 use lib.Seq.{take-add, drop-drop}
 use Rattle.lists.specs.Byte.{isAscii}
@@ -17,7 +18,7 @@ use Rattle.address_list.specs.PartsLaws.{parts-step, parts-end}
 use Rattle.address_list.specs.declared.Front.{Front}
 use Rattle.address_list.specs.declared.PartKind.{PartKind}
 use Rattle.address_list.specs.declared.PartKind.the-variants.{Blank, Comment, Comma, Colon, Semicolon, Phrase, Address, Angled, Alternative, Stray}
-use Rattle.group.specs.Group.{isColon, isSemicolon, isLost, inside, anyLost, textOf, turnsFrom, partsAt, GroupAt, NextAt}
+use Rattle.group.specs.Group.{isColon, isSemicolon, isLost, inside, anyLost, textOf, Turn, turnsFrom, partsAt, GroupAt, NextAt}
 use Rattle.group.specs.declared.Group.{Group}
 use Rattle.group.specs.declared.Next.{Next}
 
@@ -35,6 +36,35 @@ pub each-inside : (P : Part → Type 0) (ps : List Part) → Each P ps → Each 
 unfolding inside
 each-inside P [] e = tt
 each-inside P (p ∷ ps) e = cond-has (Each P) (isSemicolon (p .kind)) [] (p ∷ inside ps) (λ _. tt) (λ _. (e .0, each-inside P ps (e .1)))
+
+-- ---- what holds of turns
+
+-- W holds of a row of parts with its turns, G of a row of parts with the turns after a group that is passed over
+pub record TurnCases (W G : List Part → List Turn → Type 0) : Type 0 where
+  pub none : W [] []
+  pub over : G [] []
+  pub group : (p : Part) (ps : List Part) (ts : List Turn) → T (isColon (p .kind)) → T (anyLost (inside ps)) → G ps ts → W (p ∷ ps) (Turn.lostGroup (textOf (inside ps)) ∷ ts)
+  pub part : (p : Part) (ps : List Part) (ts : List Turn) → T (not (isColon (p .kind) && anyLost (inside ps))) → W ps ts → W (p ∷ ps) (Turn.part (p .kind) (p .text) ∷ ts)
+  pub end : (p : Part) (ps : List Part) (ts : List Turn) → isSemicolon (p .kind) ≡ true → W ps ts → G (p ∷ ps) ts
+  pub passed : (p : Part) (ps : List Part) (ts : List Turn) → isSemicolon (p .kind) ≡ false → G ps ts → G (p ∷ ps) ts
+
+module _ (W G : List Part → List Turn → Type 0) (c : TurnCases W G) where
+  pub turns-have : (ps : List Part) → W ps (turnsFrom false ps) × G ps (turnsFrom true ps)
+  unfolding turnsFrom
+  turns-have [] = (c .none, c .over)
+  turns-have (p ∷ ps) =
+      let more = turns-have ps in
+      let colon : Bool = isColon (p .kind) in
+      let lost : Bool = anyLost (inside ps) in (
+        cond-has (W (p ∷ ps)) (colon && lost) (Turn.lostGroup (textOf (inside ps)) ∷ turnsFrom true ps) (Turn.part (p .kind) (p .text) ∷ turnsFrom false ps)
+            (λ y. let both = and-yes colon lost y in c .group p ps (turnsFrom true ps) (both .0) (both .1) (more .1))
+            (λ n. c .part p ps (turnsFrom false ps) n (more .0)),
+        either p ps (isSemicolon (p .kind)) refl (more .0) (more .1),
+      )
+    where
+      either : (p : Part) (ps : List Part) (m : Bool) → isSemicolon (p .kind) ≡ m → W ps (turnsFrom false ps) → G ps (turnsFrom true ps) → G (p ∷ ps) (turnsFrom (not m) ps)
+      either p ps true e w g = c .end p ps (turnsFrom false ps) e w
+      either p ps false e w g = c .passed p ps (turnsFrom true ps) e g
 
 -- ---- the parts of a group, one after another
 

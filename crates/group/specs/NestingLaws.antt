@@ -5,11 +5,11 @@ use mathlib.Core.List.{List, [], _∷_}
 use Prim.Native.Nat.{ℕ}
 use lib.Dec.{T}
 use mir.Facts.{yes-and}
-use Rattle.lists.specs.ListsLaws.{cond-has}
 use Rattle.address_list.specs.Parts.{Part}
 use Rattle.address_list.specs.declared.PartKind.{PartKind}
 use Rattle.address_list.specs.declared.PartKind.the-variants.{Blank, Comment, Comma, Colon, Semicolon, Phrase, Address, Angled, Alternative, Stray}
-use Rattle.group.specs.Group.{isColon, isSemicolon, isLost, inside, anyLost, textOf, Turn, turnsFrom, turnsOf}
+use Rattle.group.specs.Group.{isColon, isSemicolon, isLost, inside, anyLost, textOf, Turn, turnsOf}
+use Rattle.group.specs.GroupLaws.{TurnCases, turns-have}
 
 -- `Removed:;` is written for an address that is removed and for a group that is removed
 abbrev pub isRemoved : Turn → Bool
@@ -35,10 +35,6 @@ Whole grouped ps = T (not (grouped && anyLost (inside ps)))
 no-or : (a b : Bool) → T (not (a || b)) → T (not a) × T (not b)
 no-or true b h = absurd h
 no-or false b h = (tt, h)
-
-record Holds (ps : List Part) : Type 0 where
-  written : (grouped : Bool) → Whole grouped ps → T (noneNested grouped (turnsFrom false ps))
-  passing : T (noneNested false (turnsFrom true ps))
 
 -- a semicolon is neither a colon nor an address
 semicolon-only : (kind : PartKind) (t : List ℕ) → T (not (isSemicolon kind && (isColon kind || isLost kind t)))
@@ -75,43 +71,48 @@ outside true true true l r y s w = absurd s
 outside true true false l false y s w = absurd y
 outside true true false l true y s w = absurd (no-or l true w .1)
 
-any-step : (p : Part) (ps : List Part) (m : Bool) → anyLost (cond m [] (p ∷ inside ps)) ≡ cond m false (isLost (p .kind) (p .text) || anyLost (inside ps))
-unfolding anyLost
-any-step p ps true = refl
-any-step p ps false = refl
+any-inside : (p : Part) (ps : List Part) → anyLost (inside (p ∷ ps)) ≡ cond (isSemicolon (p .kind)) false (isLost (p .kind) (p .text) || anyLost (inside ps))
+unfolding inside anyLost
+any-inside p ps = either (isSemicolon (p .kind))
+  where
+    either : (m : Bool) → anyLost (cond m [] (p ∷ inside ps)) ≡ cond m false (isLost (p .kind) (p .text) || anyLost (inside ps))
+    either true = refl
+    either false = refl
 
-module _ (p : Part) (ps : List Part) (more : Holds ps) where
-  only : T (not (isSemicolon (p .kind) && (isColon (p .kind) || isLost (p .kind) (p .text))))
-  only = semicolon-only (p .kind) (p .text)
+abbrev Written : List Part → List Turn → Type 0
+Written ps ts = (grouped : Bool) → Whole grouped ps → T (noneNested grouped ts)
 
-  removed-group : (g : Bool) (t : List ℕ) → T (not g) → T (noneNested g (Turn.lostGroup t ∷ turnsFrom true ps))
-  unfolding noneNested
-  removed-group true t h = absurd h
-  removed-group false t h = more .passing
+abbrev Passing : List Part → List Turn → Type 0
+Passing ps ts = T (noneNested false ts)
 
-  next-written : (g : Bool) → Whole g (p ∷ ps) → T (noneNested g (turnsFrom false (p ∷ ps)))
-  unfolding noneNested turnsFrom inside
-  next-written g w =
+removed-group : (g : Bool) (t : List ℕ) (ts : List Turn) → T (not g) → T (noneNested false ts) → T (noneNested g (Turn.lostGroup t ∷ ts))
+unfolding noneNested
+removed-group true t ts h n = absurd h
+removed-group false t ts h n = n
+
+cases : TurnCases Written Passing
+unfolding noneNested
+cases = record {
+  none = λ g w. tt;
+  over = tt;
+  group =
+      λ p ps ts colon lost more g w.
+      removed-group g (textOf (inside ps)) ts
+      (outside g (isColon (p .kind)) (isSemicolon (p .kind)) (isLost (p .kind) (p .text)) (anyLost (inside ps)) (yes-and (isColon (p .kind)) (anyLost (inside ps)) colon lost) (semicolon-only (p .kind) (p .text)) (rw (any-inside p ps) at w))
+      more;
+  part =
+      λ p ps ts n more g w.
       let c : Bool = isColon (p .kind) in
       let m : Bool = isSemicolon (p .kind) in
       let l : Bool = isLost (p .kind) (p .text) in
       let r : Bool = anyLost (inside ps) in
-      let whole : T (not (g && cond m false (l || r))) = rw (any-step p ps m) at w in
-      cond-has (λ (ts : List Turn). T (noneNested g ts)) (c && r) (Turn.lostGroup (textOf (inside ps)) ∷ turnsFrom true ps) (Turn.part (p .kind) (p .text) ∷ turnsFrom false ps)
-      (λ y. removed-group g (textOf (inside ps)) (outside g c m l r y only whole))
-      (λ n. yes-and (not (g && l)) (noneNested ((g || c) && not m) (turnsFrom false ps)) (lost-here g c m l r only whole)
-      (more .written ((g || c) && not m) (lost-later g c m l r n whole)))
-
-  next-passing : (m : Bool) → T (noneNested false (turnsFrom (not m) ps))
-  next-passing true = more .written false tt
-  next-passing false = more .passing
-
-holds : (ps : List Part) → Holds ps
-unfolding noneNested turnsFrom
-holds [] = record { written = λ g w. tt; passing = tt }
-holds (p ∷ ps) = record { written = next-written p ps (holds ps); passing = next-passing p ps (holds ps) (isSemicolon (p .kind)) }
+      let whole : T (not (g && cond m false (l || r))) = rw (any-inside p ps) at w in
+      yes-and (not (g && l)) (noneNested ((g || c) && not m) ts) (lost-here g c m l r (semicolon-only (p .kind) (p .text)) whole) (more ((g || c) && not m) (lost-later g c m l r n whole));
+  end = λ p ps ts e more. more false tt;
+  passed = λ p ps ts e more. more;
+}
 
 -- Of every row of parts, whether it fits or not: no group is written inside a group.
 pub no-group-in-group : (ps : List Part) → T (noneNested false (turnsOf ps))
 unfolding turnsOf
-no-group-in-group ps = holds ps .written false tt
+no-group-in-group ps = turns-have Written Passing cases ps .0 false tt

@@ -16,7 +16,7 @@ use address_list::part_from;
 use rules::Rules;
 
 // A group: whether it loses a member, where its semicolon stands, and the place after it.
-pub struct Group {
+struct Group {
     pub lost: bool,
     pub end: usize,
     pub next: usize,
