@@ -131,6 +131,23 @@ const test_case cases[] = {
     {"group", PLAIN, "To: " E_ACUTE ": a@x, <b@x>;, c:;\r\n", TAKEN, PLAIN,
      "To:" OPEN E_WORD CLOSE "\r\n :\r\n a@x,\r\n <b@x>\r\n ;,\r\n c\r\n :"
      "\r\n ;\r\n"},
+    {"a group that loses a member goes whole", PLAIN,
+     "To: h: a@x, " E_ACUTE "@x ;, b@x\r\n", TAKEN, PLAIN,
+     "To:\r\n h\r\n Internationalized Address" OPEN "a=40x=2C_" E_WORD "=40x"
+     CLOSE "\r\n Removed:;,\r\n b@x\r\n"
+     "Downgraded-To:" HERE "h=3A_a=40x=2C_" E_WORD "=40x_=3B=2C_b=40x" CLOSE
+     "\r\n"},
+    {"a group whose members have alternatives stays", PLAIN,
+     "To: h: <" E_ACUTE "@x <e@x>>;\r\n", TAKEN, PLAIN,
+     "To:\r\n h\r\n :\r\n <e@x>\r\n ;\r\n"
+     "Downgraded-To:" HERE "h=3A_=3C" E_WORD "=40x_=3Ce=40x=3E=3E=3B" CLOSE
+     "\r\n"},
+    {"comments about a group that loses a member", PLAIN,
+     "To: h (c): (d) " E_ACUTE "@x; (e)\r\n", TAKEN, PLAIN,
+     "To:\r\n h\r\n (\r\n c\r\n )\r\n Internationalized Address" OPEN
+     "=28d=29_" E_WORD "=40x" CLOSE "\r\n Removed:;\r\n (\r\n e\r\n )\r\n"
+     "Downgraded-To:" HERE "h_=28c=29=3A_=28d=29_" E_WORD "=40x=3B_=28e=29" CLOSE
+     "\r\n"},
     {"text that does not fit is encapsulated", PLAIN,
      "To: " E_ACUTE "\r\n", TAKEN, PLAIN,
      "Downgraded-To:" HERE E_WORD CLOSE "\r\n"},

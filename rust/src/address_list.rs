@@ -20,6 +20,8 @@ pub trait Parts {
     /// One of `, : ;`.
     fn mark(&mut self, mark: u8);
     fn comment(&mut self, comment: &[u8]);
+    /// [4]: in place of a group's colon, its members and its semicolon, what stands between the two marks.
+    fn removed_members(&mut self, members: &[u8]);
 }
 
 /// "The text must be a comma list of mailboxes or groups (`phrase : mailboxes ;`, perhaps none), with runs of spaces
@@ -40,15 +42,34 @@ pub fn list(text: &[u8], parts: &mut impl Parts) -> Option<()> {
 fn mailbox_or_group(text: &[u8], at: usize, parts: &mut impl Parts) -> Option<usize> {
     match mailbox(text, at, parts)? {
         Mailbox::End(end) => Some(end),
-        Mailbox::Phrase(end) => members(text, mark(text, end, b':', parts)?, parts),
+        Mailbox::Phrase(end) => group_from_colon(text, end, parts),
     }
 }
 
-/// From behind a group's colon to behind its semicolon. A member is a mailbox: no group stands inside a group.
-fn members(text: &[u8], at: usize, parts: &mut impl Parts) -> Option<usize> {
-    let mut at = at;
+/// [4]: "If any member of a group has a non-ASCII address without an alternative, the whole group becomes the pieces
+/// before its colon", which have come, and what stands for its members. [4.2]: "The list must fit before the rule is
+/// used."
+fn group_from_colon(text: &[u8], colon: usize, parts: &mut impl Parts) -> Option<usize> {
+    let mut look = Look::default();
+    let semicolon = members(text, colon, &mut look)?;
+    if look.removed {
+        // "everything between its colon and semicolon (spaces and TABs at both ends dropped)"
+        let mut between = &text[colon + 1..semicolon];
+        while let [b' ' | b'\t', rest @ ..] | [rest @ .., b' ' | b'\t'] = between {
+            between = rest;
+        }
+        parts.removed_members(between);
+        return gap(text, semicolon + 1, parts);
+    }
+    members(text, colon, parts)?;
+    mark(text, semicolon, b';', parts)
+}
+
+/// From a group's colon to its semicolon. A member is a mailbox: no group stands inside a group.
+fn members(text: &[u8], colon: usize, parts: &mut impl Parts) -> Option<usize> {
+    let mut at = mark(text, colon, b':', parts)?;
     if text.get(at) == Some(&b';') {
-        return mark(text, at, b';', parts);
+        return Some(at);
     }
     loop {
         at = match mailbox(text, at, parts)? {
@@ -56,7 +77,7 @@ fn members(text: &[u8], at: usize, parts: &mut impl Parts) -> Option<usize> {
             Mailbox::Phrase(_) => return None,
         };
         if text.get(at) == Some(&b';') {
-            return mark(text, at, b';', parts);
+            return Some(at);
         }
         at = mark(text, at, b',', parts)?;
     }
@@ -182,31 +203,36 @@ fn mark(text: &[u8], at: usize, mark: u8, parts: &mut impl Parts) -> Option<usiz
 }
 
 /// Looks for an address that is replaced or removed.
+#[derive(Default)]
 struct Look {
-    found: bool,
+    replaced: bool,
+    removed: bool,
 }
 
 impl Parts for Look {
     fn phrase(&mut self, _phrase: &[u8]) {}
     fn bare(&mut self, address: &[u8]) {
-        self.found |= !address.is_ascii();
+        self.removed |= !address.is_ascii();
     }
     fn angle(&mut self, address: &[u8]) {
-        self.found |= !address.is_ascii();
+        self.removed |= !address.is_ascii();
     }
     fn alternative(&mut self, _address: &[u8]) {
-        self.found = true;
+        self.replaced = true;
     }
     fn mark(&mut self, _mark: u8) {}
     // [1.10]: only addresses bring a copy.
     fn comment(&mut self, _comment: &[u8]) {}
+    fn removed_members(&mut self, _members: &[u8]) {
+        self.removed = true;
+    }
 }
 
 /// None where the text does not fit; else whether any address is replaced or removed.
 pub fn replaces(text: &[u8]) -> Option<bool> {
-    let mut look = Look { found: false };
+    let mut look = Look::default();
     list(text, &mut look)?;
-    Some(look.found)
+    Some(look.replaced || look.removed)
 }
 
 /// "The rewritten value is a row of pieces, each written straight after the piece before it as CRLF, space, piece"
@@ -220,10 +246,11 @@ impl<S: Sink> Pieces<'_, S> {
         self.sink.put(piece);
     }
 
-    /// "Non-ASCII address with no alternative: `Internationalized Address`, its encoded words, `Removed:;`."
-    fn removed(&mut self, address: &[u8]) {
+    /// "Non-ASCII address with no alternative: `Internationalized Address`, its encoded words, `Removed:;`." [4] has
+    /// the same words for the members of a group.
+    fn removed(&mut self, text: &[u8]) {
         self.piece(b"Internationalized Address");
-        row(self.sink, address);
+        row(self.sink, text);
         self.piece(b"Removed:;");
     }
 }
@@ -288,6 +315,10 @@ impl<S: Sink> Parts for Pieces<'_, S> {
             Part::Run(run) if run.is_ascii() => self.piece(run),
             Part::Run(run) => comment::write_run(self.sink, run),
         });
+    }
+
+    fn removed_members(&mut self, members: &[u8]) {
+        self.removed(members);
     }
 }
 

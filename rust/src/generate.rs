@@ -717,31 +717,50 @@ fn mailbox(r: &mut Random, out: &mut Vec<u8>, f: &Faults) {
     out.push(b'>');
 }
 
+/// Short mailboxes, for groups of many: one that is removed, others that are not.
+const MEMBERS: &[&str] = &["é@x", "a@b", "<é@x <a@b>>", "é <a@b>", "<c@d>", "(é)a@b", "<é@x \t<\"q\"@[1]>> (c)"];
+
+fn group(r: &mut Random, out: &mut Vec<u8>, f: &Faults) {
+    phrase(r, out, f);
+    gap(r, out, f);
+    out.push(b':');
+    gap(r, out, f);
+    if f.here(r) {
+        // A group inside a group.
+        phrase(r, out, f);
+        out.extend_from_slice(r.pick(&[":;", " : a@x ;", ":a@x,b@y;", ":é@x;", " Removed:;"]).as_bytes());
+    } else if r.once_in(8) {
+        // Mostly with none that is removed, or with one at a place of its own.
+        let members = if r.once_in(6) { r.from(50, 400) } else { r.from(1, 12) };
+        let removed = r.below(2 * members);
+        for at in 0..members {
+            let member = if at == removed { MEMBERS[0] } else { r.pick(&MEMBERS[1..]) };
+            out.extend_from_slice(member.as_bytes());
+            if at + 1 < members {
+                out.extend_from_slice(r.pick(&[", ", " , ", ",\t", " ,", ", (c) "]).as_bytes());
+            }
+        }
+        gap(r, out, f);
+    } else if !r.once_in(4) {
+        mailbox(r, out, f);
+        while r.once_in(3) {
+            gap(r, out, f);
+            out.push(if f.here(r) { b';' } else { b',' });
+            gap(r, out, f);
+            mailbox(r, out, f);
+        }
+        gap(r, out, f);
+    }
+    if !f.here(r) {
+        out.push(b';');
+    }
+}
+
 fn address_list(r: &mut Random, out: &mut Vec<u8>, f: &Faults) {
     gap(r, out, f);
     loop {
-        if r.once_in(5) {
-            phrase(r, out, f);
-            gap(r, out, f);
-            out.push(b':');
-            gap(r, out, f);
-            if f.here(r) {
-                // A group inside a group.
-                phrase(r, out, f);
-                out.extend_from_slice(r.pick(&[":;", " : a@x ;", ":a@x,b@y;"]).as_bytes());
-            } else if !r.once_in(4) {
-                mailbox(r, out, f);
-                while r.once_in(3) {
-                    gap(r, out, f);
-                    out.push(if f.here(r) { b';' } else { b',' });
-                    gap(r, out, f);
-                    mailbox(r, out, f);
-                }
-                gap(r, out, f);
-            }
-            if !f.here(r) {
-                out.push(b';');
-            }
+        if r.once_in(3) {
+            group(r, out, f);
         } else {
             mailbox(r, out, f);
         }
@@ -763,7 +782,7 @@ fn address_list(r: &mut Random, out: &mut Vec<u8>, f: &Faults) {
 const TOKENS: &[&str] = &[
     "a", "b.c", "é", "é", "\"q r\"", "\"é\\\"\"", "@", ".", "<", ">", ">>", ",", ":", ";", " ", "\t", "a@b", "é@x",
     "a@[1]", "\"q\"@x", "<a@b>", "<é@x>", "<é@x <a@b>>", " <a@b>", ", ", " : ", " ; ", "g:a@b;", "(", ")", "\"", "\\",
-    "[", "]", "(é)", "(c)", "( ", " )", "(\\)", "(\")",
+    "g:", "g:é@x;", "g: é@x ,", "[", "]", "(é)", "(c)", "( ", " )", "(\\)", "(\")",
 ];
 
 /// Tokens of the grammar, whatever their order.

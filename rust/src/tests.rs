@@ -1,6 +1,7 @@
 //! The papers' checked examples, each rule, and its near misses; a test of a settled reading tells its number.
 
 use crate::call::{ENVELOPE, HEADER, NEITHER};
+use crate::rfc5322::is_address_list;
 use crate::sink::Writer;
 use crate::words::row;
 use crate::{downgrade, Answer};
@@ -61,6 +62,9 @@ fn unfit(text: &str) {
 
 /// An address field that is rewritten as these lines.
 fn fits(text: &str, pieces: &[&str]) {
+    let field = out(&format!("To: {text}\r\n"));
+    let value = field.split("\r\nDowngraded-").next().unwrap().trim_end_matches("\r\n").strip_prefix("To:").unwrap();
+    assert!(is_address_list(value.as_bytes()), "{value:?}");
     let mut got = lines(&format!("To: {text}\r\n"));
     assert_eq!(got.remove(0), "To:", "{text:?}");
     if let Some(copy) = got.iter().position(|line| line.starts_with("Downgraded-To: =?UTF-8?Q?")) {
@@ -991,8 +995,85 @@ fn groups_that_fit() {
     fits("é:;", &[e, ":", ";"]);
     fits("é \t: \t; \t", &[e, ":", ";"]);
     fits("a b : é <a@x> , b@y ; , c:d@z;", &["a", "b", ":", e, "<a@x>,", "b@y", ";,", "c", ":", "d@z", ";"]);
-    fits("é:é@x;", &[e, ":", "Internationalized Address", "=?UTF-8?Q?=C3=A9=40x?=", "Removed:;", ";"]);
     fits("g:<é@x <a@x>>;", &["g", ":", "<a@x>", ";"]);
+}
+
+#[test]
+fn groups_that_lose_a_member() {
+    let (e, words) = ("=?UTF-8?Q?=C3=A9?=", "Internationalized Address");
+    let e_at_x = "=?UTF-8?Q?=C3=A9=40x?=";
+    fits("é:é@x;", &[e, words, e_at_x, "Removed:;"]);
+    fits("a \"b\" : <é@x> ;", &["a", "\"b\"", words, "=?UTF-8?Q?=3C=C3=A9=40x=3E?=", "Removed:;"]);
+    // [4.1]: comments before the colon are pieces, those behind it are text.
+    fits("g (c)(é) :é@x;", &["g", "(", "c", ")", "(", e, ")", words, e_at_x, "Removed:;"]);
+    fits("(c) g:é@x;", &["(", "c", ")", "g", words, e_at_x, "Removed:;"]);
+    fits("g:(c)é@x(\\é ( ));", &["g", words, "=?UTF-8?Q?=28c=29=C3=A9=40x=28=5C=C3=A9_=28_=29=29?=", "Removed:;"]);
+    fits(
+        "g:\"q\\r\" <a@b>\t,\r\n <é@y  <b@c>> ,é@x;",
+        &[
+            "g",
+            words,
+            "=?UTF-8?Q?=22q=5Cr=22_=3Ca=40b=3E=09=2C_=3C=C3=A9=40y__=3Cb=40c=3E=3E_=2C?=",
+            e_at_x,
+            "Removed:;",
+        ],
+    );
+    for (blanks, fold) in [(" ", "\r\n "), (" \t ", "\t\r\n\t\r\n "), ("\t", "\r\n\t")] {
+        fits(&format!("g{blanks}:{blanks}é@x{blanks};{blanks}"), &["g", words, e_at_x, "Removed:;"]);
+        fits(&format!("g{fold}:{fold}é@x{fold};{fold}"), &["g", words, e_at_x, "Removed:;"]);
+    }
+    fits("g: (c) é@x ( ) ;", &["g", words, "=?UTF-8?Q?=28c=29_=C3=A9=40x_=28_=29?=", "Removed:;"]);
+    // [4.3]: neither mark is written; a comma joins what was written last.
+    fits("g:é@x; , a@b", &["g", words, e_at_x, "Removed:;,", "a@b"]);
+    fits("g:é@x;(c),a@b", &["g", words, e_at_x, "Removed:;", "(", "c", "),", "a@b"]);
+    fits("g:é@x; (é) (c) ", &["g", words, e_at_x, "Removed:;", "(", e, ")", "(", "c", ")"]);
+    fits("g:é@x;,h:;", &["g", words, e_at_x, "Removed:;,", "h", ":", ";"]);
+    fits("h:;,g:é@x;,é:é@x;", &["h", ":", ";,", "g", words, e_at_x, "Removed:;,", e, words, e_at_x, "Removed:;"]);
+    // [4.4]: one member is enough, whichever; alternatives alone leave the group as it was.
+    for members in ["é@x,a@b,<c@d>", "a@b,é@x,<c@d>", "a@b,<c@d>,é@x"] {
+        let row = "=?UTF-8?Q?".to_string() + &members.replace('é', "=C3=A9").replace('@', "=40").replace(',', "=2C");
+        let row = row.replace('<', "=3C").replace('>', "=3E") + "?=";
+        fits(&format!("g:{members};"), &["g", words, &row, "Removed:;"]);
+    }
+    fits("g:<é@x <a@b>>;", &["g", ":", "<a@b>", ";"]);
+    fits("é:<é@x <a@b>>,é <é@x <c@d>>;", &[e, ":", "<a@b>,", e, "<c@d>", ";"]);
+    fits("g:é <a@b>,c@d(é);", &["g", ":", e, "<a@b>,", "c@d", "(", e, ")", ";"]);
+    fits("é:;,g:(é);", &[e, ":", ";,", "g", ":", "(", e, ")", ";"]);
+    fits("g:<é@x <a@b>>,é@x;", &["g", words, "=?UTF-8?Q?=3C=C3=A9=40x_=3Ca=40b=3E=3E=2C=C3=A9=40x?=", "Removed:;"]);
+    // [4.5]
+    fits("é@x,g:a@b;", &[words, e_at_x, "Removed:;,", "g", ":", "a@b", ";"]);
+    fits("b <é@x>,g:é@x;", &["b", words, e_at_x, "Removed:;,", "g", words, e_at_x, "Removed:;"]);
+    // The copy has the whole text.
+    assert_eq!(lines("Cc: g: é@x ;\r\n")[5..], ["Downgraded-Cc: =?UTF-8?Q?g=3A_=C3=A9=40x_=3B?="]);
+    assert_eq!(lines("Cc: g:é <a@b>;\r\n").last().unwrap(), ";");
+}
+
+#[test]
+fn groups_that_lose_a_member_must_fit() {
+    // [4.2]
+    let long = "b".repeat(900);
+    let address = "b".repeat(898) + "@x";
+    for (fit, unfitting) in [
+        (format!("g:é@x,\r\n {address};"), format!("g:é@x,\r\n b{address};")),
+        (format!("g:{long}\r\n <é@x>;"), format!("g:{long}b\r\n <é@x>;")),
+        (format!("g:é@x\r\n ({long});"), format!("g:é@x\r\n ({long}b);")),
+        (format!("g:<é@x\r\n <{address}>>,é@x;"), format!("g:<é@x\r\n <b{address}>>,é@x;")),
+        (format!("g:é@x;\r\n ({long})"), format!("g:é@x;\r\n ({long}b)")),
+        (format!("{long}\r\n :é@x;"), format!("{long}b\r\n :é@x;")),
+    ] {
+        let got = out(&format!("To: {fit}\r\n"));
+        assert!(got.starts_with("To:\r\n ") && got.contains("\r\n Removed:;\r\n"), "{fit}");
+        unfit(&unfitting);
+    }
+    for text in ["g:é@x", "g:é@x,;", "g:é@x;;", "g:é@x;a@b", "g:h:é@x;;", "g:é@x (;", "g:é@x,<a@b >;", ":é@x;"]
+    {
+        unfit(text);
+    }
+    // The row of the members is as long as they are.
+    let members = vec!["é@x"; 300].join(",\r\n ");
+    let got = out(&format!("To: g:{members};\r\n"));
+    let row = got.split_once("Address").unwrap().1.split_once("\r\n Removed:;\r\n").unwrap().0;
+    assert_eq!(read_row(row.as_bytes()).unwrap().0, members.replace("\r\n", "").as_bytes());
 }
 
 #[test]

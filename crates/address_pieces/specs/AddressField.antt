@@ -8,6 +8,7 @@ use Rattle.encoded_word.specs.Segments.{Segment}
 use Rattle.encoded_word.specs.Segments.Segment.{raw}
 use Rattle.field.specs.Field.{encodedField}
 use Rattle.address_list.specs.Parts.{partsOf}
+use Rattle.group.specs.Group.{turnsOf}
 use Rattle.address_list.specs.Table.{examined}
 use Rattle.address_list.specs.declared.Examined.{Examined}
 use Rattle.address_list.specs.declared.Examined.the-variants.{DoesNotFit, Kept, Changed}
@@ -15,7 +16,7 @@ use Rattle.address_pieces.specs.Pieces.{piecesOf}
 
 -- the name as it came, colon (58), the rewritten value, CRLF
 unfoldable pub rewrittenField : Rules → List ℕ → List ℕ → List Segment
-rewrittenField rules name text = raw (name ++ (58 ∷ [])) ∷ (piecesOf rules (partsOf rules text) ++ (raw (13 ∷ 10 ∷ []) ∷ []))
+rewrittenField rules name text = raw (name ++ (58 ∷ [])) ∷ (piecesOf rules (turnsOf (partsOf rules text)) ++ (raw (13 ∷ 10 ∷ []) ∷ []))
 
 -- "Text that does not fit is encapsulated." "If any address was replaced or removed, a `Downgraded-` field with encoded words of the
 -- original text follows the rewritten field."

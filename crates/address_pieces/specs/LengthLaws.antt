@@ -5,11 +5,11 @@ use mathlib.Core.List.{List, [], _∷_, map}
 use Prim.Native.Nat.{ℕ, zero, suc, pred, _+_, _-_, _*_, _≤_, _<_, zero-le}
 use native.Mathlib.Omega.{arith}
 use native.Mathlib.Nat.{not-suc-le-zero}
-use lib.Dec.{leb}
+use lib.Dec.{T, leb}
 use lib.ListN.{length, take, drop, length-drop, length-take, length-append}
 use Rattle.lists.specs.Byte.{isAscii}
 use Rattle.lists.specs.Lists.{all}
-use Rattle.lists.specs.ListsLaws.{cond-has}
+use Rattle.lists.specs.ListsLaws.{by-test, no-false, cond-has}
 use Rattle.lists.specs.Run.{run}
 use Rattle.line.specs.Line.{blank}
 use Rattle.letter_case.specs.LetterCase.{bytes}
@@ -31,7 +31,7 @@ use Rattle.phrase.specs.Phrase.{wordSize, wordsFrom, phraseWords, phraseText}
 use Rattle.phrase.specs.PhraseLaws.{word-size-some, length-phrase-text}
 use Rattle.comment.specs.Comment.{commentLen}
 use Rattle.piece.specs.CommentPiecesLaws.{comment-le}
-use Rattle.address_list.specs.Parts.{partAt, partsFrom, partsOf}
+use Rattle.address_list.specs.Parts.{Part, partAt, partsFrom, partsOf}
 use Rattle.address_list.specs.PartCasesLaws.{part-has}
 use Rattle.address_list.specs.declared.Front.{Front}
 use Rattle.address_list.specs.Table.{examined}
@@ -39,8 +39,11 @@ use Rattle.address_list.specs.declared.Examined.{Examined}
 use Rattle.address_list.specs.declared.Examined.the-variants.{DoesNotFit, Kept, Changed}
 use Rattle.address_list.specs.declared.PartKind.{PartKind}
 use Rattle.address_list.specs.declared.PartKind.the-variants.{Blank, Comment, Comma, Colon, Semicolon, Phrase, Address, Angled, Alternative, Stray}
+use Rattle.group.specs.Group.{isLost, inside, anyLost, textOf, trimmed, Turn, turnsOf}
+use Rattle.group.specs.GroupLaws.{Each, each-inside, TurnCases, turns-have}
+use Rattle.group.specs.TrimmedLaws.{trimmed-le}
 use Rattle.piece.specs.Piece.{piece}
-use Rattle.address_pieces.specs.Pieces.{phrasePieces, removed, inAngles, addressPieces, pieces, piecesOf}
+use Rattle.address_pieces.specs.Pieces.{phrasePieces, removed, inAngles, addressPieces, pieces, turnPieces, piecesOf}
 use Rattle.piece.specs.PieceLaws.{rendered-one}
 use Rattle.address_pieces.specs.AddressField.{rewrittenField, fieldBy, addressField}
 
@@ -165,22 +168,78 @@ part-enough rules s h = part-has (Enough s) rules s (record {
     one : 1 ≤ length (take 1 s)
     one = front-length 1 1 s (omega arith) h
 
+-- ---- the parts of a text
+
+abbrev EnoughPart : Part → Type 0
+EnoughPart p = least (p .kind) ≤ length (p .text)
+
+parts-enough : (rules : Rules) (k : ℕ) (s : List ℕ) → Each EnoughPart (partsFrom rules k s)
+unfolding partsFrom
+parts-enough rules k [] = tt
+parts-enough rules (suc k) (b ∷ s) = parts-enough rules k s
+parts-enough rules zero (b ∷ s) = (part-enough rules (b ∷ s) (omega arith) .bytes, parts-enough rules (pred (partAt rules (b ∷ s) .size)) s)
+
+-- the parts are no longer than the text
+parts-length : (rules : Rules) (k : ℕ) (s : List ℕ) → length (textOf (partsFrom rules k s)) ≤ length (drop k s)
+unfolding partsFrom textOf
+parts-length rules k [] = zero-le
+parts-length rules (suc k) (b ∷ s) = parts-length rules k s
+parts-length rules zero (b ∷ s) =
+    let f = partAt rules (b ∷ s) in
+    rw length-append (omega (arith, part-enough rules (b ∷ s) (omega arith) .some, parts-length rules (pred (f .size)) s, length-drop (pred (f .size)) s, length-take (f .size) (b ∷ s)))
+
+-- ---- a group that is removed
+
+lost-least : (kind : PartKind) (t : List ℕ) → T (isLost kind t) → 3 ≤ least kind
+unfolding isLost
+lost-least Blank t h = absurd h
+lost-least Comment t h = absurd h
+lost-least Comma t h = absurd h
+lost-least Colon t h = absurd h
+lost-least Semicolon t h = absurd h
+lost-least Phrase t h = absurd h
+lost-least Address t h = omega arith
+lost-least (Angled start size) t h = omega arith
+lost-least (Alternative start size) t h = absurd h
+lost-least Stray t h = absurd h
+
+-- a lost member has at least 3 bytes
+lost-length : (ps : List Part) → Each EnoughPart ps → T (anyLost ps) → 3 ≤ length (textOf ps)
+unfolding anyLost textOf
+lost-length [] e h = absurd h
+lost-length (p ∷ ps) e h =
+    rw length-append (by-test (isLost (p .kind) (p .text))
+    (λ y. omega (arith, lost-least (p .kind) (p .text) y, e .0))
+    (λ n. omega (arith, lost-length ps (e .1) (rw (no-false (isLost (p .kind) (p .text)) n) at h))))
+
 -- ---- the value
 
-parts-le : (rules : Rules) (k : ℕ) (s : List ℕ) → length (rendered (piecesOf rules (partsFrom rules k s))) ≤ 25 * length (drop k s)
-unfolding partsFrom piecesOf rendered
-parts-le rules k [] = zero-le
-parts-le rules (suc k) (b ∷ s) = parts-le rules k s
-parts-le rules zero (b ∷ s) =
-    let f = partAt rules (b ∷ s) in
-    let t = take (f .size) (b ∷ s) in
-    let e = part-enough rules (b ∷ s) (omega arith) in
-    rw (rendered-append, length-append)
-    (omega (arith, e .some, pieces-le rules (f .kind) t (e .bytes), parts-le rules (pred (f .size)) s, length-drop (pred (f .size)) s, length-take (f .size) (b ∷ s)))
+-- at most 25 bytes are written for each byte of the parts
+abbrev Written : Rules → List Part → List Turn → Type 0
+Written rules ps ts = Each EnoughPart ps → length (rendered (piecesOf rules ts)) ≤ 25 * length (textOf ps)
 
-value-le : (rules : Rules) (text : List ℕ) → length (rendered (piecesOf rules (partsOf rules text))) ≤ 25 * length text
-unfolding partsOf
-value-le rules text = parts-le rules 0 text
+-- and none for a group that is passed over
+abbrev Passing : Rules → List Part → List Turn → Type 0
+Passing rules ps ts = Each EnoughPart ps → length (rendered (piecesOf rules ts)) + 25 * length (textOf (inside ps)) ≤ 25 * length (textOf ps)
+
+turns-le : (rules : Rules) → TurnCases (Written rules) (Passing rules)
+unfolding piecesOf turnPieces rendered inside textOf
+turns-le rules = record {
+  none = λ e. zero-le;
+  over = λ e. omega arith;
+  group =
+      λ p ps ts colon lost more e.
+      let t = textOf (inside ps) in
+      rw (rendered-append, length-append, length-append)
+      (omega (arith, removed-le rules (trimmed t), trimmed-le t, lost-length (inside ps) (each-inside EnoughPart ps (e .1)) lost, more (e .1)));
+  part = λ p ps ts n more e. rw (rendered-append, length-append, length-append) (omega (arith, pieces-le rules (p .kind) (p .text) (e .0), more (e .1)));
+  end = λ p ps ts m more e. rw (m, length-append) (omega (arith, more (e .1)));
+  passed = λ p ps ts m more e. rw (m, length-append, length-append) (omega (arith, more (e .1)));
+}
+
+value-le : (rules : Rules) (text : List ℕ) → length (rendered (piecesOf rules (turnsOf (partsOf rules text)))) ≤ 25 * length text
+unfolding partsOf turnsOf
+value-le rules text = omega (arith, turns-have (Written rules) (Passing rules) (turns-le rules) (partsFrom rules 0 text) .0 (parts-enough rules 0 text), parts-length rules 0 text)
 
 -- ---- the field
 

@@ -13,7 +13,7 @@ use Rattle.encoded_word.specs.Segments.Segment.{raw, words}
 use Rattle.phrase.specs.Phrase.{phraseWords, phraseText}
 use Rattle.piece.specs.Piece.{piece}
 use Rattle.piece.specs.CommentPieces.{commentPieces}
-use Rattle.address_list.specs.Parts.{Part}
+use Rattle.group.specs.Group.{Turn, trimmed}
 use Rattle.address_list.specs.declared.PartKind.{PartKind}
 use Rattle.address_list.specs.declared.PartKind.the-variants.{Blank, Comment, Comma, Colon, Semicolon, Phrase, Address, Angled, Alternative, Stray}
 
@@ -26,9 +26,9 @@ phrasePieces phrase = cond (all isAscii phrase) (map piece (phraseWords phrase))
 -- ---- an address
 
 -- "Non-ASCII address with no alternative: `Internationalized Address`, its encoded words, `Removed:;`."
--- The fixed words are those of the rules.
+-- The fixed words are those of the rules. The same of the text of a group that is removed.
 unfoldable pub removed : Rules → List ℕ → List Segment
-removed rules address = map piece (removalStart rules) ++ (words address ∷ piece (removalEnd rules) ∷ [])
+removed rules text = map piece (removalStart rules) ++ (words text ∷ piece (removalEnd rules) ∷ [])
 
 -- in `< >`: `<` is 60, `>` is 62
 abbrev pub inAngles : List ℕ → Segment
@@ -54,6 +54,15 @@ pieces rules (Angled start size) t = addressPieces rules inAngles (take size (dr
 pieces rules (Alternative start size) t = inAngles (take size (drop start t)) ∷ []
 pieces rules Stray t = []
 
-unfoldable pub piecesOf : Rules → List Part → List Segment
+-- ---- the pieces of a turn
+
+-- A part; or "If any member of a group has a non-ASCII address without an alternative, the whole group becomes the pieces before its
+-- colon", which are written before, "`Internationalized Address`, encoded words of everything between its colon and semicolon (spaces
+-- and TABs at both ends dropped), `Removed:;`."
+unfoldable pub turnPieces : Rules → Turn → List Segment
+turnPieces rules (Turn.part kind t) = pieces rules kind t
+turnPieces rules (Turn.lostGroup t) = removed rules (trimmed t)
+
+unfoldable pub piecesOf : Rules → List Turn → List Segment
 piecesOf rules [] = []
-piecesOf rules (p ∷ ps) = pieces rules (p .kind) (p .text) ++ piecesOf rules ps
+piecesOf rules (t ∷ ts) = turnPieces rules t ++ piecesOf rules ts

@@ -1,9 +1,10 @@
 -- Laws of the pieces, as code writes them. Assumes nothing.
-use mathlib.Core.Path.{_≡_, sym, _∙_}
-use mathlib.Core.Bool.{true, false}
+use mathlib.Core.Path.{_≡_, refl, sym}
+use mathlib.Core.Bool.{Bool, true, false, not}
 use mathlib.Core.List.{List, [], _++_, map}
 use Prim.Native.Nat.{ℕ, _+_, _-_, _*_, _≤_, _<_}
 use native.Mathlib.Omega.{arith}
+use lib.Dec.{T}
 use lib.ListN.{length, take, drop, length-drop}
 use lib.Seq.{length-take-le}
 use Rattle.lists.specs.Byte.{isAscii}
@@ -17,13 +18,20 @@ use Rattle.encoded_word.specs.Segments.Segment.{words}
 use Rattle.encoded_word.specs.SegmentsLaws.{rendered-append}
 use Rattle.phrase.specs.Phrase.{wordSize, wordsFrom, phraseWords, phraseText}
 use Rattle.phrase.specs.PhraseLaws.{phrase-words-next, phrase-words-end}
-use Rattle.address_list.specs.Parts.{innerEnd, TookFrom, partsFrom}
-use Rattle.address_list.specs.PartsLaws.{parts-step, parts-end}
-use Rattle.address_list.specs.declared.Front.{Front}
-use Rattle.address_list.specs.declared.PartKind.the-variants.{Angled, Alternative}
+use Rattle.address_list.specs.Parts.{innerEnd}
+use Rattle.address_list.specs.PartsLaws.{parts-end}
+use Rattle.address_list.specs.declared.PartKind.{PartKind}
+use Rattle.address_list.specs.declared.PartKind.the-variants.{Blank, Comment, Comma, Colon, Semicolon, Phrase, Address, Angled, Alternative, Stray}
+use Rattle.group.specs.Group.{isLost, trimmed, Turn, turnsFrom, turnFor, partsAt, NextAt}
+use Rattle.group.specs.NestingLaws.{isRemoved}
+use Rattle.group.specs.declared.Next.{Next}
 use Rattle.piece.specs.Piece.{piece}
 use Rattle.piece.specs.PieceLaws.{rendered-one}
-use Rattle.address_pieces.specs.Pieces.{phrasePieces, removed, inAngles, addressPieces, pieces, piecesOf}
+use Rattle.address_pieces.specs.Pieces.{phrasePieces, removed, inAngles, addressPieces, pieces, turnPieces, piecesOf}
+
+kept-ascii : (b : Bool) → T (not (not b)) → b ≡ true
+kept-ascii true h = refl
+kept-ascii false h = absurd h
 
 -- ---- a phrase, word by word
 
@@ -70,23 +78,48 @@ module _ (t : List ℕ) where
       unfolding pieces
       pieces-alternative = rw part-size (sym (rendered-one (inAngles (take size (drop start t)))))
 
--- ---- the pieces of a text, part by part
+-- ---- the pieces of a text, turn by turn
 
-module _ (rules : Rules) (s : List ℕ) (i : ℕ) where
-  pub pieces-step : (e : ℕ) (f : Front) → i < length s → TookFrom rules s i f → e ≡ i + f .size
-      → rendered (piecesOf rules (partsFrom rules 0 (drop i s))) ≡ rendered (pieces rules (f .kind) (take (e - i) (drop i s))) ++ rendered (piecesOf rules (partsFrom rules 0 (drop e s)))
-  unfolding piecesOf
-  pieces-step e f h w q =
-      let k : e - i ≡ f .size = omega arith in
-      rw (parts-step rules s i f h w, rendered-append, k, q)
+module _ (rules : Rules) (t : List ℕ) where
+  pub turn-group : {lost : Bool} (kind : PartKind) → lost ≡ true → rendered (removed rules (trimmed t)) ≡ rendered (turnPieces rules (turnFor lost kind t))
+  unfolding turnPieces
+  turn-group kind h = rw h
 
-  pub pieces-end : length s ≤ i → rendered (piecesOf rules (partsFrom rules 0 (drop i s))) ≡ []
-  unfolding piecesOf rendered
-  pieces-end h = rw (parts-end rules s i h)
+  pub turn-part : {lost : Bool} (kind : PartKind) → lost ≡ false → rendered (pieces rules kind t) ≡ rendered (turnPieces rules (turnFor lost kind t))
+  unfolding turnPieces
+  turn-part kind h = rw h
 
-  -- a part that is found has the address in it, and the scratch can serve it
-  pub part-fits : (e room : ℕ) (f : Front) → i < length s → TookFrom rules s i f → e ≡ i + f .size → length s ≤ 32768 → 2 * length s ≤ room
-      → (length (take (e - i) (drop i s)) ≤ 32768) × ((2 * length (take (e - i) (drop i s)) ≤ room) × (innerEnd (f .kind) ≤ length (take (e - i) (drop i s))))
-  part-fits e room f h w q k l =
-      let size : length (take (e - i) (drop i s)) ≡ f .size = length-take-le (e - i) (drop i s) (omega (arith, w .within h, length-drop i s)) ∙ omega arith in
-      (omega (arith, size, w .within h), (omega (arith, size, w .within h), omega (arith, size, w .inner)))
+module _ {rules : Rules} {s : List ℕ} {i : ℕ} where
+  module _ {r : Next} (w : NextAt rules s i r) where
+    abbrev turnText : List ℕ
+    turnText = take (r .end - r .start) (drop (r .start) s)
+
+    pub turns-step : rendered (piecesOf rules (turnsFrom false (partsAt rules s i)))
+        ≡ rendered (turnPieces rules (turnFor (r .lost) (r .kind) turnText)) ++ rendered (piecesOf rules (turnsFrom false (partsAt rules s (r .next))))
+    unfolding piecesOf
+    turns-step = rw (w .is) (rendered-append (turnPieces rules (turnFor (r .lost) (r .kind) turnText)) (piecesOf rules (turnsFrom false (partsAt rules s (r .next)))))
+
+    -- a part has the address in it, and the scratch can serve it
+    pub turn-fits : (room : ℕ) → length s ≤ 32768 → 2 * length s ≤ room → (length turnText ≤ 32768) × ((2 * length turnText ≤ room) × (innerEnd (r .kind) ≤ length turnText))
+    turn-fits room k l =
+        let size : length turnText ≡ r .end - r .start = length-take-le (r .end - r .start) (drop (r .start) s) (omega (arith, w .covers, w .within, length-drop (r .start) s)) in
+        (omega (arith, size, w .covers, w .within), (omega (arith, size, w .covers, w .within), omega (arith, size, w .inner)))
+
+pub turns-end : (rules : Rules) (s : List ℕ) (i : ℕ) → length s ≤ i → rendered (piecesOf rules (turnsFrom false (partsAt rules s i))) ≡ []
+unfolding piecesOf turnsFrom rendered
+turns-end rules s i h = rw (parts-end rules s i h)
+
+-- where nothing is removed no fixed words of the rules are written
+pub kept-same : (a b : Rules) (t : Turn) → T (not (isRemoved t)) → turnPieces a t ≡ turnPieces b t
+unfolding turnPieces pieces isLost addressPieces
+kept-same a b (Turn.lostGroup t) h = absurd h
+kept-same a b (Turn.part Blank t) h = refl
+kept-same a b (Turn.part Comment t) h = refl
+kept-same a b (Turn.part Comma t) h = refl
+kept-same a b (Turn.part Colon t) h = refl
+kept-same a b (Turn.part Semicolon t) h = refl
+kept-same a b (Turn.part Phrase t) h = refl
+kept-same a b (Turn.part Address t) h = rw (kept-ascii (all isAscii t) h)
+kept-same a b (Turn.part (Angled start size) t) h = rw (kept-ascii (all isAscii (take size (drop start t))) h)
+kept-same a b (Turn.part (Alternative start size) t) h = refl
+kept-same a b (Turn.part Stray t) h = refl

@@ -13,6 +13,7 @@ use Rattle.lists.specs.ListsLaws.{cond-has, all-append, all-left}
 use Rattle.lists.specs.Lists.{all}
 use Rattle.lists.specs.Run.{run}
 use Rattle.utf8.specs.Utf8.{utf8}
+use Rattle.utf8.specs.Utf8Laws.{utf8-append, utf8-ascii}
 use Rattle.line.specs.Line.{blank}
 use Rattle.letter_case.specs.LetterCase.{bytes}
 use Rattle.rules.specs.Rules.{removalStart, removalEnd}
@@ -37,8 +38,11 @@ use Rattle.address_list.specs.declared.State.{State}
 use Rattle.address_list.specs.declared.State.the-variants.{ItemDue}
 use Rattle.address_list.specs.declared.Examined.{Examined}
 use Rattle.address_list.specs.declared.Examined.the-variants.{DoesNotFit, Kept, Changed}
+use Rattle.group.specs.Group.{inside, textOf, trimmed, Turn, turnsFrom, turnsOf}
+use Rattle.group.specs.GroupLaws.{Each, each-inside, TurnCases, turns-have}
+use Rattle.group.specs.TrimmedLaws.{trimmed-utf8}
 use Rattle.piece.specs.Piece.{piece}
-use Rattle.address_pieces.specs.Pieces.{phrasePieces, removed, inAngles, addressPieces, pieces, piecesOf}
+use Rattle.address_pieces.specs.Pieces.{phrasePieces, removed, inAngles, addressPieces, pieces, turnPieces, piecesOf}
 use Rattle.address_pieces.specs.AddressField.{rewrittenField, fieldBy, addressField}
 
 -- ---- a phrase
@@ -171,49 +175,88 @@ part-known rules s h = part-has (Known s) rules s (record {
     mark : (b : ℕ) → b < 128 → getD s 0 0 ≡ b → Boundary s 1
     mark b k e = boundary-first s h (rw e k)
 
--- ---- the pieces of a text that fits
+-- ---- the parts of a text that fits
 
-pieces-sound : (rules : Rules) (kind : PartKind) (s : List ℕ) (n : ℕ) → (kind ≡ Stray → ⊥) → endKnown kind s n → addressKnown kind (take n s) → T (all sound (pieces rules kind (take n s))) × T (utf8 (drop n s))
-unfolding pieces
-pieces-sound rules Blank s n p e a = (tt, e .after)
-pieces-sound rules Comment s n p e a = (comment-sound (take n s) (e .before), e .after)
-pieces-sound rules Comma s n p e a = (tt, e .after)
-pieces-sound rules Colon s n p e a = (tt, e .after)
-pieces-sound rules Semicolon s n p e a = (tt, e .after)
-pieces-sound rules Phrase s n p e a = (phrase-sound (take n s) (e .before), e .after)
-pieces-sound rules Address s n p e a = (bare-sound rules (take n s) (e .before), e .after)
-pieces-sound rules (Angled start size) s n p e a = (angled-sound rules (take size (drop start (take n s))) a, e .after)
-pieces-sound rules (Alternative start size) s n p e a = (in-angles-sound (take size (drop start (take n s))) a, e .after)
-pieces-sound rules Stray s n p e a = absurd (p refl)
+abbrev KnownPart : Part → Type 0
+KnownPart p = T (utf8 (p .text)) × addressKnown (p .kind) (p .text)
 
 not-stray : (state : State) (kind : PartKind) (ps : List Part) → T (complete (after state kind) ps) → kind ≡ Stray → ⊥
 not-stray state kind ps t e = rw (e, after-stray state, complete-unfit ps) at t
 
-parts-sound : (rules : Rules) (k : ℕ) (s : List ℕ) (state : State) → T (utf8 (drop k s)) → T (complete state (partsFrom rules k s)) → T (all sound (piecesOf rules (partsFrom rules k s)))
-unfolding partsFrom piecesOf complete
-parts-sound rules k [] state h t = tt
-parts-sound rules (suc k) (b ∷ s) state h t = parts-sound rules k s state h t
-parts-sound rules zero (b ∷ s) state h t =
+end-boundary : (kind : PartKind) (s : List ℕ) (n : ℕ) → (kind ≡ Stray → ⊥) → endKnown kind s n → Boundary s n
+end-boundary Blank s n p e = e
+end-boundary Comment s n p e = e
+end-boundary Comma s n p e = e
+end-boundary Colon s n p e = e
+end-boundary Semicolon s n p e = e
+end-boundary Phrase s n p e = e
+end-boundary Address s n p e = e
+end-boundary (Angled start size) s n p e = e
+end-boundary (Alternative start size) s n p e = e
+end-boundary Stray s n p e = absurd (p refl)
+
+parts-known : (rules : Rules) (k : ℕ) (s : List ℕ) (state : State) → T (utf8 (drop k s)) → T (complete state (partsFrom rules k s)) → Each KnownPart (partsFrom rules k s)
+unfolding partsFrom complete
+parts-known rules k [] state h t = tt
+parts-known rules (suc k) (b ∷ s) state h t = parts-known rules k s state h t
+parts-known rules zero (b ∷ s) state h t =
     let f = partAt rules (b ∷ s) in
     let k = part-known rules (b ∷ s) h in
-    let part = pieces-sound rules (f .kind) (b ∷ s) (f .size) (not-stray state (f .kind) (partsFrom rules (pred (f .size)) s) t) (k .end) (k .address) in
-    all-append sound (pieces rules (f .kind) (take (f .size) (b ∷ s))) (piecesOf rules (partsFrom rules (pred (f .size)) s)) (part .0)
-    (parts-sound rules (pred (f .size)) s (after state (f .kind)) (rest (f .size) (k .some) (part .1)) t)
+    let end = end-boundary (f .kind) (b ∷ s) (f .size) (not-stray state (f .kind) (partsFrom rules (pred (f .size)) s) t) (k .end) in
+    ((end .before, k .address), parts-known rules (pred (f .size)) s (after state (f .kind)) (rest (f .size) (k .some) (end .after)) t)
   where
     rest : (n : ℕ) → 0 < n → T (utf8 (drop n (b ∷ s))) → T (utf8 (drop (pred n) s))
     rest zero p u = absurd (not-suc-le-zero p)
     rest (suc n) p u = u
 
+text-utf8 : (ps : List Part) → Each KnownPart ps → T (utf8 (textOf ps))
+unfolding textOf
+text-utf8 [] e = utf8-ascii [] tt
+text-utf8 (p ∷ ps) e = utf8-append (p .text) (textOf ps) (e .0 .0) (text-utf8 ps (e .1))
+
+-- ---- the pieces of their turns
+
+pieces-sound : (rules : Rules) (kind : PartKind) (t : List ℕ) → T (utf8 t) → addressKnown kind t → T (all sound (pieces rules kind t))
+unfolding pieces
+pieces-sound rules Blank t u a = tt
+pieces-sound rules Comment t u a = comment-sound t u
+pieces-sound rules Comma t u a = tt
+pieces-sound rules Colon t u a = tt
+pieces-sound rules Semicolon t u a = tt
+pieces-sound rules Phrase t u a = phrase-sound t u
+pieces-sound rules Address t u a = bare-sound rules t u
+pieces-sound rules (Angled start size) t u a = angled-sound rules (take size (drop start t)) a
+pieces-sound rules (Alternative start size) t u a = in-angles-sound (take size (drop start t)) a
+pieces-sound rules Stray t u a = tt
+
+abbrev SoundTurns : Rules → List Part → List Turn → Type 0
+SoundTurns rules ps ts = Each KnownPart ps → T (all sound (piecesOf rules ts))
+
+turns-sound : (rules : Rules) → TurnCases (SoundTurns rules) (SoundTurns rules)
+unfolding piecesOf turnPieces
+turns-sound rules = record {
+  none = λ e. tt;
+  over = λ e. tt;
+  group =
+      λ p ps ts colon lost more e.
+      let t = trimmed (textOf (inside ps)) in
+      all-append sound (removed rules t) (piecesOf rules ts) (removed-sound rules t (trimmed-utf8 (textOf (inside ps)) (text-utf8 (inside ps) (each-inside KnownPart ps (e .1))))) (more (e .1));
+  part = λ p ps ts n more e. all-append sound (pieces rules (p .kind) (p .text)) (piecesOf rules ts) (pieces-sound rules (p .kind) (p .text) (e .0 .0) (e .0 .1)) (more (e .1));
+  end = λ p ps ts m more e. more (e .1);
+  passed = λ p ps ts m more e. more (e .1);
+}
+
 -- ---- the field
 
 module _ (rules : Rules) (name text : List ℕ) (a : T (all isAscii name)) (u : T (utf8 text)) where
   rewritten-sound : T (complete ItemDue (partsOf rules text)) → T (all sound (rewrittenField rules name text))
-  unfolding rewrittenField partsOf
+  unfolding rewrittenField partsOf turnsOf
   rewritten-sound t =
-      let value = piecesOf rules (partsFrom rules 0 text) in
+      let ps = partsFrom rules 0 text in
+      let value = piecesOf rules (turnsFrom false ps) in
       yes-and (all isAscii (name ++ (58 ∷ []))) (all sound (value ++ (raw (13 ∷ 10 ∷ []) ∷ [])))
       (all-append isAscii name (58 ∷ []) a tt)
-      (all-append sound value (raw (13 ∷ 10 ∷ []) ∷ []) (parts-sound rules 0 text ItemDue u t) tt)
+      (all-append sound value (raw (13 ∷ 10 ∷ []) ∷ []) (turns-have (SoundTurns rules) (SoundTurns rules) (turns-sound rules) ps .0 (parts-known rules 0 text ItemDue u t)) tt)
 
   -- Every segment of an address field is sound.
   pub address-field-sound : T (all sound (addressField rules name text))

@@ -17,6 +17,7 @@ use Rattle.field.specs.Field.{encodedField}
 use Rattle.phrase.specs.Phrase.{phraseText}
 use Rattle.phrase.specs.PhraseLaws.{length-phrase-text}
 use Rattle.address_list.specs.Parts.{partsOf}
+use Rattle.group.specs.Group.{turnsOf}
 use Rattle.address_list.specs.Table.{examined}
 use Rattle.address_list.specs.declared.Examined.{Examined}
 use Rattle.address_list.specs.declared.Examined.the-variants.{DoesNotFit, Kept, Changed}
@@ -57,12 +58,12 @@ module _ (t : List ℕ) {begun text : List ℕ} {n : ℕ} (u : AppendedCapped (p
 -- ---- the field
 
 module _ (rules : Rules) (name text : List ℕ) where
-  rewritten-bytes : rendered (rewrittenField rules name text) ≡ (name ++ (58 ∷ [])) ++ (rendered (piecesOf rules (partsOf rules text)) ++ (13 ∷ 10 ∷ []))
+  rewritten-bytes : rendered (rewrittenField rules name text) ≡ (name ++ (58 ∷ [])) ++ (rendered (piecesOf rules (turnsOf (partsOf rules text))) ++ (13 ∷ 10 ∷ []))
   unfolding rewrittenField rendered
-  rewritten-bytes = rw (rendered-append (piecesOf rules (partsOf rules text)))
+  rewritten-bytes = rw (rendered-append (piecesOf rules (turnsOf (partsOf rules text))))
 
   pub rewritten-added : {before named marked valued after : List ℕ} {at n c v s : ℕ} → length before ≤ greatest
-      → AppendedCapped name at before named n → AppendedCapped (58 ∷ []) n named marked c → AppendedCapped (rendered (piecesOf rules (partsOf rules text))) c marked valued v
+      → AppendedCapped name at before named n → AppendedCapped (58 ∷ []) n named marked c → AppendedCapped (rendered (piecesOf rules (turnsOf (partsOf rules text)))) c marked valued v
       → AppendedCapped (13 ∷ 10 ∷ []) v valued after s → AppendedCapped (rendered (rewrittenField rules name text)) at before after s
   rewritten-added k a b d f =
       let label = capped-then a b k in

@@ -2,6 +2,7 @@
 mod address_piece;
 mod part;
 mod phrase_pieces;
+mod turn;
 
 ghost use Prim.Native.Nat.{_*_, _≤_};
 ghost use lib.ListN.{length};
@@ -26,7 +27,7 @@ fn add_rewritten(
 {
     let colon = buffer::add_slice(out, at, name);
     let value = buffer::add_byte(out, colon, b':');
-    let end = part::add_parts(out, value, rules, text, scratch);
+    let end = turn::add_turns(out, value, rules, text, scratch);
     buffer::add_slice(out, end, b"\r\n")
 }
 

@@ -1,17 +1,16 @@
-// The pieces of a part, and of a text part by part.
+// The pieces of a part.
 ghost use Prim.Native.Nat.{_*_, _≤_};
 ghost use lib.ListN.{length};
-ghost use Rattle.buffer.specs.Buffer.{Wrote, AppendedCapped};
+ghost use Rattle.buffer.specs.Buffer.{Wrote};
 ghost use Rattle.encoded_word.specs.Segments.{rendered};
-ghost use Rattle.address_list.specs.Parts.{innerEnd, partsOf};
+ghost use Rattle.address_list.specs.Parts.{innerEnd};
 ghost use Rattle.piece.specs.Piece.{piece};
-ghost use Rattle.address_pieces.specs.Pieces.{inAngles, addressPieces, pieces, piecesOf};
+ghost use Rattle.address_pieces.specs.Pieces.{inAngles, addressPieces, pieces};
 use crate::address_piece::put_in_angles;
 use crate::address_piece::put_piece;
 use crate::address_piece::put_removed;
 use crate::phrase_pieces::put_phrase;
 use address_list::PartKind;
-use address_list::part_from;
 use rules::Rules;
 
 // A bare address.
@@ -37,7 +36,13 @@ fn put_angled(out: &mut [u8], rules: Rules, address: &[u8]) -> usize
 }
 
 // The pieces of a part.
-fn put_part(out: &mut [u8], rules: Rules, t: &[u8], kind: PartKind, scratch: &mut [u8]) -> usize
+pub(crate) fn put_part(
+    out: &mut [u8],
+    rules: Rules,
+    t: &[u8],
+    kind: PartKind,
+    scratch: &mut [u8],
+) -> usize
     requires { ⌜ (length (now t) ≤ 32768) × ((2 * length (now t) ≤ length (now scratch)) × (innerEnd kind ≤ length (now t))) ⌝ }
     ensures { λ r. ⌜ Wrote (rendered (pieces rules kind (now (t .entry)))) (now (out .entry)) (now (out .exit)) r ⌝ }
 {
@@ -59,31 +64,4 @@ fn put_part(out: &mut [u8], rules: Rules, t: &[u8], kind: PartKind, scratch: &mu
         }
         PartKind::Stray => 0,
     }
-}
-
-// The pieces of a text, part by part: the rest of the output is lent on from the place reached.
-pub(crate) fn add_parts(
-    out: &mut [u8],
-    at: usize,
-    rules: Rules,
-    text: &[u8],
-    scratch: &mut [u8],
-) -> usize
-    requires { ⌜ (length (now text) ≤ 32768) × (2 * length (now text) ≤ length (now scratch)) ⌝ }
-    ensures { λ r. ⌜ AppendedCapped (rendered (piecesOf rules (partsOf rules (now (text .entry))))) at (now (out .entry)) (now (out .exit)) r ⌝ }
-{
-    let mut next = at;
-    let mut i = 0;
-    while i < text.len() {
-        let f = part_from(text, i, rules);
-        let kind = f.kind;
-        let e = i + f.size;
-        let a = buffer::clip(next, out.len());
-        next = buffer::place_after(
-            next,
-            put_part(&mut out[a..], rules, &text[i..e], kind, scratch),
-        );
-        i = e;
-    }
-    next
 }

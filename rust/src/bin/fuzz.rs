@@ -6,7 +6,8 @@ use hennelaku_model::address_list::Parts;
 use hennelaku_model::call::{ENVELOPE, HEADER, NEITHER};
 use hennelaku_model::comment::{self, Part};
 use hennelaku_model::generate::{self, Random};
-use hennelaku_model::header::{kind, next_non_ascii, Field, Kind};
+use hennelaku_model::header::{is_blank, kind, next_non_ascii, Field, Kind};
+use hennelaku_model::rfc5322::is_address_list;
 use hennelaku_model::utf8::char_len;
 use hennelaku_model::words::SIZE;
 use hennelaku_model::{address_list, downgrade, header, proved, Answer};
@@ -101,6 +102,40 @@ fn fault(input: &Input, got: &Outcome, salt: u8) -> Option<String> {
     None
 }
 
+/// The fields of a well-formed header, each with its lines.
+fn fields(header: &[u8]) -> Vec<&[u8]> {
+    let is_start = |at: usize| at == 0 || (header[at - 1] == b'\n' && !is_blank(header[at]));
+    let mut starts: Vec<usize> = (0..header.len()).filter(|&at| is_start(at)).collect();
+    starts.push(header.len());
+    starts.windows(2).map(|ends| &header[ends[0]..ends[1]]).collect()
+}
+
+/// A rewritten address field of the outgoing header that is no address list by RFC 5322, as one with a group inside a
+/// group.
+fn unlike_rfc5322(header: &[u8], out: &[u8]) -> Option<String> {
+    let out = fields(out);
+    // For each field of the header whether it is rewritten as an address list, and how many are written for it.
+    let mut written = Vec::new();
+    for field in fields(header) {
+        let replaces = next_non_ascii(field, 0).filter(|field| kind(field.name) == Kind::Address).map(|field| {
+            let mut text = Vec::new();
+            header::unfolded(field.folded_text(), |part| text.extend_from_slice(part));
+            address_list::replaces(&text)
+        });
+        written.push((matches!(replaces, Some(Some(_))), 1 + matches!(replaces, Some(Some(true))) as usize));
+    }
+    // Behind the new first fields.
+    let mut at = out.len() - written.iter().map(|(_, count)| count).sum::<usize>();
+    for (rewritten, count) in written {
+        let value = out[at].split_at(out[at].iter().position(|&b| b == b':')? + 1).1;
+        if rewritten && !is_address_list(value.strip_suffix(b"\r\n")?) {
+            return Some(format!("no address list by RFC 5322: \"{}\"", out[at].escape_ascii()));
+        }
+        at += count;
+    }
+    None
+}
+
 /// The header room from which on the proved call does not measure before it writes (`HENNELAKU_HEADER_ROOM_FOR`).
 fn ample(header: &[u8]) -> usize {
     30 * header.len() + 20600
@@ -189,7 +224,8 @@ fn look(met: &mut Met, input: &Input, got: &Outcome) {
     met.count("header copied whole", out == input.header);
     let mut fields = [0; 6];
     let mut comments = Comments::default();
-    let (mut names_of_76, mut folded, mut groups, mut words_of_900) = (0, 0, 0, 0);
+    let mut groups = Groups::default();
+    let (mut names_of_76, mut folded, mut words_of_900) = (0, 0, 0);
     let mut first_lines = [0; 4];
     let mut from = 0;
     while let Some(field) = next_non_ascii(&input.header, from) {
@@ -220,7 +256,7 @@ fn look(met: &mut Met, input: &Input, got: &Outcome) {
         }
         if at > 2 {
             let _ = address_list::list(&text, &mut comments);
-            groups += text.ends_with(b";") as usize;
+            let _ = address_list::list(&text, &mut groups);
             words_of_900 += text.split(|&b| b" \t<>,:;\"".contains(&b)).any(|word| word.len() == 900) as usize;
         }
         names_of_76 += (field.name.len() == 76) as usize;
@@ -237,7 +273,15 @@ fn look(met: &mut Met, input: &Input, got: &Outcome) {
     met.count("address field with a phrase encoded alone", fields[3] > 0);
     met.count("address field with an alternative", fields[4] > 0);
     met.count("address field with one removed", fields[5] > 0);
-    met.count("group at the end of a field that fits", groups > 0);
+    met.count("group kept", groups.kept > 0);
+    met.count("group kept that has an alternative", groups.kept_with_alternative > 0);
+    met.count("group that loses a member", groups.removed > 0);
+    met.count("group that loses a member, beside one with an alternative", groups.removed_with_alternative > 0);
+    met.count("group that loses a member, a comment before its colon", groups.comment_before_colon > 0);
+    met.count("group that loses a member, a comment among its members", groups.comment_among_members > 0);
+    met.count("group that loses a member, a comment behind it", groups.comment_behind > 0);
+    met.count("group that loses a member, a comma behind it", groups.comma_behind > 0);
+    met.count("group that loses a member, of more than 1,000 bytes", groups.longest > 1000);
     met.count("word or address of 900 that fits", words_of_900 > 0);
     met.count("name of 76", names_of_76 > 0);
     met.count("folded field", folded > 0);
@@ -315,6 +359,58 @@ impl Parts for Comments {
         self.last_was_comment = true;
         self.look(comment, true);
     }
+    fn removed_members(&mut self, _members: &[u8]) {
+        self.last_was_comment = false;
+    }
+}
+
+/// What became of the groups in a field that fits.
+#[derive(Default)]
+struct Groups {
+    kept: usize,
+    kept_with_alternative: usize,
+    removed: usize,
+    removed_with_alternative: usize,
+    comment_before_colon: usize,
+    comment_among_members: usize,
+    comment_behind: usize,
+    comma_behind: usize,
+    longest: usize,
+    /// Since the last phrase.
+    comment: bool,
+    /// Since the last colon.
+    alternative: bool,
+    last_was_removed: bool,
+}
+
+impl Parts for Groups {
+    fn phrase(&mut self, _phrase: &[u8]) {
+        self.comment = false;
+    }
+    fn bare(&mut self, _address: &[u8]) {}
+    fn angle(&mut self, _address: &[u8]) {}
+    fn alternative(&mut self, _address: &[u8]) {
+        self.alternative = true;
+    }
+    fn mark(&mut self, mark: u8) {
+        self.kept += (mark == b';') as usize;
+        self.kept_with_alternative += (mark == b';' && self.alternative) as usize;
+        self.comma_behind += (mark == b',' && self.last_was_removed) as usize;
+        self.alternative &= mark == b',';
+        self.last_was_removed = false;
+    }
+    fn comment(&mut self, _comment: &[u8]) {
+        self.comment_behind += self.last_was_removed as usize;
+        self.comment = true;
+    }
+    fn removed_members(&mut self, members: &[u8]) {
+        self.removed += 1;
+        self.removed_with_alternative += has(members, b">>") as usize;
+        self.comment_before_colon += self.comment as usize;
+        self.comment_among_members += members.contains(&b'(') as usize;
+        self.longest = self.longest.max(members.len());
+        self.last_was_removed = true;
+    }
 }
 
 /// The first field that is held for non-ASCII outside its comments has a comment.
@@ -383,6 +479,10 @@ fn compare(input: &Input, salt: u8, label: &str) -> Outcome {
     }
     if model != other {
         show(label, input, &model, &other, "answers or bytes differ");
+    }
+    let out = &other.header[GUARD..GUARD + other.answer.header_len];
+    if let Some(why) = (other.answer.number == 0).then(|| unlike_rfc5322(&input.header, out)).flatten() {
+        show(label, input, &model, &other, &why);
     }
     model
 }

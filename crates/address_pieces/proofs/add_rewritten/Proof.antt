@@ -10,8 +10,8 @@ add-slice-requires c κs = search needs
 add-byte-requires : tie.Need-add-byte-requires
 add-byte-requires c κs = search needs
 
-add-parts-requires : tie.Need-add-parts-requires
-add-parts-requires c κs = search needs
+add-turns-requires : tie.Need-add-turns-requires
+add-turns-requires c κs = search needs
 
 slice-aggregate-add-slice : tie.Need-slice-aggregate-add-slice
 slice-aggregate-add-slice c = search needs
@@ -26,7 +26,7 @@ same-length-2 : tie.Need-same-length-2
 same-length-2 c = search needs
 
 returns : tie.Need-returns
-returns c = rewritten-added _ _ _ (omega arith) (c .before .before .before .before .before .before .before .before .before .before .before .before .before .before .before .before .before .before .add-slice .ensures) (c .before .before .before .before .before .before .before .before .before .before .before .before .before .before .add-byte .ensures) (c .before .before .before .before .before .before .before .before .before .add-parts .ensures) (c .before .before .add-slice2 .ensures)
+returns c = rewritten-added _ _ _ (omega arith) (c .before .before .before .before .before .before .before .before .before .before .before .before .before .before .before .before .before .before .add-slice .ensures) (c .before .before .before .before .before .before .before .before .before .before .before .before .before .before .add-byte .ensures) (c .before .before .before .before .before .before .before .before .before .add-turns .ensures) (c .before .before .add-slice2 .ensures)
 
 pub add-rewritten-spec : {M : Type 1} → statement M
 add-rewritten-spec =
@@ -34,7 +34,7 @@ add-rewritten-spec =
     (tie.spec
     add-slice-requires
     add-byte-requires
-    add-parts-requires
+    add-turns-requires
     slice-aggregate-add-slice
     add-slice-requires-2
     same-length

@@ -1,0 +1,4 @@
+pub mod Group
+pub mod GroupLaws
+pub mod TrimmedLaws
+pub mod NestingLaws
