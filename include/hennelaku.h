@@ -167,7 +167,8 @@ hennelaku_answer hennelaku_downgrade_slices(
  *
  *     address     From Sender Reply-To To Cc Bcc, the same six after Resent-,
  *                 Return-Path Disposition-Notification-To: addresses replaced
- *                 or removed, phrases and comments in encoded words; where an
+ *                 or removed, a group as a whole where one in it would be
+ *                 removed; phrases and comments in encoded words; where an
  *                 address was replaced or removed, the original text in a
  *                 Downgraded- field after it
  *     plain text  Subject Comments Content-Description: text in encoded words
