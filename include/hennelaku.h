@@ -174,9 +174,9 @@ hennelaku_answer hennelaku_downgrade_slices(
  *     plain text  Subject Comments Content-Description: text in encoded words
  *     comments    Date Resent-Date Message-ID Resent-Message-ID In-Reply-To
  *                 References MIME-Version Content-ID
- *                 Content-Transfer-Encoding: comments in parentheses in encoded
- *                 words, all else byte for byte; refused by 6 where non-ASCII
- *                 stands outside comments
+ *                 Content-Transfer-Encoding: runs of comments in parentheses
+ *                 that are not ASCII in encoded words, all else byte for byte;
+ *                 refused by 6 where non-ASCII stands outside comments
  *     held        Received Content-Type Content-Disposition Original-Recipient
  *                 Final-Recipient Keywords: refused by 6
  *     any other   Downgraded- before the name, text in encoded words

@@ -78,7 +78,7 @@ pub record AlternativeText (rules : Rules) (start size : ℕ) (text : List ℕ) 
   pub start-is : start ≡ 1 + length gap + length first + length between + 1 + length gap₂
   pub size-is : size ≡ length alternative
 
--- a comment, in which "a run .. over 900 bytes" is one "of spaces and TABs only"
+-- a comment, in which every run "over 900 bytes" is one "of spaces and TABs only"
 pub record CommentText (text : List ℕ) : Type 0 where
   pub form : CommentForm text
   pub runs : T (all fits (parts text))

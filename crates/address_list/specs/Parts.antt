@@ -54,7 +54,8 @@ namedAt s =
     let phrase = phraseLen s in
     cond (ltb 0 address) (front Address address) (cond (ltb 0 phrase) (front Phrase phrase) stray)
 
--- "An unclosed parenthesis encapsulates an address field", and so does a run "over 900 bytes": no comment starts there
+-- "An unclosed parenthesis encapsulates an address field", and so does a run "over 900 bytes" that has more than spaces and TABs: no
+-- comment starts there
 unfoldable pub commentAt : List ℕ → Front
 commentAt s =
     let size = commentLen s in

@@ -40,8 +40,8 @@ addressPieces rules asPiece address = cond (all isAscii address) (asPiece addres
 
 -- ---- the pieces of a part
 
--- "an alternative replaces the first". "`:` (58) and `;` (59) of a group are pieces. A comma (44) joins the end of the piece before
--- it." Blanks are not written; a text that fits has no stray byte.
+-- "an alternative replaces the first". "`:` and `;` of a group are pieces. A comma joins the end of the piece before it." Blanks are not
+-- written; a text that fits has no stray byte. `:` is 58, `;` 59, a comma 44.
 unfoldable pub pieces : Rules → PartKind → List ℕ → List Segment
 pieces rules Blank t = []
 pieces rules Comment t = commentPieces t

@@ -109,7 +109,7 @@ pub turns-end : (rules : Rules) (s : List ℕ) (i : ℕ) → length s ≤ i → 
 unfolding piecesOf turnsFrom rendered
 turns-end rules s i h = rw (parts-end rules s i h)
 
--- where nothing is removed no fixed words of the rules are written
+-- where nothing is removed the pieces are the same under all rules, whose fixed words differ
 pub kept-same : (a b : Rules) (t : Turn) → T (not (isRemoved t)) → turnPieces a t ≡ turnPieces b t
 unfolding turnPieces pieces isLost addressPieces
 kept-same a b (Turn.lostGroup t) h = absurd h

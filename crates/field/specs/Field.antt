@@ -15,6 +15,6 @@ unfoldable pub prefix : Bool → List ℕ
 prefix true = bytes "Downgraded-"
 prefix false = []
 
--- "name, colon (58), encoded words of the text", the name as it came, with or without `Downgraded-` before it
+-- "name, colon, encoded words of the text", the name as it came, with or without `Downgraded-` before it; a colon is 58
 unfoldable pub encodedField : Bool → List ℕ → List ℕ → List Segment
 encodedField downgraded name text = labelledField (prefix downgraded ++ (name ++ (58 ∷ []))) text

@@ -1,4 +1,4 @@
--- No group is written inside a group. Assumes nothing.
+-- No `Removed:;` is written inside a group. Assumes nothing.
 use mathlib.Core.Path.{_≡_, refl}
 use mathlib.Core.Bool.{Bool, true, false, cond, not, _&&_, _||_}
 use mathlib.Core.List.{List, [], _∷_}
@@ -112,7 +112,8 @@ cases = record {
   passed = λ p ps ts e more. more;
 }
 
--- Of every row of parts, whether it fits or not: no group is written inside a group.
+-- Of every row of parts, whether it fits or not: between a group's `:` and its `;` nothing is removed, so that no `Removed:;` stands there. In
+-- a text that fits no other group does either, by the table.
 pub no-group-in-group : (ps : List Part) → T (noneNested false (turnsOf ps))
 unfolding turnsOf
 no-group-in-group ps = turns-have Written Passing cases ps .0 false tt

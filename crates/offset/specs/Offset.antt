@@ -53,8 +53,8 @@ orcptByte mail line = let t = tail mail line in before line (drop (run isAscii t
 unfoldable pub lineAt : ℕ → List ℕ → List ℕ
 lineAt n s = frontLine (drop (lineStart n s) s)
 
--- In line n of an envelope, with its CRLF. "for 2 .. the first byte at which .. the line, its CRLF with it, stops being a beginning of
--- any well-formed line at that number".
+-- In line n of an envelope, with its CRLF: for 2 "the first byte at which .. the line, its CRLF with it, stops being a beginning of any
+-- well-formed line at that number".
 unfoldable pub faultByte : Fault → ℕ → List ℕ → ℕ
 faultByte Fine n line = 0
 faultByte Malformed n line = envelopeStop n line

@@ -9,7 +9,7 @@ use Rattle.utf8.specs.Utf8.{chars}
 use Rattle.cut.specs.Cut.{cut}
 use Rattle.word_spelling.specs.Spelling.{opening, closing, spell}
 
--- whether a word with this room holds these characters; every word has the same room, so k is not used
+-- whether a word with this room holds these characters, on whichever line k it stands
 abbrev pub fitsRoom : ℕ → ℕ → List (List ℕ) → Bool
 fitsRoom room k run = leb (length (spell (joined run))) room
 

@@ -1,5 +1,5 @@
--- The tokens of a structured field's value, with its folds: quoted strings, comments, and every other byte by itself. Every byte of the
--- value is in one token. Assumes nothing.
+-- The tokens of a structured field's value, with its folds: quoted strings, comments, all that is left from an unclosed parenthesis on,
+-- and every other byte by itself. Every byte of the value is in one token. Assumes nothing.
 use mathlib.Core.Path.{_≡_}
 use mathlib.Core.Bool.{Bool, false, cond, _||_}
 use mathlib.Core.List.{List, [], _∷_}
@@ -30,7 +30,7 @@ tokenLen (b ∷ s) =
 unfoldable pub tokens : List ℕ → List (List ℕ)
 tokens value = cutBy tokenLen value
 
--- whether a token is a comment: none is closed in any other
+-- whether a token is a comment: no other token starts with a parenthesis that is closed
 unfoldable pub isComment : List ℕ → Bool
 isComment token = ltb 0 (commentLen token)
 
