@@ -123,3 +123,12 @@ pub record NextAt (rules : Rules) (s : List ℕ) (at : ℕ) (r : Next) : Type 0 
   pub on : at < r .next
   pub covers : r .end ≤ r .next
   pub within : r .next ≤ length s
+
+-- the turn past the end of a text: an empty one
+unfoldable pub noTurn : ℕ → Next
+noTurn at = record { lost = false; kind = Stray; start = at; end = at; next = at }
+
+-- the turn at any place
+pub record NextFrom (rules : Rules) (s : List ℕ) (at : ℕ) (r : Next) : Type 0 where
+  pub there : at < length s → NextAt rules s at r
+  pub past : length s ≤ at → r ≡ noTurn at

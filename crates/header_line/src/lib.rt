@@ -15,7 +15,7 @@ pub enum LineCheck {
     Malformed(usize, usize),
 }
 
-fn is_name_byte(b: u8) -> bool
+pub fn is_name_byte(b: u8) -> bool
     ensures { λ r. ⌜ r ≡ nameByte b ⌝ }
 {
     (33 <= b) & (b <= 126) & !(b == 58)

@@ -3,8 +3,9 @@ ghost use mathlib.Core.Path.{_≡_};
 ghost use Prim.Native.Nat.{_+_, _≤_};
 ghost use lib.ListN.{drop};
 ghost use Rattle.line_stop.specs.Scanner.{alive};
-ghost use Rattle.header_line.specs.Lines.{lineByte, nameByte};
+ghost use Rattle.header_line.specs.Lines.{lineByte};
 ghost use Rattle.header_stop.specs.HeaderStop.{startStep, nameMore, nameStep, bodyStep, formStep, formNeed, notBad, isBody, scanner, lineStop};
+use header_line::is_name_byte;
 use line_stop::Begun;
 
 // Where a header line stands.
@@ -15,12 +16,6 @@ pub enum Form {
     Name(usize),
     Body,
     Bad,
-}
-
-fn is_name_byte(b: u8) -> bool
-    ensures { λ r. ⌜ r ≡ nameByte b ⌝ }
-{
-    (33 <= b) & (b <= 126) & !(b == 58)
 }
 
 fn is_line_byte(b: u8) -> bool

@@ -14,7 +14,7 @@ pub use tail::is_spaced;
 pub use tail::param_end;
 
 // Whether a byte is a letter, a digit or a hyphen. Without branches.
-fn is_keyword_byte(b: u8) -> bool
+pub fn is_keyword_byte(b: u8) -> bool
     ensures { λ r. ⌜ r ≡ isKeywordByte b ⌝ }
 {
     ((65 <= b) & (b <= 90)) | ((97 <= b) & (b <= 122)) | ((48 <= b) & (b <= 57)) | (b == 45)
@@ -56,7 +56,7 @@ pub(crate) fn is_alt(p: &[u8]) -> bool
 }
 
 // Whether a byte may stand in a value. Without branches.
-fn is_value_byte(b: u8, orcpt: bool) -> bool
+pub fn is_value_byte(b: u8, orcpt: bool) -> bool
     ensures { λ r. ⌜ r ≡ isValueByte orcpt b ⌝ }
 {
     ((33 <= b) & (b <= 126) & !(b == 61)) | (orcpt & (128 <= b))

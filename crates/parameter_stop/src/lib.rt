@@ -3,8 +3,9 @@ ghost use mathlib.Core.Path.{_≡_};
 ghost use mathlib.Core.Bool.{cond};
 ghost use Prim.Native.Nat.{_≤_};
 ghost use lib.Dec.{eqb};
-ghost use Rattle.parameter.specs.Parameter.{isKeywordByte, isValueByte};
 ghost use Rattle.parameter_stop.specs.ParameterStop.{keyMore, startStep, dueStep, keyEnd, keyStep, equalsStep, valueStep, tailStep, tailDone, tailLive, tailNeed};
+use parameter::is_keyword_byte;
+use parameter::is_value_byte;
 
 // Where a tail stands. `seen`: whether an ALT-ADDRESS with its `=` has come.
 pub enum Tail {
@@ -19,20 +20,6 @@ pub enum Tail {
     Value(bool, bool),
     // No byte helps.
     Off,
-}
-
-// Whether a byte is a letter, a digit or a hyphen.
-fn is_keyword_byte(b: u8) -> bool
-    ensures { λ r. ⌜ r ≡ isKeywordByte b ⌝ }
-{
-    ((65 <= b) & (b <= 90)) | ((97 <= b) & (b <= 122)) | ((48 <= b) & (b <= 57)) | (b == 45)
-}
-
-// Whether a byte may stand in a value.
-fn is_value_byte(b: u8, orcpt: bool) -> bool
-    ensures { λ r. ⌜ r ≡ isValueByte orcpt b ⌝ }
-{
-    ((33 <= b) & (b <= 126) & !(b == 61)) | (orcpt & (128 <= b))
 }
 
 // A byte more of a keyword.
