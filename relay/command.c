@@ -271,8 +271,8 @@ static int show_file(FILE *in, const char *file)
         status = STATUS_NO_MEMORY;
     } else {
         if (lone > 0) {
-            fprintf(stderr, "%s: note: %zu lines end in LF alone; they are "
-                    "taken to end in CRLF\n", file, lone);
+            fprintf(stderr, "%s: note: lines that end in LF alone are taken "
+                    "to end in CRLF: %zu\n", file, lone);
         }
         status = show_message(file, buffer_part(&all));
     }

@@ -19,8 +19,10 @@ enum {
 /* Data are sent in blocks of so many bytes. */
 #define BLOCK 65536
 
-/* A reply has no longer lines and no longer text, or it is none. */
+/* So many bytes of a line of a reply are read, the rest passed over. */
 #define MAX_REPLY_LINE 1024
+
+/* What has more text is not a reply. */
 #define MAX_REPLY 8192
 
 /* So many columns of a reply and of a command are told. */
@@ -89,7 +91,7 @@ static int doubt_io(session *s, enum io_result io, int seconds)
     }
 }
 
-/* Reads a line, without its CRLF or LF. */
+/* Reads a line, without its CRLF or LF, as far as MAX_REPLY_LINE. */
 static enum io_result read_line(session *s, buffer *line, deadline by)
 {
     enum io_result io;
@@ -97,8 +99,10 @@ static enum io_result read_line(session *s, buffer *line, deadline by)
 
     line->len = 0;
     while ((io = connection_read(&s->connection, &byte, by)) == IO_DONE
-           && byte != '\n' && line->len <= MAX_REPLY_LINE) {
-        buffer_add_byte(line, byte);
+           && byte != '\n') {
+        if (line->len < MAX_REPLY_LINE) {
+            buffer_add_byte(line, byte);
+        }
     }
     if (line->len > 0 && line->bytes[line->len - 1] == '\r') {
         line->len--;
@@ -111,8 +115,7 @@ static int read_code(part line)
 {
     size_t i;
 
-    if (line.len < 3 || line.len > MAX_REPLY_LINE
-        || line.bytes[0] < '2' || line.bytes[0] > '5'
+    if (line.len < 3 || line.bytes[0] < '2' || line.bytes[0] > '5'
         || (line.len > 3 && line.bytes[3] != ' ' && line.bytes[3] != '-')) {
         return 0;
     }
@@ -177,8 +180,9 @@ static int read_lines(session *s, buffer *line, int seconds)
             return doubt_io(s, io, seconds);
         }
         if (!take_line(s, buffer_part(line), is_first)) {
-            doubt(s, "4.5.0", "the answer is not a reply of SMTP: ");
+            doubt(s, "4.5.0", "the answer is not a reply of SMTP: \"");
             add_quoted(&s->result->text, buffer_part(line), MAX_TOLD);
+            buffer_add_text(&s->result->text, "\"");
             return 0;
         }
         is_first = 0;
