@@ -2,28 +2,39 @@
 # make quick        what changed since main's last merge, in minutes; not the verdict
 # make run          the program `downgrade` on examples/bulletin.txt, or IN=FILE
 # make try          the paper's whole case by the same program, built without its proofs: a first look
-# make lib          dist/libhennelaku.a and dist/hennelaku.h, for C and Rust
-# make install      header, library, pkg-config file, man page; PREFIX, DESTDIR
-# make relay        the C relay, target/relay/relay
-# make relay-test   tests of the library through its C header, and of the relay
+# make lib          the library in dist/: libhennelaku.a, libhennelaku.so.0, hennelaku.h
+# make lib-test     tests of what is installed and of what other languages see
+# make install      programs, library, header, pkg-config file, manual pages, examples; PREFIX, LIBDIR, DESTDIR and more in lib/install
+# make uninstall    takes away what make install put there
+# make dist         a tar file of all that is built, for those without the Rattle kit
+# make relay        the programs hennelaku-pipe and hennelaku, in target/relay/
+# make relay-test   tests of the library through its C header, and of hennelaku
+# make pipe-test    tests of hennelaku-pipe against a server that drops and lies
+# make interop      hennelaku-pipe in a real Postfix, which it installs by apt-get; needs root
 # make model        the Rust model's own tests (rust/README.md)
 # make fuzz         proved call against the Rust model; SECONDS=, SEED=
 # make bench        times of both
 # make clean        removes target/ and dist/
 #
-# All that is proved needs the Rattle kit (rt); relay and relay-test a C
-# compiler; model, fuzz and bench cargo.
+# All that is proved needs the Rattle kit (rt); lib, relay and their tests a C
+# compiler, pipe-test and interop also Python 3; model, fuzz and bench cargo.
 
 IN = examples/bulletin.txt
 PREFIX = /usr/local
 DESTDIR =
-VERSION = 0.2.0
+VERSION := $(shell sed -n 's/^.define HENNELAKU_VERSION_TEXT "\(.*\)"/\1/p' include/hennelaku.h)
 
-INSTALL = install
+# The C side of the library stands alone: no stack protector, which would call
+# the C library.
+CFLAGS = -O2
+LIB_CFLAGS = -std=c99 -Wall -Wextra -Wpedantic -Wconversion -fPIC -ffreestanding -fno-stack-protector
+SONAME = libhennelaku.so.0
+TAR = dist/hennelaku-$(VERSION)-x86_64-linux.tar.gz
 CARGO = cd rust && HENNELAKU_LIB_DIR=$(CURDIR)/dist cargo
 CODE := crates.txt $(shell find crates -name '*.rt')
+INSTALLING = PREFIX='$(PREFIX)' LIBDIR='$(LIBDIR)' DESTDIR='$(DESTDIR)' VERSION='$(VERSION)' lib/install
 
-.PHONY: test quick run try lib install relay relay-test model fuzz bench clean
+.PHONY: test quick run try lib lib-test install uninstall dist relay relay-test pipe-test interop model fuzz bench clean
 
 test:
 	.ci/run
@@ -38,34 +49,66 @@ run:
 
 # A first look at code that is not proved yet.
 try:
+	@.ci/kit --needed
 	@rt try downgrade
 	@echo "nothing is proved by this"
 
-lib: dist/libhennelaku.a dist/hennelaku.h
+lib: dist/libhennelaku.a dist/$(SONAME) dist/hennelaku.h
 
 # rt staticlib proves `hennelaku` and the crates under it, then compiles them to
 # one archive, which needs nothing but memcpy and memset.
-dist/libhennelaku.a: $(CODE)
-	@mkdir -p target dist
+target/staticlib/libhennelaku.a: $(CODE)
+	@.ci/kit --needed
+	@mkdir -p target
 	@rt staticlib hennelaku >target/lib.log 2>&1 || { cat target/lib.log; exit 1; }
-	@cp target/staticlib/libhennelaku.a $@
+	@touch $@
+
+target/lib/calls.o: lib/calls.c include/hennelaku.h
+	@mkdir -p target/lib
+	$(CC) $(LIB_CFLAGS) $(CFLAGS) -Iinclude -c lib/calls.c -o $@
+
+dist/libhennelaku.a: target/staticlib/libhennelaku.a target/lib/calls.o
+	@mkdir -p dist
+	@cp target/staticlib/libhennelaku.a $@.new
+	@$(AR) rcsD $@.new target/lib/calls.o
+	@mv $@.new $@
+
+dist/$(SONAME): dist/libhennelaku.a lib/hennelaku.map
+	$(CC) -shared -nostartfiles -Wl,-soname,$(SONAME) -Wl,--version-script,lib/hennelaku.map -Wl,-z,defs,-z,now,-z,noexecstack \
+	    -Wl,--whole-archive dist/libhennelaku.a -Wl,--no-whole-archive $(LDFLAGS) -o $@
 
 dist/hennelaku.h: include/hennelaku.h
 	@mkdir -p dist
 	@cp include/hennelaku.h $@
 
-install: lib
-	$(INSTALL) -d $(DESTDIR)$(PREFIX)/include $(DESTDIR)$(PREFIX)/lib/pkgconfig $(DESTDIR)$(PREFIX)/share/man/man3
-	$(INSTALL) -m 644 dist/hennelaku.h $(DESTDIR)$(PREFIX)/include/hennelaku.h
-	$(INSTALL) -m 644 dist/libhennelaku.a $(DESTDIR)$(PREFIX)/lib/libhennelaku.a
-	sed -e 's,@PREFIX@,$(PREFIX),' -e 's,@VERSION@,$(VERSION),' hennelaku.pc.in >$(DESTDIR)$(PREFIX)/lib/pkgconfig/hennelaku.pc
-	$(INSTALL) -m 644 man/hennelaku_downgrade.3 $(DESTDIR)$(PREFIX)/share/man/man3/hennelaku_downgrade.3
+lib-test: lib
+	@CC='$(CC)' lib/tests/run
+
+install: lib relay
+	@$(INSTALLING) install
+
+uninstall:
+	@$(INSTALLING) uninstall
+
+# The tree of an installation, which may be unpacked anywhere: its pkg-config
+# file goes by its own place.
+dist: lib relay
+	@rm -rf target/tree
+	@PREFIX=/ PC_PREFIX='$${pcfiledir}/../..' DESTDIR=target/tree/hennelaku-$(VERSION) VERSION='$(VERSION)' lib/install install
+	@tar -C target/tree --sort=name --owner=0 --group=0 --numeric-owner --mtime=@0 -czf $(TAR) hennelaku-$(VERSION)
+	@echo $(TAR)
 
 relay: lib
 	$(MAKE) -C relay
 
 relay-test: lib
 	$(MAKE) -C relay test
+
+pipe-test: lib
+	@$(MAKE) --no-print-directory -C relay pipe-test
+
+interop: lib
+	@$(MAKE) --no-print-directory -C relay interop
 
 model:
 	$(CARGO) test --release --offline --quiet
@@ -77,4 +120,4 @@ bench: lib
 	$(CARGO) run --release --offline --quiet --features proved --bin bench
 
 clean:
-	rm -rf target dist rust/target
+	rm -rf target dist rust/target rust/hennelaku/target

@@ -1,8 +1,9 @@
 /*
  * hennelaku.h - downgrade a mail envelope and header to ASCII by RFC 5504
  *
- * C99 or later, and C++. Link with libhennelaku.a (x86-64 Linux); it needs
- * nothing but memcpy and memset of the C library.
+ * C99 or later, and C++. Link with -lhennelaku (x86-64 Linux): libhennelaku.a
+ * or libhennelaku.so.0, which need nothing but memcpy and memset of the C
+ * library.
  */
 #ifndef HENNELAKU_H
 #define HENNELAKU_H
@@ -139,17 +140,6 @@ typedef char hennelaku_size_t_has_8_bytes[sizeof(size_t) == 8 ? 1 : -1];
 uint32_t hennelaku_version(void);
 
 /*
- * The library's own symbol. Each pointer has to be that of a byte array of the
- * length beside it, and not null, also where that length is 0. Call
- * hennelaku_downgrade instead.
- */
-hennelaku_answer hennelaku_downgrade_slices(
-    const uint8_t *envelope, size_t envelope_len,
-    const uint8_t *header, size_t header_len,
-    uint8_t *envelope_buffer, size_t envelope_room,
-    uint8_t *header_buffer, size_t header_room);
-
-/*
  * Downgrades one message.
  *
  * envelope: one line `MAIL FROM:<path> ..`, then 1 to 100 lines
@@ -198,49 +188,37 @@ hennelaku_answer hennelaku_downgrade_slices(
  * does not touch errno, and may be made from several threads at once on
  * distinct buffers. It uses at most HENNELAKU_STACK bytes of stack.
  */
-static inline hennelaku_answer hennelaku_downgrade(
+hennelaku_answer hennelaku_downgrade(
     const uint8_t *envelope, size_t envelope_len,
     const uint8_t *header, size_t header_len,
     uint8_t *envelope_buffer, size_t envelope_room,
-    uint8_t *header_buffer, size_t header_room)
-{
-    uint8_t none[4] = {0, 0, 0, 0};
-
-    return hennelaku_downgrade_slices(
-        envelope_len == 0 ? &none[0] : envelope, envelope_len,
-        header_len == 0 ? &none[1] : header, header_len,
-        envelope_room == 0 ? &none[2] : envelope_buffer, envelope_room,
-        header_room == 0 ? &none[3] : header_buffer, header_room);
-}
+    uint8_t *header_buffer, size_t header_room);
 
 /* The meaning of a number in English, for a log. Never null. */
-static inline const char *hennelaku_number_text(uint32_t number)
-{
-    switch (number) {
-    case HENNELAKU_OK:
-        return "downgraded";
-    case HENNELAKU_TOO_LONG:
-        return "the envelope or the header is too long";
-    case HENNELAKU_ENVELOPE_LINE:
-        return "an envelope line is malformed or missing";
-    case HENNELAKU_NO_ALT_ADDRESS:
-        return "a path is not ASCII and has no ALT-ADDRESS";
-    case HENNELAKU_BAD_ALT_ADDRESS:
-        return "an ALT-ADDRESS stands beside an ASCII path, or does not "
-               "spell an ASCII address";
-    case HENNELAKU_HEADER_LINE:
-        return "a header line is malformed";
-    case HENNELAKU_HELD:
-        return "an ORCPT or a held header field holds "
-               "non-ASCII";
-    case HENNELAKU_ENVELOPE_ROOM:
-        return "the outgoing envelope is longer than its buffer";
-    case HENNELAKU_HEADER_ROOM:
-        return "the outgoing header is longer than its buffer";
-    default:
-        return "not an answer of this library";
-    }
-}
+const char *hennelaku_number_text(uint32_t number);
+
+/* What a server says to its client about a message with some answer. */
+typedef struct hennelaku_reply {
+    uint32_t code;         /* RFC 5321: 250, 451, .. */
+    const char *enhanced;  /* RFC 3463: "2.0.0", "4.3.1", .. */
+    const char *text;      /* printable ASCII of at most 100 bytes */
+} hennelaku_reply;
+
+/*
+ * The reply for a number; its members are never null.
+ *
+ *     0  250 2.0.0
+ *     1  552 5.3.4  message too big
+ *     2  501 5.5.4  invalid command arguments
+ *     3  553 5.6.7  non-ASCII address not permitted
+ *     4  501 5.5.4
+ *     5  554 5.6.0  other media error
+ *     6  554 5.6.9  header in UTF-8 cannot be transferred
+ *     7  451 4.3.1  no room; the message may be sent again
+ *     8  451 4.3.1
+ *     any other number  451 4.3.0
+ */
+hennelaku_reply hennelaku_smtp_reply(uint32_t number);
 
 #ifdef __cplusplus
 }

@@ -567,6 +567,45 @@ static void test_number_text(void)
     report("words for each number");
 }
 
+static void expect_reply(uint32_t number, uint32_t code, const char *enhanced)
+{
+    hennelaku_reply r = hennelaku_smtp_reply(number);
+    const char *c;
+
+    if (r.code != code || strcmp(r.enhanced, enhanced) != 0) {
+        blame("%u is %u %s, not %u %s", (unsigned)number, (unsigned)r.code,
+              r.enhanced, (unsigned)code, enhanced);
+    }
+    if (r.enhanced[0] != (char)('0' + r.code / 100)) {
+        blame("the two codes of %u are of different classes",
+              (unsigned)number);
+    }
+    for (c = r.text; *c != '\0'; c++) {
+        if (*c < 32 || *c > 126) {
+            blame("byte %d in the text for %u", *c, (unsigned)number);
+        }
+    }
+    if (c - r.text < 10 || c - r.text > 100) {
+        blame("%d bytes of text for %u", (int)(c - r.text), (unsigned)number);
+    }
+}
+
+static void test_replies(void)
+{
+    expect_reply(0, 250, "2.0.0");
+    expect_reply(1, 552, "5.3.4");
+    expect_reply(2, 501, "5.5.4");
+    expect_reply(3, 553, "5.6.7");
+    expect_reply(4, 501, "5.5.4");
+    expect_reply(5, 554, "5.6.0");
+    expect_reply(6, 554, "5.6.9");
+    expect_reply(7, 451, "4.3.1");
+    expect_reply(8, 451, "4.3.1");
+    expect_reply(9, 451, "4.3.0");
+    expect_reply(4294967295u, 451, "4.3.0");
+    report("SMTP reply for each number");
+}
+
 static void test_version(void)
 {
     char dotted[40];
@@ -685,6 +724,7 @@ int main(void)
     test_threads();
     test_nesting();
     test_number_text();
+    test_replies();
     test_version();
     test_mangled();
     return failed_tests() == 0 ? 0 : 1;

@@ -1,0 +1,33 @@
+"""from_python.py LIBRARY: the shared library as Python's ctypes sees it, by the declarations of examples/example.py. Exit status 0 where
+every answer is right."""
+import os
+import sys
+
+sys.path.insert(0, os.path.join(os.path.dirname(os.path.abspath(__file__)), "..", "..", "examples"))
+sys.dont_write_bytecode = True
+import example
+
+PLAIN = b"MAIL FROM:<a@x>\r\nRCPT TO:<b@x>\r\n"
+
+
+def expect(what, got, want):
+    if got != want:
+        sys.exit(f"{what}: {got!r}, not {want!r}")
+
+
+def refusal(library, envelope, header):
+    try:
+        library.downgrade(envelope, header)
+    except example.Refused as refused:
+        answer, reply = refused.answer, refused.reply
+        return answer.number, answer.input, answer.place, answer.offset, reply.code, reply.enhanced.decode()
+    sys.exit(f"{envelope!r} and {header!r} are taken")
+
+
+library = example.Library(sys.argv[1])
+expect("ASCII", library.downgrade(PLAIN, b"X: a\r\n"), (PLAIN, b"X: a\r\n"))
+expect("an empty header", library.downgrade(PLAIN, b""), (PLAIN, b""))
+expect("encoded words", library.downgrade(PLAIN, "Subject: é\r\n".encode()), (PLAIN, b"Subject: =?UTF-8?Q?=C3=A9?=\r\n"))
+expect("3", refusal(library, "MAIL FROM:<é@x>\r\n".encode(), b""), (3, 1, 0, 11, 553, "5.6.7"))
+expect("5 for a NUL", refusal(library, PLAIN, b"A: b\r\nX: \0\r\n"), (5, 2, 1, 9, 554, "5.6.0"))
+expect("6", refusal(library, PLAIN, "Keywords: é\r\n".encode()), (6, 2, 0, 10, 554, "5.6.9"))

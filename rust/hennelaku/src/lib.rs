@@ -1,0 +1,265 @@
+//! Safe calls of libhennelaku, which downgrades a mail envelope and header to ASCII by RFC 5504.
+//!
+//! ```
+//! let envelope = "MAIL FROM:<é@example.org> ALT-ADDRESS=e+2Bx@example.org\r\nRCPT TO:<b@example.net>\r\n";
+//! let header = "Subject: é\r\n";
+//!
+//! match hennelaku::downgrade_to_vec(envelope.as_bytes(), header.as_bytes()) {
+//!     Ok(message) => assert!(message.envelope.starts_with(b"MAIL FROM:<e+x@example.org>\r\n")),
+//!     Err(refusal) => println!("{} {refusal}", refusal.reply().code),
+//! }
+//! ```
+//!
+//! hennelaku.h and the manual page hennelaku_downgrade(3) say what becomes of each header field and what each refusal means.
+
+use std::ffi::{c_char, CStr};
+use std::fmt;
+
+/// The version of hennelaku.h that this crate is written for.
+pub const VERSION: u32 = 200;
+
+/// Bytes of an envelope and of a header, at most; longer ones are refused.
+pub const MAX_ENVELOPE: usize = 16_384;
+pub const MAX_HEADER: usize = 32_768;
+
+/// Buffers that suffice for every message. A call with such a header buffer is also the fastest.
+pub const ENVELOPE_ROOM_MAX: usize = MAX_ENVELOPE;
+pub const HEADER_ROOM_MAX: usize = 1_048_576;
+
+/// A header buffer that suffices for a header of so many bytes.
+pub const fn header_room_for(header_len: usize) -> usize {
+    if header_len < MAX_HEADER {
+        30 * header_len + 20_600
+    } else {
+        HEADER_ROOM_MAX
+    }
+}
+
+mod c {
+    use std::ffi::c_char;
+
+    /// `hennelaku_answer`, member by member.
+    #[repr(C)]
+    pub struct Answer {
+        pub number: u32,
+        pub input: u32,
+        pub place: usize,
+        pub offset: usize,
+        pub envelope_len: usize,
+        pub header_len: usize,
+    }
+
+    /// `hennelaku_reply`, member by member.
+    #[repr(C)]
+    pub struct Reply {
+        pub code: u32,
+        pub enhanced: *const c_char,
+        pub text: *const c_char,
+    }
+
+    extern "C" {
+        pub fn hennelaku_version() -> u32;
+        pub fn hennelaku_number_text(number: u32) -> *const c_char;
+        pub fn hennelaku_smtp_reply(number: u32) -> Reply;
+        pub fn hennelaku_downgrade(
+            envelope: *const u8,
+            envelope_len: usize,
+            header: *const u8,
+            header_len: usize,
+            envelope_buffer: *mut u8,
+            envelope_room: usize,
+            header_buffer: *mut u8,
+            header_room: usize,
+        ) -> Answer;
+    }
+}
+
+/// Why a message was refused; the values are the library's numbers.
+#[derive(Clone, Copy, Debug, PartialEq, Eq, Hash)]
+#[non_exhaustive]
+#[repr(u32)]
+pub enum Reason {
+    /// The envelope or the header is over its limit.
+    TooLong = 1,
+    /// An envelope line is malformed or missing.
+    EnvelopeLine = 2,
+    /// A path is not ASCII and has no ALT-ADDRESS.
+    NoAltAddress = 3,
+    /// An ALT-ADDRESS stands beside an ASCII path, or does not spell an ASCII address.
+    BadAltAddress = 4,
+    /// A header line is malformed.
+    HeaderLine = 5,
+    /// An ORCPT or a held header field holds non-ASCII.
+    Held = 6,
+    /// The outgoing envelope is longer than its buffer.
+    EnvelopeRoom = 7,
+    /// The outgoing header is longer than its buffer.
+    HeaderRoom = 8,
+}
+
+/// Every reason; the one with the number n stands at n - 1.
+const REASONS: [Reason; 8] = [
+    Reason::TooLong,
+    Reason::EnvelopeLine,
+    Reason::NoAltAddress,
+    Reason::BadAltAddress,
+    Reason::HeaderLine,
+    Reason::Held,
+    Reason::EnvelopeRoom,
+    Reason::HeaderRoom,
+];
+
+impl Reason {
+    /// The library's number.
+    pub fn number(self) -> u32 {
+        self as u32
+    }
+
+    /// What a server says to its client.
+    pub fn reply(self) -> Reply {
+        // SAFETY: the call takes any number.
+        let reply = unsafe { c::hennelaku_smtp_reply(self.number()) };
+        // SAFETY: the library's texts are never null and last as long as the program.
+        unsafe { Reply { code: reply.code, enhanced: text(reply.enhanced), text: text(reply.text) } }
+    }
+}
+
+impl fmt::Display for Reason {
+    fn fmt(&self, f: &mut fmt::Formatter<'_>) -> fmt::Result {
+        // SAFETY: the call takes any number; its text is never null and lasts as long as the program.
+        f.write_str(unsafe { text(c::hennelaku_number_text(self.number())) })
+    }
+}
+
+/// # Safety
+/// `at` is that of a text of ASCII with a NUL at its end, which lasts as long as the program.
+unsafe fn text(at: *const c_char) -> &'static str {
+    CStr::from_ptr(at).to_str().expect("the library's texts are ASCII")
+}
+
+/// A reply of SMTP: the code of RFC 5321, the enhanced code of RFC 3463, and a text.
+#[derive(Clone, Copy, Debug, PartialEq, Eq)]
+pub struct Reply {
+    pub code: u32,
+    pub enhanced: &'static str,
+    pub text: &'static str,
+}
+
+/// The input that a refusal is about, or whose output has no room.
+#[derive(Clone, Copy, Debug, PartialEq, Eq, Hash)]
+pub enum Input {
+    Envelope,
+    Header,
+}
+
+/// A message that is not downgraded. No byte of either buffer has changed.
+#[derive(Clone, Copy, Debug, PartialEq, Eq)]
+pub struct Refusal {
+    pub reason: Reason,
+    pub input: Input,
+    /// A line from 0; for [`Reason::EnvelopeRoom`] and [`Reason::HeaderRoom`] the length that is needed.
+    pub place: usize,
+    /// The byte that tells why, from the start of the input; 0 where none does.
+    pub offset: usize,
+}
+
+impl Refusal {
+    /// What a server says to its client.
+    pub fn reply(&self) -> Reply {
+        self.reason.reply()
+    }
+}
+
+impl fmt::Display for Refusal {
+    fn fmt(&self, f: &mut fmt::Formatter<'_>) -> fmt::Result {
+        let input = match self.input {
+            Input::Envelope => "envelope",
+            Input::Header => "header",
+        };
+        write!(f, "refused by {}: {}; ", self.reason.number(), self.reason)?;
+        match self.reason {
+            Reason::TooLong => write!(f, "the {input}"),
+            Reason::EnvelopeRoom | Reason::HeaderRoom => write!(f, "it needs {} bytes", self.place),
+            _ => write!(f, "line {} and byte {} of the {input}, from 0", self.place, self.offset),
+        }
+    }
+}
+
+impl std::error::Error for Refusal {}
+
+/// How many bytes were written to each buffer.
+#[derive(Clone, Copy, Debug, PartialEq, Eq)]
+pub struct Lengths {
+    pub envelope: usize,
+    pub header: usize,
+}
+
+/// The version of the library that is linked.
+pub fn version() -> u32 {
+    // SAFETY: the call takes nothing.
+    unsafe { c::hennelaku_version() }
+}
+
+/// The answer of a call, in Rust's terms.
+fn result(answer: c::Answer) -> Result<Lengths, Refusal> {
+    if answer.number == 0 {
+        return Ok(Lengths { envelope: answer.envelope_len, header: answer.header_len });
+    }
+    let reason = REASONS.get(answer.number as usize - 1).copied();
+    Err(Refusal {
+        reason: reason.unwrap_or_else(|| panic!("libhennelaku answered {}", answer.number)),
+        input: if answer.input == 1 { Input::Envelope } else { Input::Header },
+        place: answer.place,
+        offset: answer.offset,
+    })
+}
+
+/// Downgrades a message into two buffers. The bytes past the lengths, and after a refusal all bytes, are as they were.
+///
+/// # Panics
+/// Where the library that is linked is not of [`VERSION`]: its answer may have other members.
+pub fn downgrade(
+    envelope: &[u8],
+    header: &[u8],
+    envelope_buffer: &mut [u8],
+    header_buffer: &mut [u8],
+) -> Result<Lengths, Refusal> {
+    assert_eq!(version(), VERSION, "libhennelaku is of another version than this crate");
+    // SAFETY: each pointer comes from a slice with its length; the two buffers are apart from all others. The answer has the
+    // members of this version.
+    result(unsafe {
+        c::hennelaku_downgrade(
+            envelope.as_ptr(),
+            envelope.len(),
+            header.as_ptr(),
+            header.len(),
+            envelope_buffer.as_mut_ptr(),
+            envelope_buffer.len(),
+            header_buffer.as_mut_ptr(),
+            header_buffer.len(),
+        )
+    })
+}
+
+/// An outgoing message, all ASCII.
+#[derive(Clone, Debug, PartialEq, Eq)]
+pub struct Downgraded {
+    pub envelope: Vec<u8>,
+    pub header: Vec<u8>,
+}
+
+/// Downgrades a message into buffers of its own, which always suffice.
+///
+/// # Panics
+/// As [`downgrade`].
+pub fn downgrade_to_vec(envelope: &[u8], header: &[u8]) -> Result<Downgraded, Refusal> {
+    let mut message = Downgraded {
+        envelope: vec![0; envelope.len().min(ENVELOPE_ROOM_MAX)],
+        header: vec![0; header_room_for(header.len())],
+    };
+    let lengths = downgrade(envelope, header, &mut message.envelope, &mut message.header)?;
+    message.envelope.truncate(lengths.envelope);
+    message.header.truncate(lengths.header);
+    message.header.shrink_to_fit();
+    Ok(message)
+}
