@@ -1,0 +1,9 @@
+pub mod Clause
+pub mod ClauseLaws
+pub mod Tokens
+pub mod TokensLaws
+pub mod Received
+pub mod LinesLaws
+pub mod TokenLaws
+pub mod PassesLaws
+pub mod WritingLaws
