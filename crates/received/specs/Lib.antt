@@ -1,7 +1,3 @@
-pub mod Clause
-pub mod ClauseLaws
-pub mod Tokens
-pub mod TokensLaws
 pub mod Received
 pub mod LinesLaws
 pub mod TokenLaws

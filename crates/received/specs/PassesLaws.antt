@@ -14,10 +14,10 @@ use Rattle.encoded_word.specs.Segments.{rendered}
 use Rattle.encoded_word.specs.Segments.Segment.{raw}
 use Rattle.encoded_word.specs.SegmentsLaws.{rendered-append}
 use Rattle.encoded_word.specs.MappedLaws.{mapped-next, mapped-none}
-use Rattle.received.specs.Clause.{forLen}
-use Rattle.received.specs.ClauseLaws.{for-le}
-use Rattle.received.specs.Tokens.{unclosedLen, leftLen, tokensFrom, tokens, Measured}
-use Rattle.received.specs.TokensLaws.{Next}
+use Rattle.received_token.specs.Clause.{forLen}
+use Rattle.received_token.specs.ClauseLaws.{for-le}
+use Rattle.received_token.specs.Tokens.{unclosedLen, leftLen, tokensFrom, tokens, Measured}
+use Rattle.received_token.specs.TokensLaws.{Next}
 use Rattle.received.specs.LinesLaws.{column-append}
 use Rattle.received.specs.Received.{tokenSegments, leftSegments, valueSegments, receivedField, isClear, columnAfter, linesFit, passes}
 

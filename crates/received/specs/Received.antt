@@ -1,9 +1,8 @@
 -- What a Received field becomes, and when it is held. Assumes nothing.
-use mathlib.Core.Bool.{Bool, cond, not, _&&_, _||_}
+use mathlib.Core.Bool.{Bool, cond, _&&_, _||_}
 use mathlib.Core.List.{List, [], _∷_, _++_, map}
 use Prim.Native.Nat.{ℕ, _+_}
 use lib.Dec.{eqb, leb, ltb}
-use lib.ListN.{length}
 use Rattle.lists.specs.Byte.{isAscii}
 use Rattle.lists.specs.Lists.{all, joined}
 use Rattle.encoded_word.specs.Segments.{Segment, rendered}
@@ -11,20 +10,12 @@ use Rattle.encoded_word.specs.Segments.Segment.{raw}
 use Rattle.comment.specs.Parts.{parts}
 use Rattle.structured_field.specs.Tokens.{isComment}
 use Rattle.structured_field.specs.StructuredField.{partSegments}
-use Rattle.received.specs.Clause.{clauseLen, forLen}
-use Rattle.received.specs.Tokens.{tokensFrom, tokens}
+use Rattle.received_token.specs.Clause.{forLen, isClause, isRemoved}
+use Rattle.received_token.specs.Tokens.{tokensFrom, tokens}
 
 -- ---- what it becomes
 
--- a token that is a clause
-unfoldable pub isClause : List ℕ → Bool
-isClause token = eqb (clauseLen token) (length token)
-
--- "such a clause is removed when its address is non-ASCII"
-unfoldable pub isRemoved : List ℕ → Bool
-isRemoved token = isClause token && not (all isAscii token)
-
--- "Comments follow [1]."
+-- "Comments follow [1]." A clause that is removed leaves nothing, all else stays as it came.
 unfoldable pub tokenSegments : List ℕ → List Segment
 tokenSegments token = cond (isComment token) (joined (map partSegments (parts token))) (cond (isRemoved token) [] (raw token ∷ []))
 

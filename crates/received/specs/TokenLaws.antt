@@ -1,33 +1,25 @@
 -- Laws of what becomes of a token, by the tests of code. Assumes nothing.
 use mathlib.Core.Path.{_≡_, refl, sym, ap, _∙_}
-use mathlib.Core.Bool.{Bool, true, false, not, _&&_}
+use mathlib.Core.Bool.{Bool, true, false}
 use mathlib.Core.List.{List, [], _∷_, _++_, append-nil}
 use Prim.Native.Nat.{ℕ, _+_, _≤_, _<_}
 use native.Mathlib.Omega.{arith}
 use borrow.Author.Tests.{lt-ltb}
-use lib.Dec.{T, eqb, ltb}
-use lib.ListN.{length, drop}
+use lib.Dec.{ltb}
+use lib.ListN.{drop}
 use Rattle.lists.specs.Byte.{isAscii}
-use Rattle.lists.specs.Lists.{all, joined}
+use Rattle.lists.specs.Lists.{all}
 use Rattle.encoded_word.specs.Segments.{rendered}
 use Rattle.comment.specs.Comment.{commentLen}
 use Rattle.structured_field.specs.Tokens.{isComment}
-use Rattle.received.specs.Clause.{clauseLen, forLen}
+use Rattle.received_token.specs.Clause.{forLen, isClause, isRemoved}
 use Rattle.received.specs.LinesLaws.{commentBytes}
-use Rattle.received.specs.Received.{isClause, isRemoved, isClear, tokenSegments, columnAfter}
+use Rattle.received.specs.Received.{isClear, tokenSegments, columnAfter}
 
 module _ (token : List ℕ) where
   pub comment-is : {e : ℕ} → e ≡ 0 + commentLen (drop 0 token) → ltb 0 e ≡ isComment token
   unfolding isComment
   comment-is {e} q = let z : e ≡ commentLen token = omega (arith, q) in rw z
-
-  pub clause-is : {n : ℕ} → n ≡ clauseLen token → eqb n (length token) ≡ isClause token
-  unfolding isClause
-  clause-is q = rw q
-
-  pub removed-is : {clause ascii : Bool} → clause ≡ isClause token → ascii ≡ all isAscii token → clause && not ascii ≡ isRemoved token
-  unfolding isRemoved
-  removed-is c a = rw (c, a)
 
   module _ {comment : Bool} (q : comment ≡ isComment token) where
     pub clear-comment : comment ≡ true → true ≡ isClear token

@@ -17,9 +17,9 @@ use Rattle.piece.specs.Piece.{fitting}
 use Rattle.piece.specs.PieceLaws.{fitting-short}
 use Rattle.structured_field.specs.Tokens.{isComment}
 use Rattle.structured_field.specs.StructuredField.{partSegments}
-use Rattle.received.specs.Clause.{forLen}
-use Rattle.received.specs.Tokens.{unclosedLen, leftLen, tokensFrom}
-use Rattle.received.specs.Received.{isRemoved, tokenSegments, leftSegments, valueSegments, receivedField}
+use Rattle.received_token.specs.Clause.{forLen, isRemoved}
+use Rattle.received_token.specs.Tokens.{unclosedLen, leftLen, tokensFrom}
+use Rattle.received.specs.Received.{tokenSegments, leftSegments, valueSegments, receivedField}
 use Rattle.received.specs.TokenLaws.{bytes-comment, bytes-removed, bytes-stay}
 use Rattle.received.specs.PassesLaws.{tokens-are}
 

@@ -2,12 +2,9 @@
 ghost use mathlib.Core.Path.{_≡_};
 ghost use Rattle.received.specs.Received.{passes};
 ghost use Rattle.received.specs.PassesLaws.{leftPasses};
-use crate::clause::for_len;
 use crate::lines::column_after;
 use crate::token::is_clear;
 use crate::token::token_column;
-use crate::tokens::left_len;
-use crate::tokens::unclosed_len;
 
 // What is left of a value, from a column on.
 fn left_passes(column: usize, s: &[u8], k: usize) -> bool
@@ -16,7 +13,7 @@ fn left_passes(column: usize, s: &[u8], k: usize) -> bool
     let mut at = column;
     let mut i: usize = 0;
     while i < s.len() {
-        let end = i + left_len(&s[i..], k);
+        let end = i + received_token::left_len(&s[i..], k);
         let token = &s[i..end];
         if !is_clear(token) {
             return false;
@@ -31,12 +28,12 @@ fn left_passes(column: usize, s: &[u8], k: usize) -> bool
 pub fn passes(name: &[u8], value: &[u8]) -> bool
     ensures { λ r. ⌜ r ≡ passes (now (name .entry)) (now (value .entry)) ⌝ }
 {
-    let first = for_len(value);
+    let first = received_token::for_len(value);
     let clause = &value[..first];
     if !is_clear(clause) {
         return false;
     }
     let colon = column_after(column_after(0, name), b":");
     let rest = &value[first..];
-    left_passes(token_column(colon, clause), rest, unclosed_len(rest))
+    left_passes(token_column(colon, clause), rest, received_token::unclosed_len(rest))
 }

@@ -6,11 +6,7 @@ ghost use Rattle.buffer.specs.Buffer.{AppendedCapped};
 ghost use Rattle.encoded_word.specs.Segments.{rendered};
 ghost use Rattle.piece.specs.Piece.{fitting};
 ghost use Rattle.received.specs.Received.{tokenSegments, leftSegments, valueSegments, receivedField};
-use crate::clause::for_len;
 use crate::token::is_comment;
-use crate::token::is_removed;
-use crate::tokens::left_len;
-use crate::tokens::unclosed_len;
 
 fn add_token(out: &mut [u8], at: usize, token: &[u8], scratch: &mut [u8]) -> usize
     requires { ⌜ (length (now token) ≤ 32768) × (2 * length (now token) ≤ length (now scratch)) ⌝ }
@@ -19,7 +15,7 @@ fn add_token(out: &mut [u8], at: usize, token: &[u8], scratch: &mut [u8]) -> usi
     if is_comment(token) {
         return structured_field::add_comment(out, at, token, scratch);
     }
-    if is_removed(token) {
+    if received_token::is_removed(token) {
         return at;
     }
     buffer::add_slice(out, at, token)
@@ -33,7 +29,7 @@ fn add_left(out: &mut [u8], at: usize, s: &[u8], k: usize, scratch: &mut [u8]) -
     let mut next = at;
     let mut i: usize = 0;
     while i < s.len() {
-        let end = i + left_len(&s[i..], k);
+        let end = i + received_token::left_len(&s[i..], k);
         next = add_token(out, next, &s[i..end], scratch);
         i = end;
     }
@@ -44,10 +40,10 @@ fn add_value(out: &mut [u8], at: usize, value: &[u8], scratch: &mut [u8]) -> usi
     requires { ⌜ (length (now value) ≤ 32768) × (2 * length (now value) ≤ length (now scratch)) ⌝ }
     ensures { λ r. ⌜ AppendedCapped (rendered (valueSegments (now (value .entry)))) at (now (out .entry)) (now (out .exit)) r ⌝ }
 {
-    let first = for_len(value);
+    let first = received_token::for_len(value);
     let begun = add_token(out, at, &value[..first], scratch);
     let rest = &value[first..];
-    add_left(out, begun, rest, unclosed_len(rest), scratch)
+    add_left(out, begun, rest, received_token::unclosed_len(rest), scratch)
 }
 
 fn add_fitting(out: &mut [u8], at: usize, name: &[u8], value: &[u8], scratch: &mut [u8]) -> usize

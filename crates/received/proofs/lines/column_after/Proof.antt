@@ -7,9 +7,6 @@ use Rattle.received.specs.Received.{columnAfter}
 use Rattle.received.specs.LinesLaws.{column-step, column-over}
 use Rattle.received.proofs.lines.column_after.Statement.{statement}
 use Rattle.received.proofs.lines.column_after.Tie as tie
-use Rattle.received.proofs.lines.column_after.Reads as reads
-use Rattle.received.proofs.lines.column_after.Lts as lts
-use Rattle.received.proofs.lines.column_next.Reads as column-next-reads
 
 abbrev Inv-loop : tie.InvT-loop
 Inv-loop column s at₀ i₀ at i = columnAfter column s ≡ columnAfter at (drop i s)
@@ -17,31 +14,24 @@ Inv-loop column s at₀ i₀ at i = columnAfter column s ≡ columnAfter at (dro
 abbrev μ-loop : tie.MeasureT-loop
 μ-loop column s at₀ i₀ at i = length s - i
 
--- src/lines.rt:27:5
 loop-holds : tie.Need-loop-holds Inv-loop μ-loop
 loop-holds c = refl
 
--- src/lines.rt:28:30
 shared-slice-read-column-next : tie.Need-shared-slice-read-column-next Inv-loop μ-loop
 shared-slice-read-column-next c = omega arith
 
--- src/lines.rt:28:9
 column-next-requires : tie.Need-column-next-requires Inv-loop μ-loop
 column-next-requires c κs = search needs
 
--- src/lines.rt:29:9
 add-i : tie.Need-add-i Inv-loop μ-loop
 add-i c = omega arith
 
--- src/lines.rt:27:5
 loop-less : tie.Need-loop-less Inv-loop μ-loop
 loop-less c = omega arith
 
--- src/lines.rt:27:5
 loop-again : tie.Need-loop-again Inv-loop μ-loop
 loop-again c = c .before .before .before .loop .inv ∙ column-step _ _ _ (c .before .before .loop-test .taken) (c .column-next .ensures)
 
--- src/lines.rt:22:1
 returns : tie.Need-returns Inv-loop μ-loop
 returns c = sym (c .before .loop .inv ∙ column-over _ _ _ (c .loop-test .left))
 

@@ -2,22 +2,16 @@ use Rattle.received.specs.LinesLaws.{column-stays, column-ends, column-g
 use borrow.Author.Needs.{needs}
 use Rattle.received.proofs.lines.column_next.Statement.{statement}
 use Rattle.received.proofs.lines.column_next.Tie as tie
-use Rattle.received.proofs.lines.column_next.Reads as reads
-use Rattle.received.proofs.lines.column_next.Lts as lts
 
--- src/lines.rt:14:9
 returns : tie.Need-returns
 returns c = column-stays _ _ (c .if1 .taken)
 
--- src/lines.rt:17:9
 returns-2 : tie.Need-returns-2
 returns-2 c = column-ends _ _ (c .before .if1 .left) (c .if2 .taken)
 
--- src/lines.rt:19:5
 add-result : tie.Need-add-result
 add-result c = search needs
 
--- src/lines.rt:10:1
 returns-3 : tie.Need-returns-3
 returns-3 c = column-goes _ _ (c .before .if1 .left) (c .if2 .left)
 

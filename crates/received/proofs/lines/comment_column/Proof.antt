@@ -8,10 +8,6 @@ use Rattle.received.specs.Received.{columnAfter}
 use Rattle.received.specs.LinesLaws.{comment-step, comment-over, commentBytes}
 use Rattle.received.proofs.lines.comment_column.Statement.{statement}
 use Rattle.received.proofs.lines.comment_column.Tie as tie
-use Rattle.received.proofs.lines.comment_column.Reads as reads
-use Rattle.received.proofs.lines.comment_column.Lts as lts
-use Rattle.comment.proofs.part_end.Reads as part-end-reads
-use Rattle.received.proofs.lines.part_column.Reads as part-column-reads
 
 abbrev Inv-loop : tie.InvT-loop
 Inv-loop column comment at₀ i₀ at i = columnAfter column (commentBytes comment) ≡ columnAfter at (commentBytes (drop i comment))
@@ -19,39 +15,30 @@ Inv-loop column comment at₀ i₀ at i = columnAfter column (commentBytes comme
 abbrev μ-loop : tie.MeasureT-loop
 μ-loop column comment at₀ i₀ at i = length comment - i
 
--- src/lines.rt:49:5
 loop-holds : tie.Need-loop-holds Inv-loop μ-loop
 loop-holds c = refl
 
--- src/lines.rt:50:13
 part-end-requires : tie.Need-part-end-requires Inv-loop μ-loop
 part-end-requires c κs = search needs
 
--- src/lines.rt:51:30
 sub-part-column : tie.Need-sub-part-column Inv-loop μ-loop
 sub-part-column c = omega (arith, part-beyond _ _ (c .before .loop-test .taken) _ (c .part-end .ensures))
 
--- src/lines.rt:51:30
 part-part-column-start : tie.Need-part-part-column-start Inv-loop μ-loop
 part-part-column-start c = omega (arith, part-beyond _ _ (c .before .loop-test .taken) _ (c .part-end .ensures))
 
--- src/lines.rt:51:30
 part-part-column-end : tie.Need-part-part-column-end Inv-loop μ-loop
 part-part-column-end c = part-end-within _ _ (c .before .loop-test .taken) _ (c .part-end .ensures)
 
--- src/lines.rt:51:9
 part-column-requires : tie.Need-part-column-requires Inv-loop μ-loop
 part-column-requires c κs = search needs
 
--- src/lines.rt:49:5
 loop-less : tie.Need-loop-less Inv-loop μ-loop
 loop-less c = omega (arith, part-beyond _ _ (c .before .before .before .loop-test .taken) _ (c .before .before .part-end .ensures))
 
--- src/lines.rt:49:5
 loop-again : tie.Need-loop-again Inv-loop μ-loop
 loop-again c = c .before .before .before .before .loop .inv ∙ comment-step _ _ _ _ (c .before .before .before .loop-test .taken) (c .before .before .part-end .ensures) (c .part-column .ensures)
 
--- src/lines.rt:44:1
 returns : tie.Need-returns Inv-loop μ-loop
 returns c = sym (c .before .loop .inv ∙ comment-over _ _ _ (c .loop-test .left))
 

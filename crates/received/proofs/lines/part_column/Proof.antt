@@ -3,32 +3,22 @@ use Rattle.received.specs.LinesLaws.{part-ascii, part-encoded}
 use borrow.Author.Needs.{needs}
 use Rattle.received.proofs.lines.part_column.Statement.{statement}
 use Rattle.received.proofs.lines.part_column.Tie as tie
-use Rattle.received.proofs.lines.part_column.Reads as reads
-use Rattle.received.proofs.lines.part_column.Lts as lts
-use Rattle.received.proofs.lines.column_after.Reads as column-after-reads
-use Rattle.utf8.proofs.is_ascii.Reads as is-ascii-reads
 
--- src/lines.rt:38:8
 is-ascii-requires : tie.Need-is-ascii-requires
 is-ascii-requires c κs = search needs
 
--- src/lines.rt:39:9
 column-after-requires : tie.Need-column-after-requires
 column-after-requires c κs = search needs
 
--- src/lines.rt:39:9
 returns : tie.Need-returns
 returns c = part-ascii _ _ (sym (c .before .before .is-ascii .ensures) ∙ c .before .if1 .taken) (c .column-after .ensures)
 
--- src/lines.rt:41:26
 slice-aggregate-column-after : tie.Need-slice-aggregate-column-after
 slice-aggregate-column-after c = search needs
 
--- src/lines.rt:41:5
 column-after-requires-2 : tie.Need-column-after-requires-2
 column-after-requires-2 c κs = search needs
 
--- src/lines.rt:35:1
 returns-2 : tie.Need-returns-2
 returns-2 c = part-encoded _ _ (sym (c .before .before .before .is-ascii .ensures) ∙ c .before .before .if1 .left) (c .column-after2 .ensures)
 

@@ -2,38 +2,25 @@ use Rattle.received.specs.TokenLaws.{clear-comment, clear-for, clear-oth
 use borrow.Author.Needs.{needs}
 use Rattle.received.proofs.token.is_clear.Statement.{statement}
 use Rattle.received.proofs.token.is_clear.Tie as tie
-use Rattle.received.proofs.token.is_clear.Reads as reads
-use Rattle.received.proofs.token.is_clear.Lts as lts
-use Rattle.received.proofs.clause.for_len.Reads as for-len-reads
-use Rattle.received.proofs.token.is_clause.Reads as is-clause-reads
-use Rattle.received.proofs.token.is_comment.Reads as is-comment-reads
-use Rattle.utf8.proofs.is_ascii.Reads as is-ascii-reads
 
--- src/token.rt:34:8
 is-comment-requires : tie.Need-is-comment-requires
 is-comment-requires c κs = search needs
 
--- src/token.rt:35:9
 returns : tie.Need-returns
 returns c = clear-comment _ (c .before .is-comment .ensures) (c .if1 .taken)
 
--- src/token.rt:37:12
 for-len-requires : tie.Need-for-len-requires
 for-len-requires c κs = search needs
 
--- src/token.rt:38:9
 is-clause-requires : tie.Need-is-clause-requires
 is-clause-requires c κs = search needs
 
--- src/token.rt:38:9
 returns-2 : tie.Need-returns-2
 returns-2 c = clear-for _ (c .before .before .before .before .is-comment .ensures) (c .before .before .before .if1 .left) (c .before .before .for-len .ensures) (c .before .if2 .taken) (c .is-clause .ensures)
 
--- src/token.rt:40:5
 is-ascii-requires : tie.Need-is-ascii-requires
 is-ascii-requires c κs = search needs
 
--- src/token.rt:31:1
 returns-3 : tie.Need-returns-3
 returns-3 c = clear-other _ (c .before .before .before .before .is-comment .ensures) (c .before .before .before .if1 .left) (c .before .before .for-len .ensures) (c .before .if2 .left) (c .is-ascii .ensures)
 

@@ -2,38 +2,25 @@ use Rattle.received.specs.TokenLaws.{bytes-comment, bytes-removed, bytes
 use borrow.Author.Needs.{needs}
 use Rattle.received.proofs.token.token_column.Statement.{statement}
 use Rattle.received.proofs.token.token_column.Tie as tie
-use Rattle.received.proofs.token.token_column.Reads as reads
-use Rattle.received.proofs.token.token_column.Lts as lts
-use Rattle.received.proofs.lines.column_after.Reads as column-after-reads
-use Rattle.received.proofs.lines.comment_column.Reads as comment-column-reads
-use Rattle.received.proofs.token.is_comment.Reads as is-comment-reads
-use Rattle.received.proofs.token.is_removed.Reads as is-removed-reads
 
--- src/token.rt:47:8
 is-comment-requires : tie.Need-is-comment-requires
 is-comment-requires c κs = search needs
 
--- src/token.rt:48:9
 comment-column-requires : tie.Need-comment-column-requires
 comment-column-requires c κs = search needs
 
--- src/token.rt:48:9
 returns : tie.Need-returns
 returns c = column-same _ (c .comment-column .ensures) (bytes-comment _ (c .before .before .is-comment .ensures) (c .before .if1 .taken))
 
--- src/token.rt:50:8
 is-removed-requires : tie.Need-is-removed-requires
 is-removed-requires c κs = search needs
 
--- src/token.rt:51:9
 returns-2 : tie.Need-returns-2
 returns-2 c = column-same _ (column-none _) (bytes-removed _ (c .before .before .before .is-comment .ensures) (c .before .before .if1 .left) (c .before .is-removed .ensures) (c .if2 .taken))
 
--- src/token.rt:53:5
 column-after-requires : tie.Need-column-after-requires
 column-after-requires c κs = search needs
 
--- src/token.rt:44:1
 returns-3 : tie.Need-returns-3
 returns-3 c = column-same _ (c .column-after .ensures) (bytes-stay _ (c .before .before .before .before .is-comment .ensures) (c .before .before .before .if1 .left) (c .before .before .is-removed .ensures) (c .before .if2 .left))
 

@@ -2,59 +2,42 @@ use mathlib.Core.Path.{_≡_, sym}
 use native.Mathlib.Omega.{arith}
 use lib.ListN.{length}
 use lib.Seq.{length-take-le}
-use Rattle.received.specs.ClauseLaws.{for-le}
+use Rattle.received_token.specs.ClauseLaws.{for-le}
 use Rattle.received.specs.WritingLaws.{front-served, value-added}
 use borrow.Author.Needs.{needs}
 use Rattle.received.proofs.writer.add_value.Statement.{statement}
 use Rattle.received.proofs.writer.add_value.Tie as tie
-use Rattle.received.proofs.writer.add_value.Reads as reads
-use Rattle.received.proofs.writer.add_value.Lts as lts
-use Rattle.received.proofs.clause.for_len.Reads as for-len-reads
-use Rattle.received.proofs.tokens.unclosed_len.Reads as unclosed-len-reads
-use Rattle.received.proofs.writer.add_left.Reads as add-left-reads
-use Rattle.received.proofs.writer.add_token.Reads as add-token-reads
 
--- src/writer.rt:47:9
 for-len-requires : tie.Need-for-len-requires
 for-len-requires c κs = search needs
 
--- src/writer.rt:48:36
 slice-aggregate-add-token : tie.Need-slice-aggregate-add-token
 slice-aggregate-add-token c = sym (length-take-le _ _ (rw (c .before .before .for-len .ensures) (for-le (c .before .before .before .before .before .before .args .value .now))))
 
--- src/writer.rt:48:9
 add-token-requires : tie.Need-add-token-requires
 add-token-requires c κs = front-served (c .before .before .before .before .before .before .before .args .value .now) (c .before .before .before .for-len .result) (length (c .before .before .before .before .before .before .before .args .scratch .now)) (c .before .before .before .before .before .before .before .pre)
 
--- src/writer.rt:49:16
 sub-rest : tie.Need-sub-rest
 sub-rest c = rw (c .before .before .before .before .before .before .before .before .for-len .ensures) (for-le (c .before .before .before .before .before .before .before .before .before .before .before .before .args .value .now))
 
--- src/writer.rt:49:16
 part-rest-start : tie.Need-part-rest-start
 part-rest-start c = rw (c .before .before .before .before .before .before .before .before .for-len .ensures) (for-le (c .before .before .before .before .before .before .before .before .before .before .before .before .args .value .now))
 
--- src/writer.rt:49:16
 part-rest-end : tie.Need-part-rest-end
 part-rest-end c = search needs
 
--- src/writer.rt:50:32
 unclosed-len-requires : tie.Need-unclosed-len-requires
 unclosed-len-requires c κs = search needs
 
--- src/writer.rt:50:5
 add-left-requires : tie.Need-add-left-requires
 add-left-requires c κs = search needs
 
--- src/writer.rt:43:1
 same-length : tie.Need-same-length
 same-length c = search needs
 
--- src/writer.rt:43:1
 same-length-2 : tie.Need-same-length-2
 same-length-2 c = search needs
 
--- src/writer.rt:43:1
 returns : tie.Need-returns
 returns c = value-added _ _ (c .before .before .before .before .before .before .before .before .before .before .before .before .before .before .before .before .before .for-len .ensures) _ (c .before .before .before .before .before .before .unclosed-len .ensures) (omega arith) (c .before .before .before .before .before .before .before .before .before .before .before .before .before .add-token .ensures) (c .before .before .before .before .add-left .ensures)
 

@@ -1,0 +1,4 @@
+pub mod Clause
+pub mod ClauseLaws
+pub mod Tokens
+pub mod TokensLaws
