@@ -32,6 +32,9 @@ part-sound part h =
     (λ t. yes-and (all isAscii part) true t tt)
     (λ t. yes-and (utf8 (runText part)) true (run-text-utf8 part h) tt)
 
+pub comment-sound : (comment : List ℕ) → T (utf8 comment) → T (all sound (joined (map partSegments (parts comment))))
+comment-sound comment h = mapped-sound partSegments utf8 part-sound (parts comment) (parts-utf8 comment h)
+
 -- a comment that is UTF-8, or ASCII
 abbrev fair : List ℕ → Bool
 fair token = utf8 token && commentOrAscii token
@@ -41,7 +44,7 @@ unfolding tokenSegments commentOrAscii
 token-sound token h =
     let both = and-yes (utf8 token) (isComment token || all isAscii token) h in
     cond-has (λ (ss : List Segment). T (all sound ss)) (isComment token) (joined (map partSegments (parts token))) (raw token ∷ [])
-    (λ t. mapped-sound partSegments utf8 part-sound (parts token) (parts-utf8 token (both .0)))
+    (λ t. comment-sound token (both .0))
     (λ t. yes-and (all isAscii token) true (rw (no-false (isComment token) t) at (both .1)) tt)
 
 all-fair : (ts : List (List ℕ)) → T (all utf8 ts) → T (all commentOrAscii ts) → T (all fair ts)
@@ -70,11 +73,15 @@ part-le part h =
     (λ t. rw append-nil (omega arith))
     (λ t. rw length-append (omega (arith, length-row-le (runText part), length-run-text part)))
 
+pub comment-le : (comment : List ℕ) → length (rendered (joined (map partSegments (parts comment)))) ≤ 23 * length comment
+unfolding parts
+comment-le comment = rw (parts-joined comment) at (mapped-le partSegments 23 part-le (parts comment) (cut-some partLen comment))
+
 token-le : (token : List ℕ) → 0 < length token → length (rendered (tokenSegments token)) ≤ 23 * length token
-unfolding tokenSegments parts rendered
+unfolding tokenSegments rendered
 token-le token h =
     cond-has (λ (ss : List Segment). length (rendered ss) ≤ 23 * length token) (isComment token) (joined (map partSegments (parts token))) (raw token ∷ [])
-    (λ t. rw (parts-joined token) at (mapped-le partSegments 23 part-le (parts token) (cut-some partLen token)))
+    (λ t. comment-le token)
     (λ t. rw append-nil (omega arith))
 
 pub length-structured : (name value : List ℕ) → length (rendered (structuredField name value)) ≤ 3 + length name + 23 * length value
