@@ -3,3 +3,4 @@ pub mod LinesLaws
 pub mod TokenLaws
 pub mod PassesLaws
 pub mod WritingLaws
+pub mod ReceivedLaws

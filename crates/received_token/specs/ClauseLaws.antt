@@ -4,11 +4,12 @@ use mathlib.Core.Path.{_≡_, sym, ap, _∙_}
 use mathlib.Core.Bool.{Bool, true, false, not, _&&_, _||_, cond, and-false}
 use mathlib.Core.List.{List, [], _∷_}
 use Prim.Native.Nat.{ℕ, _+_, _-_, _≤_, _<_}
+use native.Mathlib.Nat.{not-suc-le-zero}
 use native.Mathlib.Omega.{arith}
-use mir.Facts.{ltb-yes, ltb-no}
+use mir.Facts.{ltb-yes, ltb-no, eqb-no}
 use lib.Dec.{T, eqb, ltb, eqb→eq}
 use lib.ListN.{length, take, drop, getD, length-drop, List·getD-eq-default}
-use lib.Seq.{take-all}
+use lib.Seq.{take-all, getD-drop}
 use Rattle.lists.specs.Byte.{isAscii}
 use Rattle.lists.specs.Lists.{all}
 use Rattle.lists.specs.Run.{run}
@@ -182,3 +183,39 @@ for-le s =
     (λ u. omega (arith, for-long (drop w s) (yes-true (isFor (drop w s)) t), length-drop w s))
     (λ u. clause-le s))
     (λ t. omega arith)
+
+-- ---- a clause ends with `>` (62)
+
+closed-last : (s : List ℕ) (r : Scan) → 0 < closedLen r s → getD s (closedLen r s - 1) 0 ≡ 62
+unfolding closedLen
+closed-last s (To n) h =
+    cond-has (λ k. 0 < k → getD s (k - 1) 0 ≡ 62) (eqb (getD s n 0) 62) (n + 1) 0
+    (λ t k. let e : n + 1 - 1 ≡ n = omega arith in rw e (eqb→eq (getD s n 0) 62 t))
+    (λ t k. absurd (not-suc-le-zero k)) h
+closed-last s (Stop n) h = absurd (not-suc-le-zero h)
+
+angled-last : (s : List ℕ) → 0 < angledLen s → getD s (angledLen s - 1) 0 ≡ 62
+unfolding angledLen
+angled-last s h =
+    let r = later 1 (addressScan (drop 1 s)) in
+    cond-has (λ k. 0 < k → getD s (k - 1) 0 ≡ 62) (eqb (getD s 0 0) 60) (closedLen r s) 0
+    (λ t k. closed-last s r k) (λ t k. absurd (not-suc-le-zero k)) h
+
+pub clause-last : (s : List ℕ) → 0 < clauseLen s → getD s (clauseLen s - 1) 0 ≡ 62
+unfolding clauseLen
+clause-last s h =
+    let w = whiteLen s in
+    let more = drop 3 (drop w s) in
+    let m = whiteLen more in
+    let n = angledLen (drop m more) in
+    cond-has (λ k. 0 < k → getD s (k - 1) 0 ≡ 62) (isFor (drop w s)) (cond (eqb n 0) 0 (w + 3 + m + n)) 0
+    (λ t. cond-has (λ k. 0 < k → getD s (k - 1) 0 ≡ 62) (eqb n 0) 0 (w + 3 + m + n)
+    (λ u k. absurd (not-suc-le-zero k))
+    (λ u k.
+    let none = eqb-no {a = n} {b = 0} u in
+    let some : 0 < n = omega arith in
+    let there : w + 3 + m + n - 1 ≡ w + (3 + (m + (n - 1))) = omega arith in
+    rw there
+    (sym (getD-drop w s (3 + (m + (n - 1))) 0)
+    ∙ (sym (getD-drop 3 (drop w s) (m + (n - 1)) 0) ∙ (sym (getD-drop m more (n - 1) 0) ∙ angled-last (drop m more) some)))))
+    (λ t k. absurd (not-suc-le-zero k)) h

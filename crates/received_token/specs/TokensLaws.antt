@@ -3,18 +3,23 @@ use borrow.Author.Tests.{ne-eqb, eq-eqb, lt-ltb, le-leb, lt-leb}
 use mathlib.Core.Path.{_≡_, refl, sym, ap, _∙_}
 use mathlib.Core.Bool.{Bool, true, false, not, _&&_}
 use mathlib.Core.List.{List, [], _∷_}
-use Prim.Native.Nat.{ℕ, zero, suc, _+_, _-_, _≤_, _<_}
+use Prim.Native.Nat.{ℕ, zero, suc, pred, _+_, _-_, _≤_, _<_}
 use native.Mathlib.Nat.{not-suc-le-zero}
 use native.Mathlib.Omega.{arith}
-use lib.Dec.{T, eqb, leb, ltb}
+use lib.Dec.{T, eqb, leb, ltb, eqb→eq}
+use mir.Facts.{eqb-no}
 use lib.ListN.{length, take, drop, getD, length-drop, drop-of-length-le}
-use lib.Seq.{drop-cons, take-all}
+use lib.Seq.{drop-cons, take-all, take-nil}
 use Rattle.lists.specs.CutBy.{cutBy}
 use Rattle.lists.specs.CutByLaws.{cut-nil, cut-next, cut-joined}
 use Rattle.lists.specs.Lists.{joined}
-use Rattle.comment.specs.Comment.{commentLen}
+use Rattle.lists.specs.Run.{run}
+use Rattle.lists.specs.ListsLaws.{by-test, cond-has, true-yes}
+use Rattle.letter_case.specs.LetterCase.{bytes, lower, sameAnyCase}
+use Rattle.comment.specs.Comment.{past, depthAfter, closing, commentLen}
 use Rattle.structured_field.specs.Tokens.{tokenLen, isComment, TookToken}
-use Rattle.received_token.specs.Clause.{isWhite, whiteLen, forLen}
+use Rattle.structured_field.specs.TokensLaws.{other-kind, token-some, token-is-comment}
+use Rattle.received_token.specs.Clause.{isWhite, whiteLen, isFor, forLen}
 use Rattle.received_token.specs.ClauseLaws.{white-le, white-some, for-le}
 use Rattle.received_token.specs.Tokens.{plainLen, commentedLen, isUnclosed, unclosedOf, unclosedLen, leftLen, tokensFrom, tokens, Measured}
 
@@ -126,3 +131,46 @@ module _ {s : List ℕ} {i e : ℕ} (h : i < length s) (x : Next commentedLen s 
 pub unclosed-none : (s : List ℕ) (i : ℕ) → length s ≤ i → unclosedLen (drop i s) ≡ 0
 unfolding unclosedLen unclosedOf
 unclosed-none s i h = rw (drop-of-length-le s {i = i} h, cut-nil commentedLen)
+
+-- ---- tokens that are comments
+
+lone-paren : isComment (40 ∷ []) ≡ false
+unfolding isComment commentLen closing depthAfter past
+lone-paren = refl
+
+no-token : isComment [] ≡ false
+unfolding isComment commentLen
+no-token = refl
+
+abbrev EndsComment : List ℕ → ℕ → Type 0
+EndsComment s n = isComment (take (suc (pred n)) s) ≡ true → (0 < commentLen s) × (suc (pred n) ≡ commentLen s)
+
+sized : (s : List ℕ) (n : ℕ) → 0 < n → (isComment (take n s) ≡ true → (0 < commentLen s) × (n ≡ commentLen s)) → EndsComment s n
+sized s zero h c = absurd (not-suc-le-zero h)
+sized s (suc n) h c = c
+
+open-comment : (k : ℕ) (s : List ℕ) → EndsComment (40 ∷ s) (leftLen k (40 ∷ s))
+unfolding leftLen plainLen commentedLen
+open-comment k s =
+    cond-has (λ n. EndsComment (40 ∷ s) n) (leb (length (40 ∷ s)) k) 1 (tokenLen (40 ∷ s))
+    (λ t e. absurd (true-yes false (sym lone-paren ∙ e)))
+    (λ t. sized (40 ∷ s) (tokenLen (40 ∷ s)) (token-some 40 s) (token-is-comment 40 s))
+
+-- a token that is a comment ends where the comment does
+pub left-comment : (k b : ℕ) (s : List ℕ) → EndsComment (b ∷ s) (leftLen k (b ∷ s))
+left-comment k b s =
+    by-test (eqb b 40)
+    (λ t. rw (eqb→eq b 40 t) (open-comment k s))
+    (λ t e. absurd (true-yes false (sym (other-kind b (suc (pred (leftLen k (b ∷ s)))) s (eqb-no {a = b} {b = 40} t)) ∙ e)))
+
+open-not-for : (s : List ℕ) → forLen (40 ∷ s) ≡ 0
+unfolding forLen whiteLen run isFor sameAnyCase bytes lower
+open-not-for s = refl
+
+-- a for at the very start is no comment
+pub first-other : (s : List ℕ) → isComment (take (forLen s) s) ≡ false
+first-other [] = rw take-nil no-token
+first-other (b ∷ s) =
+    by-test (eqb b 40)
+    (λ t. rw (eqb→eq b 40 t, open-not-for s) no-token)
+    (λ t. other-kind b (forLen (b ∷ s)) s (eqb-no {a = b} {b = 40} t))
