@@ -35,5 +35,9 @@ pub fn passes(name: &[u8], value: &[u8]) -> bool
     }
     let colon = column_after(column_after(0, name), b":");
     let rest = &value[first..];
-    left_passes(token_column(colon, clause), rest, received_token::unclosed_len(rest))
+    left_passes(
+        token_column(colon, clause),
+        rest,
+        received_token::unclosed_len(rest),
+    )
 }

@@ -43,7 +43,13 @@ fn add_value(out: &mut [u8], at: usize, value: &[u8], scratch: &mut [u8]) -> usi
     let first = received_token::for_len(value);
     let begun = add_token(out, at, &value[..first], scratch);
     let rest = &value[first..];
-    add_left(out, begun, rest, received_token::unclosed_len(rest), scratch)
+    add_left(
+        out,
+        begun,
+        rest,
+        received_token::unclosed_len(rest),
+        scratch,
+    )
 }
 
 fn add_fitting(out: &mut [u8], at: usize, name: &[u8], value: &[u8], scratch: &mut [u8]) -> usize
