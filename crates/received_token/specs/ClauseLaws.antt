@@ -73,7 +73,7 @@ unfolding isFor bytes
 for-is s part p q a w = rw (q, p, w, a)
 
 -- the word has its three letters and a byte after them
-for-long : (s : List ℕ) → isFor s ≡ true → 4 ≤ length s
+pub for-long : (s : List ℕ) → isFor s ≡ true → 4 ≤ length s
 unfolding isFor
 for-long s e =
     by-test (ltb 3 (length s))
