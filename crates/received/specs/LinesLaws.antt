@@ -3,7 +3,7 @@ use borrow.Author.Tests.{ne-eqb, eq-eqb, le-leb, lt-leb}
 use mathlib.Core.Path.{_≡_, refl, sym, ap, _∙_}
 use mathlib.Core.Bool.{Bool, true, false, cond, not, _&&_}
 use mathlib.Core.List.{List, [], _∷_, _++_, append-assoc, append-nil, map}
-use Prim.Native.Nat.{ℕ, zero, suc, pred, _+_, _-_, _*_, _/_, _%_, _≤_, _<_}
+use Prim.Native.Nat.{ℕ, suc, pred, _+_, _-_, _/_, _%_, _≤_, _<_}
 use native.Mathlib.Nat.{not-suc-le-zero}
 use native.Mathlib.Omega.{arith}
 use lib.Dec.{T, eqb, leb, ltb, eqb→eq, leb→le, le→leb}
@@ -11,10 +11,9 @@ use lib.ListN.{length, take, drop, getD, length-append, length-take, drop-of-len
 use lib.Seq.{drop-cons}
 use native.Mathlib.Numerals.{add-one}
 use mir.Facts.{and-yes, yes-and, leb-yes, leb-no}
-use Rattle.lists.specs.CutBy.{cutBy}
 use Rattle.lists.specs.CutByLaws.{cut-all}
 use Rattle.lists.specs.Lists.{all, joined}
-use Rattle.lists.specs.ListsLaws.{by-test, cond-has, all-append, yes-true, no-false, true-yes}
+use Rattle.lists.specs.ListsLaws.{by-test, cond-has, all-append, no-false}
 use Rattle.utf8.specs.Utf8.{charLen, chars}
 use Rattle.utf8.specs.Utf8Laws.{char-len-le}
 use Rattle.lists.specs.Byte.{isAscii}
@@ -22,7 +21,6 @@ use Rattle.encoded_word.specs.Segments.{rendered}
 use Rattle.comment.specs.Parts.{partLen, parts, runText}
 use Rattle.structured_field.specs.StructuredField.{partSegments}
 use Rattle.structured_field.specs.WritingLaws.{part-stays, comment-next, comment-none}
-use Rattle.cut.specs.Cut.{cut}
 use Rattle.cut.specs.CutLaws.{AllFit, cut-fits}
 use Rattle.hex.specs.Hex.{hexDigit}
 use Rattle.word_spelling.specs.Spelling.{opening, closing, bare, escape, spellByte, spell}

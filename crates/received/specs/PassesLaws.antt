@@ -1,22 +1,20 @@
 -- The test of a Received field, token by token. Assumes nothing.
-use mathlib.Core.Path.{_≡_, refl, sym, ap, _∙_}
+use mathlib.Core.Path.{_≡_, sym, ap, _∙_}
 use mathlib.Core.Bool.{Bool, true, false, _&&_}
 use mathlib.Core.List.{List, [], _∷_, _++_, append-assoc, map}
 use Prim.Native.Nat.{ℕ, _+_, _-_, _≤_, _<_}
-use native.Mathlib.Omega.{arith}
-use lib.Dec.{T, leb}
-use lib.ListN.{length, take, drop, length-drop, drop-of-length-le}
-use lib.Seq.{take-all, length-take-le}
-use Rattle.lists.specs.CutBy.{cutBy}
+use lib.Dec.{leb}
+use lib.ListN.{length, take, drop, drop-of-length-le}
 use Rattle.lists.specs.CutByLaws.{cut-nil, cut-next}
 use Rattle.lists.specs.Lists.{all, joined}
 use Rattle.encoded_word.specs.Segments.{rendered}
 use Rattle.encoded_word.specs.Segments.Segment.{raw}
 use Rattle.encoded_word.specs.SegmentsLaws.{rendered-append}
-use Rattle.encoded_word.specs.MappedLaws.{mapped-next, mapped-none}
+use Rattle.encoded_word.specs.MappedLaws.{mapped-next}
 use Rattle.received_token.specs.Clause.{forLen}
-use Rattle.received_token.specs.ClauseLaws.{for-le}
-use Rattle.received_token.specs.Tokens.{unclosedLen, leftLen, tokensFrom, tokens, Measured}
+use Rattle.structured_field.specs.StructuredField.{named}
+use Rattle.received_token.specs.ClauseLaws.{rest}
+use Rattle.received_token.specs.Tokens.{unclosedLen, leftLen, tokensFrom, tokens}
 use Rattle.received_token.specs.TokensLaws.{Next}
 use Rattle.received.specs.LinesLaws.{column-append}
 use Rattle.received.specs.Received.{tokenSegments, leftSegments, valueSegments, receivedField, isClear, columnAfter, linesFit, passes}
@@ -56,9 +54,6 @@ pass-over column k s i h q = rw (drop-of-length-le s {i = i} h, cut-nil (leftLen
 
 -- ---- the field
 
-rest : (s : List ℕ) (at : ℕ) → take (length s - at) (drop at s) ≡ drop at s
-rest s at = take-all (length s - at) (drop at s) (rw length-drop (omega arith))
-
 -- a for at the very start of the value, and what is left after it, as code lends it on
 module _ (name value : List ℕ) (n : ℕ) (qn : n ≡ forLen value) (k : ℕ) (qk : k ≡ unclosedLen (take (length value - n) (drop n value))) where
   abbrev left : List ℕ
@@ -70,7 +65,7 @@ module _ (name value : List ℕ) (n : ℕ) (qn : n ≡ forLen value) (k : ℕ) (
 
   pub received-bytes : rendered (receivedField name value)
       ≡ (name ++ (58 ∷ [])) ++ (rendered (tokenSegments (take n value)) ++ (rendered (leftSegments k left) ++ (13 ∷ 10 ∷ [])))
-  unfolding receivedField valueSegments leftSegments rendered
+  unfolding receivedField named valueSegments leftSegments rendered
   received-bytes =
       let segments = joined (map tokenSegments (tokens value)) in
       ap (λ (l : List ℕ). (name ++ (58 ∷ [])) ++ l)

@@ -1,6 +1,6 @@
 -- What a Received field becomes, and when it is held. Assumes nothing.
 use mathlib.Core.Bool.{Bool, cond, _&&_, _||_}
-use mathlib.Core.List.{List, [], _∷_, _++_, map}
+use mathlib.Core.List.{List, [], _∷_, map}
 use Prim.Native.Nat.{ℕ, _+_}
 use lib.Dec.{eqb, leb, ltb}
 use Rattle.lists.specs.Byte.{isAscii}
@@ -9,7 +9,7 @@ use Rattle.encoded_word.specs.Segments.{Segment, rendered}
 use Rattle.encoded_word.specs.Segments.Segment.{raw}
 use Rattle.comment.specs.Parts.{parts}
 use Rattle.structured_field.specs.Tokens.{isComment}
-use Rattle.structured_field.specs.StructuredField.{partSegments}
+use Rattle.structured_field.specs.StructuredField.{partSegments, named}
 use Rattle.received_token.specs.Clause.{forLen, isClause, isRemoved}
 use Rattle.received_token.specs.Tokens.{tokensFrom, tokens}
 
@@ -26,9 +26,8 @@ leftSegments k s = joined (map tokenSegments (tokensFrom k s))
 unfoldable pub valueSegments : List ℕ → List Segment
 valueSegments value = joined (map tokenSegments (tokens value))
 
--- the name as it came, colon (58), the value, CRLF
 unfoldable pub receivedField : List ℕ → List ℕ → List Segment
-receivedField name value = raw (name ++ (58 ∷ [])) ∷ (valueSegments value ++ (raw (13 ∷ 10 ∷ []) ∷ []))
+receivedField name value = named name (valueSegments value)
 
 -- ---- when it is held
 

@@ -11,7 +11,7 @@ use mir.Facts.{and-yes, yes-and, ltb-yes}
 use Rattle.lists.specs.Byte.{isAscii}
 use Rattle.lists.specs.CutByLaws.{cut-joined, cut-some}
 use Rattle.lists.specs.Lists.{all, joined}
-use Rattle.lists.specs.ListsLaws.{by-test, cond-has, yes-true, true-yes, no-false, all-append}
+use Rattle.lists.specs.ListsLaws.{by-test, cond-has, yes-true, true-yes, no-false}
 use Rattle.utf8.specs.Utf8.{utf8}
 use Rattle.utf8.specs.Utf8Laws.{utf8-ascii, utf8-right, utf8-append, utf8-cut}
 use Rattle.encoded_word.specs.Segments.{Segment, rendered, sound}
@@ -23,7 +23,7 @@ use Rattle.comment.specs.Parts.{parts}
 use Rattle.comment.specs.BoundaryLaws.{Cut, comment-cut, parts-pass}
 use Rattle.structured_field.specs.Tokens.{isComment}
 use Rattle.structured_field.specs.StructuredField.{partSegments}
-use Rattle.structured_field.specs.StructuredFieldLaws.{comment-sound, comment-le}
+use Rattle.structured_field.specs.StructuredFieldLaws.{comment-sound, comment-le, all-both, named-sound, length-named}
 use Rattle.received_token.specs.Clause.{clauseLen, forLen, isClause, isRemoved}
 use Rattle.received_token.specs.ClauseLaws.{clause-last, for-le}
 use Rattle.received_token.specs.Tokens.{unclosedLen, leftLen, tokensFrom, tokens}
@@ -110,23 +110,13 @@ token-sound token h =
     (λ g. tt)
     (λ g. yes-and (all isAscii token) true (clear-ascii token (both .1) t g) tt))
 
-all-fair : (ts : List (List ℕ)) → T (all utf8 ts) → T (all isClear ts) → T (all fair ts)
-all-fair [] h q = tt
-all-fair (t ∷ ts) h q =
-    let a = and-yes (utf8 t) (all utf8 ts) h in
-    let b = and-yes (isClear t) (all isClear ts) q in
-    yes-and (fair t) (all fair ts) (yes-and (utf8 t) (isClear t) (a .0) (b .0)) (all-fair ts (a .1) (b .1))
-
 -- what is written for a field that passes is sound
 pub received-sound : (name value : List ℕ) → T (all isAscii name) → T (utf8 value) → T (passes name value) → T (all sound (receivedField name value))
 unfolding receivedField valueSegments passes
 received-sound name value a u p =
     let clear = and-yes (all isClear (tokens value)) (linesFit (rendered (receivedField name value))) p .0 in
-    let label : T (all isAscii (name ++ (58 ∷ []))) = all-append isAscii name (58 ∷ []) a tt in
-    let segments = joined (map tokenSegments (tokens value)) in
-    let value-sound : T (all sound segments) = mapped-sound tokenSegments fair token-sound (tokens value) (all-fair (tokens value) (tokens-utf8 value u clear) clear) in
-    yes-and (all isAscii (name ++ (58 ∷ []))) (all sound (segments ++ (raw (13 ∷ 10 ∷ []) ∷ []))) label
-    (all-append sound segments (raw (13 ∷ 10 ∷ []) ∷ []) value-sound tt)
+    named-sound name (joined (map tokenSegments (tokens value))) a
+    (mapped-sound tokenSegments fair token-sound (tokens value) (all-both utf8 isClear (tokens value) (tokens-utf8 value u clear) clear))
 
 -- ---- how long it can be
 
@@ -152,7 +142,5 @@ value-le value =
     rw (rendered-append (tokenSegments first) (joined (map tokenSegments (tokensFrom (unclosedLen rest) rest))), length-append (rendered (tokenSegments first))) (omega arith)
 
 pub length-received : (name value : List ℕ) → length (rendered (receivedField name value)) ≤ 3 + length name + 23 * length value
-unfolding receivedField rendered
-length-received name value =
-    rw (length-append, rendered-append (valueSegments value) (raw (13 ∷ 10 ∷ []) ∷ []), length-append (rendered (valueSegments value)))
-    (omega (arith, length-append name (58 ∷ []), value-le value))
+unfolding receivedField
+length-received name value = rw (length-named name (valueSegments value)) (omega (arith, value-le value))

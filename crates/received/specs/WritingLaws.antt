@@ -1,22 +1,22 @@
 -- The writing of a Received field, step by step. Assumes nothing.
-use mathlib.Core.Path.{_≡_, sym, _∙_}
+use mathlib.Core.Path.{_≡_, sym}
 use mathlib.Core.Bool.{Bool, true, false}
 use mathlib.Core.List.{List, [], _∷_, _++_, map}
-use Prim.Native.Nat.{ℕ, _+_, _-_, _*_, _≤_, _<_}
+use Prim.Native.Nat.{ℕ, _+_, _-_, _*_, _≤_}
 use native.Mathlib.Omega.{arith}
 use lib.ListN.{length, take, drop, length-take, length-drop, drop-of-length-le}
 use Rattle.lists.specs.Lists.{joined}
 use Rattle.lists.specs.CutByLaws.{cut-nil}
 use Rattle.buffer.specs.Buffer.{AppendedCapped, greatest}
-use Rattle.buffer.specs.BufferLaws.{capped-none, capped-then, capped-same, length-added}
+use Rattle.buffer.specs.BufferLaws.{capped-none, capped-then, capped-same}
 use Rattle.encoded_word.specs.Segments.{rendered}
-use Rattle.encoded_word.specs.SegmentsLaws.{rendered-append}
 use Rattle.encoded_word.specs.MappedLaws.{mapped-none, mapped-next}
 use Rattle.comment.specs.Parts.{parts}
 use Rattle.piece.specs.Piece.{fitting}
 use Rattle.piece.specs.PieceLaws.{fitting-short}
 use Rattle.structured_field.specs.Tokens.{isComment}
 use Rattle.structured_field.specs.StructuredField.{partSegments}
+use Rattle.structured_field.specs.WritingLaws.{named-added}
 use Rattle.received_token.specs.Clause.{forLen, isRemoved}
 use Rattle.received_token.specs.Tokens.{unclosedLen, leftLen, tokensFrom}
 use Rattle.received.specs.Received.{tokenSegments, leftSegments, valueSegments, receivedField}
@@ -64,15 +64,8 @@ module _ (value : List ℕ) (n : ℕ) (qn : n ≡ forLen value) (k : ℕ) (qk : 
       → AppendedCapped (rendered (leftSegments k (take (length value - n) (drop n value)))) b begun after r → AppendedCapped (rendered (valueSegments value)) at before after r
   value-added h x y = capped-same (sym value-bytes) (capped-then x y h)
 
-module _ (name value : List ℕ) where
-  field-bytes : rendered (receivedField name value) ≡ (name ++ (58 ∷ [])) ++ (rendered (valueSegments value) ++ (13 ∷ 10 ∷ []))
-  unfolding receivedField rendered
-  field-bytes = rw (rendered-append (valueSegments value))
-
-  pub field-added : {before named marked valued after : List ℕ} {at n c v r : ℕ} → length before ≤ greatest
-      → AppendedCapped name at before named n → AppendedCapped (58 ∷ []) n named marked c → AppendedCapped (rendered (valueSegments value)) c marked valued v
-      → AppendedCapped (13 ∷ 10 ∷ []) v valued after r → AppendedCapped (rendered (receivedField name value)) at before after r
-  field-added k a b d f =
-      let label = capped-then a b k in
-      let rest = capped-then d f (omega (arith, k, length-added a, length-added b)) in
-      capped-same (sym field-bytes) (capped-then label rest k)
+pub field-added : (name value : List ℕ) {before labelled marked valued after : List ℕ} {at n c v r : ℕ} → length before ≤ greatest
+    → AppendedCapped name at before labelled n → AppendedCapped (58 ∷ []) n labelled marked c → AppendedCapped (rendered (valueSegments value)) c marked valued v
+    → AppendedCapped (13 ∷ 10 ∷ []) v valued after r → AppendedCapped (rendered (receivedField name value)) at before after r
+unfolding receivedField
+field-added name value k a b d f = named-added name (valueSegments value) k a b d f

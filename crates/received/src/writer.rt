@@ -1,5 +1,4 @@
 // What a Received field becomes, written token by token.
-ghost use mathlib.Core.Path.{_≡_};
 ghost use Prim.Native.Nat.{_*_, _≤_};
 ghost use lib.ListN.{length};
 ghost use Rattle.buffer.specs.Buffer.{AppendedCapped};

@@ -7,7 +7,7 @@ use Prim.Native.Nat.{ℕ, _+_, _-_, _≤_, _<_}
 use native.Mathlib.Nat.{not-suc-le-zero}
 use native.Mathlib.Omega.{arith}
 use mir.Facts.{ltb-yes, ltb-no, eqb-no}
-use lib.Dec.{T, eqb, ltb, eqb→eq}
+use lib.Dec.{eqb, ltb, eqb→eq}
 use lib.ListN.{length, take, drop, getD, length-drop, List·getD-eq-default}
 use lib.Seq.{take-all, getD-drop}
 use Rattle.lists.specs.Byte.{isAscii}
@@ -63,7 +63,8 @@ module _ (s : List ℕ) where
 
 -- ---- a clause
 
-rest : (s : List ℕ) (at : ℕ) → take (length s - at) (drop at s) ≡ drop at s
+-- what is left from a place on, as code lends it
+pub rest : (s : List ℕ) (at : ℕ) → take (length s - at) (drop at s) ≡ drop at s
 rest s at = take-all (length s - at) (drop at s) (rw length-drop (omega arith))
 
 -- the tests of code

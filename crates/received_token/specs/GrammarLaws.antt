@@ -2,15 +2,15 @@
 -- Assumes nothing.
 use borrow.Author.Tests.{ne-eqb, eq-eqb, lt-ltb, lt-leb}
 use mathlib.Core.Path.{_≡_, refl, sym, ap, _∙_}
-use mathlib.Core.Bool.{Bool, true, false, cond, _&&_, _||_, and-false}
+use mathlib.Core.Bool.{true, false, cond, _&&_, _||_, and-false}
 use mathlib.Core.List.{List, [], _∷_, _++_, append-nil, append-assoc}
-use Prim.Native.Nat.{ℕ, zero, suc, _+_, _-_, _≤_, _<_}
+use Prim.Native.Nat.{ℕ, suc, _+_, _-_, _<_}
 use native.Mathlib.Nat.{not-suc-le-zero}
 use native.Mathlib.Omega.{arith}
 use lib.Dec.{T, eqb, ltb, eqb→eq}
-use mir.Facts.{and-yes, eqb-no, ltb-yes, ltb-no}
-use lib.ListN.{length, take, drop, getD, length-append, length-drop, length-take}
-use lib.Seq.{take-add, take-suc, take-at, take-all, take-length, length-take-le, drop-cons, drop-at, getD-take, getD-drop, getD-append-seam, getD-append-add}
+use mir.Facts.{and-yes, eqb-no}
+use lib.ListN.{length, take, drop, getD, length-append, length-drop}
+use lib.Seq.{take-add, take-suc, take-at, length-take-le, drop-cons, drop-at, getD-take, getD-drop, getD-append-seam, getD-append-add}
 use Rattle.lists.specs.Lists.{all}
 use Rattle.lists.specs.ListsLaws.{by-test, cond-has, yes-true, true-yes, no-false}
 use Rattle.lists.specs.Run.{run}
@@ -18,12 +18,11 @@ use Rattle.lists.specs.RunLaws.{run-all, run-past}
 use Rattle.letter_case.specs.LetterCase.{bytes, lower, sameAnyCase}
 use Rattle.address.specs.Address.{later, addressScan, isAtomByte, isAtext}
 use Rattle.address.specs.AddressLaws.{byte-within}
-use Rattle.address.specs.Grammar.{Address}
 use Rattle.address.specs.GrammarLaws.{Closed, address-sound, address-complete}
 use Rattle.address.specs.declared.Scan.{Scan}
 use Rattle.address.specs.declared.Scan.the-variants.{To, Stop}
 use Rattle.received_token.specs.Clause.{isWhite, whiteLen, isFor, closedLen, angledLen, clauseLen, forLen, isClause}
-use Rattle.received_token.specs.ClauseLaws.{angled-closed, clause-le, clause-last, for-long}
+use Rattle.received_token.specs.ClauseLaws.{angled-closed, clause-last, for-long}
 use Rattle.received_token.specs.Grammar.{Angled, Clause}
 
 -- ---- an address in angle brackets

@@ -1,15 +1,15 @@
 -- Laws of the tokens of a Received field's value: as code goes through it. Assumes nothing.
 use borrow.Author.Tests.{ne-eqb, eq-eqb, lt-ltb, le-leb, lt-leb}
 use mathlib.Core.Path.{_≡_, refl, sym, ap, _∙_}
-use mathlib.Core.Bool.{Bool, true, false, not, _&&_}
+use mathlib.Core.Bool.{Bool, true, false, not}
 use mathlib.Core.List.{List, [], _∷_}
 use Prim.Native.Nat.{ℕ, zero, suc, pred, _+_, _-_, _≤_, _<_}
 use native.Mathlib.Nat.{not-suc-le-zero}
 use native.Mathlib.Omega.{arith}
-use lib.Dec.{T, eqb, leb, ltb, eqb→eq}
+use lib.Dec.{eqb, leb, ltb, eqb→eq}
 use mir.Facts.{eqb-no}
 use lib.ListN.{length, take, drop, getD, length-drop, drop-of-length-le}
-use lib.Seq.{drop-cons, take-all, take-nil}
+use lib.Seq.{drop-cons, take-nil}
 use Rattle.lists.specs.CutBy.{cutBy}
 use Rattle.lists.specs.CutByLaws.{cut-nil, cut-next, cut-joined}
 use Rattle.lists.specs.Lists.{joined}
@@ -20,8 +20,8 @@ use Rattle.comment.specs.Comment.{past, depthAfter, closing, commentLen}
 use Rattle.structured_field.specs.Tokens.{tokenLen, isComment, TookToken}
 use Rattle.structured_field.specs.TokensLaws.{other-kind, token-some, token-is-comment}
 use Rattle.received_token.specs.Clause.{isWhite, whiteLen, isFor, forLen}
-use Rattle.received_token.specs.ClauseLaws.{white-le, white-some, for-le}
-use Rattle.received_token.specs.Tokens.{plainLen, commentedLen, isUnclosed, unclosedOf, unclosedLen, leftLen, tokensFrom, tokens, Measured}
+use Rattle.received_token.specs.ClauseLaws.{white-le, white-some, for-le, rest}
+use Rattle.received_token.specs.Tokens.{plainLen, commentedLen, isUnclosed, unclosedOf, unclosedLen, leftLen, Measured}
 
 measured-none : (size : List ℕ → ℕ) (s : List ℕ) → size [] ≡ 0 → length s ≡ 0 → Measured size s 0
 measured-none size [] z e = record { is = sym z; some = λ k. k; within = omega arith }
@@ -74,9 +74,6 @@ module _ (s : List ℕ) (h : 0 < length s) where
   commented-plain e m = record { is = m .is ∙ rw front (rw (ne-eqb (getD s 0 0) 40 e)); some = m .some; within = m .within }
 
 -- ---- what is left of a value
-
-rest : (s : List ℕ) (at : ℕ) → take (length s - at) (drop at s) ≡ drop at s
-rest s at = take-all (length s - at) (drop at s) (rw length-drop (omega arith))
 
 module _ (k : ℕ) (s : List ℕ) {n : ℕ} where
   pub left-plain : length s ≤ k → Measured plainLen s n → Measured (leftLen k) s n

@@ -1,6 +1,5 @@
 // FOR clauses.
 ghost use mathlib.Core.Path.{_≡_};
-ghost use Rattle.address.specs.Address.{addressScan};
 ghost use Rattle.received_token.specs.Clause.{isWhite, whiteLen, isFor, angledLen, clauseLen, forLen, isClause, isRemoved};
 use address::Scan;
 

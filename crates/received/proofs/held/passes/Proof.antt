@@ -1,6 +1,5 @@
-use mathlib.Core.Path.{_≡_, refl, sym, _∙_}
+use mathlib.Core.Path.{refl, sym}
 use lib.Seq.{length-take-le}
-use native.Mathlib.Omega.{arith}
 use borrow.Author.Tests.{not-true, not-false}
 use Rattle.received_token.specs.ClauseLaws.{for-le}
 use Rattle.received.specs.PassesLaws.{passes-not, passes-all}

@@ -1,4 +1,4 @@
-use mathlib.Core.Path.{_≡_, sym, _∙_}
+use mathlib.Core.Path.{sym, _∙_}
 use Rattle.received.specs.LinesLaws.{part-ascii, part-encoded}
 use borrow.Author.Needs.{needs}
 use Rattle.received.proofs.lines.part_column.Statement.{statement}

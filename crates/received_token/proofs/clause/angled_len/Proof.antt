@@ -1,4 +1,4 @@
-use mathlib.Core.Path.{_≡_, sym, _∙_}
+use mathlib.Core.Path.{sym, _∙_}
 use native.Mathlib.Omega.{arith}
 use Rattle.address.specs.AddressLaws.{byte-within}
 use Rattle.received_token.specs.ClauseLaws.{angled-other, angled-closed, angled-open, angled-none}

@@ -1,10 +1,9 @@
 use Rattle.received_token.specs.ClauseLaws.{more-long}
-use mathlib.Core.Path.{_≡_, sym, _∙_}
-use lib.ListN.{length, length-drop, length-take}
+use mathlib.Core.Path.{sym, _∙_}
 use native.Mathlib.Omega.{arith}
 use borrow.Author.Needs.{needs}
 use borrow.Author.Tests.{not-true, not-false}
-use Rattle.received_token.specs.ClauseLaws.{white-le, clause-other, clause-bare, clause-there, clause-long, word-long}
+use Rattle.received_token.specs.ClauseLaws.{white-le, clause-other, clause-bare, clause-there, clause-long}
 use Rattle.received_token.proofs.clause.clause_len.Statement.{statement}
 use Rattle.received_token.proofs.clause.clause_len.Tie as tie
 

@@ -1,5 +1,4 @@
 use Rattle.received_token.specs.ClauseLaws.{for-is}
-use mathlib.Core.Path.{_≡_, sym, _∙_}
 use borrow.Author.Needs.{needs}
 use Rattle.received_token.proofs.clause.is_for.Statement.{statement}
 use Rattle.received_token.proofs.clause.is_for.Tie as tie

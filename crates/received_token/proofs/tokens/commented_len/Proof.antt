@@ -1,4 +1,3 @@
-use mathlib.Core.Path.{_≡_, sym, _∙_}
 use native.Mathlib.Omega.{arith}
 use Rattle.received_token.specs.TokensLaws.{commented-none, commented-open, commented-plain}
 use borrow.Author.Needs.{needs}

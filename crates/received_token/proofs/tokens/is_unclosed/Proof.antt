@@ -1,4 +1,4 @@
-use mathlib.Core.Path.{_≡_, sym, _∙_}
+use mathlib.Core.Path.{sym, _∙_}
 use Rattle.received_token.specs.TokensLaws.{unclosed-other, unclosed-open}
 use borrow.Author.Needs.{needs}
 use Rattle.received_token.proofs.tokens.is_unclosed.Statement.{statement}

@@ -1,4 +1,4 @@
-use mathlib.Core.Path.{_≡_, sym, _∙_}
+use mathlib.Core.Path.{sym, _∙_}
 use native.Mathlib.Omega.{arith}
 use Rattle.received_token.specs.TokensLaws.{plain-none, plain-white, plain-for, plain-open, plain-token}
 use borrow.Author.Needs.{needs}
