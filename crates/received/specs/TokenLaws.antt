@@ -13,7 +13,7 @@ use Rattle.encoded_word.specs.Segments.{rendered}
 use Rattle.comment.specs.Comment.{commentLen}
 use Rattle.structured_field.specs.Tokens.{isComment}
 use Rattle.received_token.specs.Clause.{forLen, isClause, isRemoved}
-use Rattle.received.specs.LinesLaws.{commentBytes}
+use Rattle.received.specs.CommentLinesLaws.{commentBytes}
 use Rattle.received.specs.Received.{isClear, tokenSegments, columnAfter}
 
 module _ (token : List ℕ) where

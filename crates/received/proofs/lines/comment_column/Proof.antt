@@ -5,7 +5,7 @@ use native.Mathlib.Omega.{arith}
 use borrow.Author.Needs.{needs}
 use Rattle.comment.specs.PartsLaws.{part-beyond, part-end-within}
 use Rattle.received.specs.Received.{columnAfter}
-use Rattle.received.specs.LinesLaws.{comment-step, comment-over, commentBytes}
+use Rattle.received.specs.CommentLinesLaws.{comment-step, comment-over, commentBytes}
 use Rattle.received.proofs.lines.comment_column.Statement.{statement}
 use Rattle.received.proofs.lines.comment_column.Tie as tie
 

@@ -1,5 +1,5 @@
 use mathlib.Core.Path.{sym, _∙_}
-use Rattle.received.specs.LinesLaws.{part-ascii, part-encoded}
+use Rattle.received.specs.CommentLinesLaws.{part-ascii, part-encoded}
 use borrow.Author.Needs.{needs}
 use Rattle.received.proofs.lines.part_column.Statement.{statement}
 use Rattle.received.proofs.lines.part_column.Tie as tie
