@@ -14,7 +14,7 @@ use Rattle.lists.specs.Byte.{isAscii}
 use Rattle.lists.specs.Lists.{all}
 use Rattle.lists.specs.Run.{run}
 use Rattle.lists.specs.RunLaws.{run-le, run-step}
-use Rattle.lists.specs.ListsLaws.{by-test, cond-has, yes-true, true-yes}
+use Rattle.lists.specs.ListsLaws.{by-test, cond-has, yes-true, true-yes, no-false}
 use Rattle.letter_case.specs.LetterCase.{bytes, sameAnyCase}
 use Rattle.address.specs.Address.{later, addressScan}
 use Rattle.address.specs.AddressLaws.{byte-within}
@@ -83,6 +83,22 @@ for-long s e =
     let over : length s ≤ 3 = ltb-no t in
     let none : getD s 3 0 ≡ 0 = List·getD-eq-default s 0 {n = 3} over in
     absurd (true-yes false (sym (and-false (sameAnyCase (take 3 s) (bytes "for"))) ∙ rw none at e)))
+
+-- a shorter text has no for
+module _ (s : List ℕ) (h : length s < 4) where
+  no-for : isFor (drop (whiteLen s) s) ≡ false
+  no-for =
+      by-test (isFor (drop (whiteLen s) s))
+      (λ t. absurd (not-suc-le-zero {n = 0} (omega (arith, for-long (drop (whiteLen s) s) (yes-true (isFor (drop (whiteLen s) s)) t), length-drop (whiteLen s) s))))
+      (λ t. no-false (isFor (drop (whiteLen s) s)) t)
+
+  pub clause-short : 0 ≡ clauseLen s
+  unfolding clauseLen
+  clause-short = rw no-for
+
+  pub for-short : 0 ≡ forLen s
+  unfolding forLen
+  for-short = rw no-for
 
 -- what stands after the word, as code lends it on
 abbrev wordOf : List ℕ → ℕ → List ℕ

@@ -51,10 +51,13 @@ fn angled_len(s: &[u8]) -> usize
     }
 }
 
-// How long the clause is at the front; 0 where there is none.
+// How long the clause is at the front; 0 where there is none. The word and the byte after it are 4 bytes.
 fn clause_len(s: &[u8]) -> usize
     ensures { λ r. ⌜ r ≡ clauseLen (now (s .entry)) ⌝ }
 {
+    if s.len() < 4 {
+        return 0;
+    }
     let white = white_len(s);
     let word = &s[white..];
     if !is_for(word) {
@@ -73,6 +76,9 @@ fn clause_len(s: &[u8]) -> usize
 pub fn for_len(s: &[u8]) -> usize
     ensures { λ r. ⌜ r ≡ forLen (now (s .entry)) ⌝ }
 {
+    if s.len() < 4 {
+        return 0;
+    }
     let white = white_len(s);
     if !is_for(&s[white..]) {
         return 0;
