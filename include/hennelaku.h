@@ -167,7 +167,13 @@ uint32_t hennelaku_version(void);
  *                 Content-Transfer-Encoding: runs of comments in parentheses
  *                 that are not ASCII in encoded words, all else byte for byte;
  *                 refused by 6 where non-ASCII stands outside comments
- *     held        Received Content-Type Content-Disposition Original-Recipient
+ *     Received    for and an address in angle brackets that is not ASCII
+ *                 removed, with the blanks and folds before it; comments as
+ *                 above, all else byte for byte; refused by 6 where other
+ *                 non-ASCII stands outside comments, where no address in angle
+ *                 brackets follows a for, or where a line would have more than
+ *                 998 bytes
+ *     held        Content-Type Content-Disposition Original-Recipient
  *                 Final-Recipient Keywords: refused by 6
  *     any other   Downgraded- before the name, text in encoded words
  *

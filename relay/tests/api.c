@@ -137,6 +137,40 @@ static void test_line_lengths(void)
     text_free(&e);
 }
 
+/* A Received field whose first line, of so many bytes, a removed clause and
+ * what follows it are on: whether it passed, and was not held. */
+static int received_passed(size_t len, const char *after)
+{
+    text h = text_new(2000);
+    outcome o;
+    int passed;
+
+    text_add(&h, "Received: ");
+    text_fill(&h, 'a', len - h.len);
+    text_add(&h, "\r\n for <" E_ACUTE "@x>");
+    text_add(&h, after);
+    text_add(&h, "\r\n");
+    o = call(AREA_EXACT, bytes_of(PLAIN), text_bytes(&h), 100, 20000);
+    passed = o.answer.number == HENNELAKU_OK;
+    if (passed ? o.answer.header_len != len + strlen(after) + 2
+               : o.answer.number != HENNELAKU_HELD) {
+        blame("%u, %zu bytes", (unsigned)o.answer.number, o.answer.header_len);
+    }
+    outcome_free(&o);
+    text_free(&h);
+    return passed;
+}
+
+static void test_received_lines(void)
+{
+    if (!received_passed(HENNELAKU_MAX_LINE, "")
+        || !received_passed(HENNELAKU_MAX_LINE - 1, ";")
+        || received_passed(HENNELAKU_MAX_LINE, ";")) {
+        blame("the limit is not 998 for a line of a Received field");
+    }
+    report("a line of 998 that a removed clause makes passes, of 999 it is held");
+}
+
 /* An address field that begins with a phrase word or an address of so many
  * bytes, itself begun by `front`: whether it was rewritten, and not
  * encapsulated. */
@@ -523,6 +557,30 @@ static void test_nesting(void)
     expect_nested("Date with a comment before 32,000 unclosed parentheses", &h,
                   HENNELAKU_OK, &o, 1);
 
+    text_add(&h, "Received: ");
+    text_nest(&h, '(', NESTED);
+    text_add(&h, E_ACUTE);
+    text_nest(&h, ')', NESTED);
+    text_add(&h, " for <" E_ACUTE "@x>\r\n");
+    o.len = 0;
+    text_add(&o, "Received: ");
+    text_nest(&o, '(', NESTED);
+    text_add(&o, E_WORD "\r\n ");
+    text_nest(&o, ')', NESTED);
+    text_add(&o, "\r\n");
+    expect_nested("Received with comments inside comments, 16,000 deep", &h,
+                  HENNELAKU_OK, &o, 1);
+
+    text_add(&h, "Received: a for <" E_ACUTE "@x>");
+    text_nest(&h, '(', 2 * NESTED);
+    text_add(&h, "\r\n");
+    o.len = 0;
+    text_add(&o, "Received: a");
+    text_nest(&o, '(', 2 * NESTED);
+    text_add(&o, "\r\n");
+    expect_nested("Received with 32,000 unclosed parentheses", &h,
+                  HENNELAKU_OK, &o, 1);
+
     text_add(&h, "To: a@x ");
     text_nest(&h, '(', NESTED);
     text_add(&h, E_ACUTE);
@@ -720,6 +778,7 @@ int main(void)
     test_null();
     test_bounds();
     test_first_fields();
+    test_received_lines();
     test_nothing_kept();
     test_threads();
     test_nesting();

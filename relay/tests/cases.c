@@ -84,6 +84,38 @@ const test_case cases[] = {
     {"non-ASCII after an unclosed parenthesis",
      IN_LINES(6, 0, "Date: (a (", E_ACUTE ")\r\n")},
 
+    /* Received fields. */
+    {"Received of Postfix, its clause removed", PLAIN,
+     "Received: from mx.example.net (mx.example.net [192.0.2.7])\r\n"
+     "\tby relay.example.org (Postfix) with ESMTP id 4cXyZ1abcd\r\n"
+     "\tfor <\xCE\xBB\xCE\xB9\xCE\xBC\xCE\xAD\xCE\xBD\xCE\xB1\xCF\x82"
+     "@\xCE\xBB\xCE\xB9\xCE\xBC\xCE\xAC\xCE\xBD\xCE\xB9.example>; "
+     "Sun, 15 Nov 2026 22:44:27 +0000 (UTC)\r\n", TAKEN, PLAIN,
+     "Received: from mx.example.net (mx.example.net [192.0.2.7])\r\n"
+     "\tby relay.example.org (Postfix) with ESMTP id 4cXyZ1abcd; "
+     "Sun, 15 Nov 2026 22:44:27 +0000 (UTC)\r\n"},
+    {"Received: clauses of both kinds and a comment", PLAIN,
+     "Received: a FOR<" E_ACUTE "@x> (for " E_ACUTE ")\r\n for <c@d> "
+     "for\r\n\t<\"" E_ACUTE " (\"@[(]> b\r\n", TAKEN, PLAIN,
+     "Received: a (" OPEN "for_" E_WORD CLOSE "\r\n )\r\n for <c@d> b\r\n"},
+    {"Received: nothing left after the colon", PLAIN,
+     "reCEIved:for <" E_ACUTE "@x>\r\n", TAKEN, PLAIN, "reCEIved:\r\n"},
+    {"Received: a clause after an unclosed parenthesis", PLAIN,
+     "Received: (a for <" E_ACUTE "@x>\r\n", TAKEN, PLAIN,
+     "Received: (a\r\n"},
+    {"Received: ASCII, a for without an address", PLAIN,
+     "Received: a for b\r\n", TAKEN, PLAIN, "Received: a for b\r\n"},
+    {"Received: a for without an address, non-ASCII in a comment",
+     IN_LINES(6, 1, "X: a\r\nReceived: for b\r\n (", E_ACUTE ")\r\n")},
+    {"Received: an inner alternative",
+     IN_LINES(6, 0, "Received: a for <", E_ACUTE "@x <a@b>>\r\n")},
+    {"Received: a for at a word's end",
+     IN_LINES(6, 0, "Received: a therefor <", E_ACUTE "@x>\r\n")},
+    {"Received: a for in a string",
+     IN_LINES(6, 0, "Received: \"a for <", E_ACUTE "@x>\"\r\n")},
+    {"Received: non-ASCII besides a clause",
+     IN_LINES(6, 0, "Received: a for <", E_ACUTE "@x> " E_ACUTE "\r\n")},
+
     /* Encoded words, by a phrase. */
     {"ten and abc in one word", PLAIN, "From:" E_10 "abc<a@x>\r\n", TAKEN, PLAIN,
      "From:" OPEN E_WORD_10 "abc" CLOSE "\r\n <a@x>\r\n"},

@@ -103,13 +103,15 @@ static const char *nested_field(char *at, const char *start)
 
 int main(void)
 {
-    static char to[2048], subject[2048], unfit[2048], deep[2048], date[2048];
+    static char to[2048], subject[2048], unfit[2048], deep[2048], date[2048],
+        received[2048];
     const char *const headers[] = {
         long_field(to, "To", " <" E_ACUTE "@x>"),
         long_field(subject, "Subject", ""),
         long_field(unfit, "Cc", " <"),
         nested_field(deep, "To: a@x "),
         nested_field(date, "Date: "),
+        nested_field(received, "Received: a for <" E_ACUTE "@x> "),
         "To: " E_ACUTE "@x,\r\n \"" E_ACUTE "\" <" E_ACUTE "@x\r\n <a@x>>\r\n",
         "To: g:\r\n " E_ACUTE "@x, a <b@x>;, <c@x>\r\n",
         "Subject: " E_ACUTE "\r\n " E_ACUTE "\r\n",

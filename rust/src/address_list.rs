@@ -263,7 +263,7 @@ impl<S: Sink> Parts for Pieces<'_, S> {
             words(phrase, |word| self.piece(word));
             return;
         }
-        let mut row = Row::new();
+        let mut row = Row::on_next_line();
         let mut first = true;
         words(phrase, |word| {
             if !first {

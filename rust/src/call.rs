@@ -6,6 +6,7 @@ use crate::comment;
 use crate::envelope::{self, Envelope};
 use crate::header::{self, Field, Kind};
 use crate::offset;
+use crate::received;
 use crate::sink::{Counter, Sink, Writer};
 use crate::utf8::find;
 use crate::words::Row;
@@ -59,7 +60,7 @@ pub fn downgrade(envelope: &[u8], header: &[u8], envelope_buffer: &mut [u8], hea
     // Both outputs are counted before a byte is written.
     let mut scratch = Vec::new();
     let mut header_count = Counter::default();
-    if let Err(start) = write_header(&mut header_count, &envelope, header, &mut scratch) {
+    if let Err(start) = write_header(&mut header_count, &envelope, header, &mut scratch, held) {
         // [8.5]: "the field's first non-ASCII byte"; the field has one.
         return refuse(6, HEADER, header::line_number(header, start), find(header, start, |b| b >= 128));
     }
@@ -72,31 +73,55 @@ pub fn downgrade(envelope: &[u8], header: &[u8], envelope_buffer: &mut [u8], hea
         return refuse(8, HEADER, header_count.len, 0);
     }
     envelope.write(&mut Writer { buffer: envelope_buffer, at: 0 });
-    // The count met no held name.
-    let _ = write_header(&mut Writer { buffer: header_buffer, at: 0 }, &envelope, header, &mut scratch);
+    // The count met no field that is held.
+    let _ = write_header(&mut Writer { buffer: header_buffer, at: 0 }, &envelope, header, &mut scratch, |_, _| false);
     let (envelope_len, header_len) = (envelope_count.len, header_count.len);
     Answer { number: 0, input: NEITHER, place: 0, offset: 0, envelope_len, header_len }
 }
 
-/// The new first fields, then each field downgraded. "A field whose value is ASCII is copied." Stops where a held
-/// name carries non-ASCII, with the place of that field.
-fn write_header(sink: &mut impl Sink, envelope: &Envelope, header: &[u8], scratch: &mut Vec<u8>) -> Result<(), usize> {
+/// 6: "a held name [..] carries non-ASCII"; some of them in places that do not hold them.
+fn held(kind: Kind, field: &Field) -> bool {
+    match kind {
+        Kind::Held => true,
+        Kind::HeldOutsideComments => comment::non_ascii_outside(field.value),
+        Kind::Received => received::check(field.name.len(), field.value).is_err(),
+        Kind::Address | Kind::Plain | Kind::Other => false,
+    }
+}
+
+/// The new first fields, then each field downgraded. "A field whose value is ASCII is copied." Stops at a field that is
+/// held, with its place.
+fn write_header(
+    sink: &mut impl Sink,
+    envelope: &Envelope,
+    header: &[u8],
+    scratch: &mut Vec<u8>,
+    held: impl Fn(Kind, &Field) -> bool,
+) -> Result<(), usize> {
     envelope.first_fields(sink);
     let mut done = 0;
     while let Some(field) = header::next_non_ascii(header, done) {
         sink.put(&header[done..field.start]);
-        match header::kind(field.name) {
+        let kind = header::kind(field.name);
+        if held(kind, &field) {
+            return Err(field.start);
+        }
+        match kind {
             Kind::Address => write_address_field(sink, &field, scratch),
             // "Plain text: name, colon, encoded words of the text."
             Kind::Plain => write_words(sink, b"", &field),
-            Kind::Held => return Err(field.start),
-            Kind::HeldOutsideComments if comment::non_ascii_outside(field.value) => return Err(field.start),
             Kind::HeldOutsideComments => {
-                sink.put(field.name);
-                sink.put(b":");
+                write_name(sink, &field);
                 comment::write_value(sink, field.value);
                 sink.put(b"\r\n");
             }
+            Kind::Received => {
+                write_name(sink, &field);
+                received::write_value(sink, field.value);
+                sink.put(b"\r\n");
+            }
+            // Held above.
+            Kind::Held => {}
             // "Every other name is encapsulated"
             Kind::Other => encapsulate(sink, &field),
         }
@@ -104,6 +129,11 @@ fn write_header(sink: &mut impl Sink, envelope: &Envelope, header: &[u8], scratc
     }
     sink.put(&header[done..]);
     Ok(())
+}
+
+fn write_name(sink: &mut impl Sink, field: &Field) {
+    sink.put(field.name);
+    sink.put(b":");
 }
 
 /// "`Downgraded-` before the name, colon, encoded words of the text"
@@ -114,8 +144,7 @@ fn encapsulate(sink: &mut impl Sink, field: &Field) {
 /// Name, colon, encoded words of the text. "A field ends with CRLF." [5.4]: the name counts with its `Downgraded-`.
 fn write_words(sink: &mut impl Sink, before_name: &[u8], field: &Field) {
     sink.put(before_name);
-    sink.put(field.name);
-    sink.put(b":");
+    write_name(sink, field);
     let mut row = Row::after_name(before_name.len() + field.name.len());
     header::unfolded(field.folded_text(), |part| row.add(sink, part));
     row.end(sink);
@@ -133,8 +162,7 @@ fn write_address_field(sink: &mut impl Sink, field: &Field, scratch: &mut Vec<u8
         // "Text that does not fit is encapsulated."
         None => encapsulate(sink, field),
         Some(replaces) => {
-            sink.put(field.name);
-            sink.put(b":");
+            write_name(sink, field);
             address_list::pieces(sink, text);
             sink.put(b"\r\n");
             // "If any address was replaced or removed, a `Downgraded-` field with encoded words of the original

@@ -54,7 +54,7 @@ pub fn parts(comment: &[u8], mut each: impl FnMut(Part)) {
 /// "encoded words of that run without escapes and folds". [1.18]: of a fold the blank after the CRLF stays, and a
 /// backslash before a fold escapes that blank.
 pub fn write_run(sink: &mut impl Sink, run: &[u8]) {
-    let mut row = Row::new();
+    let mut row = Row::on_next_line();
     let mut rest = run;
     while let Some(at) = rest.iter().position(|&b| b == b'\\' || b == b'\r') {
         row.add(sink, &rest[..at]);
@@ -96,7 +96,7 @@ pub fn stretches(value: &[u8], mut each: impl FnMut(&[u8], bool)) {
 }
 
 /// "an unclosed string runs to the field's end; in strings there [..] a backslash escapes any next character"
-fn string_end(value: &[u8], quote: usize) -> usize {
+pub fn string_end(value: &[u8], quote: usize) -> usize {
     let mut at = quote + 1;
     while at < value.len() {
         match value[at] {
@@ -118,17 +118,20 @@ pub fn non_ascii_outside(value: &[u8]) -> bool {
 /// "The same is done, all else byte for byte": each run that has non-ASCII becomes encoded words, "and what follows a
 /// word starts a new line with a space." [1.7]: blank runs stay, and runs of any length are encoded.
 pub fn write_value(sink: &mut impl Sink, value: &[u8]) {
-    stretches(value, |stretch, comment| {
-        if !comment || stretch.is_ascii() {
-            return sink.put(stretch);
+    stretches(value, |stretch, comment| if comment { write_comment(sink, stretch) } else { sink.put(stretch) });
+}
+
+/// One comment of a field other than an address field.
+pub fn write_comment(sink: &mut impl Sink, comment: &[u8]) {
+    if comment.is_ascii() {
+        return sink.put(comment);
+    }
+    parts(comment, |part| match part {
+        Part::Parenthesis(b) => sink.put(&[b]),
+        Part::Run(run) if run.is_ascii() => sink.put(run),
+        Part::Run(run) => {
+            write_run(sink, run);
+            sink.put(b"\r\n ");
         }
-        parts(stretch, |part| match part {
-            Part::Parenthesis(b) => sink.put(&[b]),
-            Part::Run(run) if run.is_ascii() => sink.put(run),
-            Part::Run(run) => {
-                write_run(sink, run);
-                sink.put(b"\r\n ");
-            }
-        });
     });
 }

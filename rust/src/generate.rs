@@ -10,7 +10,7 @@ impl Random {
         Random { state: seed }
     }
 
-    pub fn next(&mut self) -> u64 {
+    pub fn number(&mut self) -> u64 {
         self.state = self.state.wrapping_add(0x9E37_79B9_7F4A_7C15);
         let mut z = self.state;
         z = (z ^ (z >> 30)).wrapping_mul(0xBF58_476D_1CE4_E5B9);
@@ -20,7 +20,7 @@ impl Random {
 
     /// 0 to `limit` - 1.
     pub fn below(&mut self, limit: usize) -> usize {
-        (((self.next() >> 32) * limit as u64) >> 32) as usize
+        (((self.number() >> 32) * limit as u64) >> 32) as usize
     }
 
     pub fn from(&mut self, least: usize, most: usize) -> usize {
@@ -433,7 +433,7 @@ const PLACES: &[&str] = &[
 fn spoil(r: &mut Random, out: &mut Vec<u8>, start: usize) {
     let at = r.from(start, out.len());
     match r.below(8) {
-        0 => out.insert(at, r.next() as u8),
+        0 => out.insert(at, r.number() as u8),
         1 | 2 => out.insert(at, r.byte(SPECIAL)),
         3 => {
             if at < out.len() {
@@ -487,7 +487,7 @@ fn malformed_envelope(r: &mut Random) -> Vec<u8> {
             in_any_case(r, &mut out, if number == 0 { "MAIL FROM:<" } else { "RCPT TO:<" });
             out.extend_from_slice(r.pick(PLACES).as_bytes());
             match r.below(4) {
-                0 => out.push(r.next() as u8),
+                0 => out.push(r.number() as u8),
                 1 | 2 => out.push(r.byte(SPECIAL)),
                 _ => {}
             }
@@ -970,6 +970,87 @@ fn commented_field(r: &mut Random, out: &mut Vec<u8>) {
     end_field(r, out, start, &value);
 }
 
+/// Parts of a Received field that hold nothing by themselves.
+const RECEIVED: &[&str] = &[
+    "from a.example", "by b", "with ESMTP", "id 12", "; Mon, 1 Jan 2024", "via x", "fo", "forr", "for;", "xfor", ";",
+    "<a@b>", "\\", ")", "a:", "[(c)]", "\" for \"", "\"\\\"for <a@b> \"", "( for )",
+];
+
+/// Near misses of a clause, and what is held.
+const NEAR_CLAUSES: &[&str] = &[
+    "for a@b", "for <>", "for <Postmaster>", "for (c) <a@b>", "for < a@b>", "for <a@b ", "for <é@x <a@b>>", "for(",
+    "a:for <é@x>", "(c)for <é@x>", ";for <é@x>", "for", "for ", "for\t", "é", "<é@x>", "\"é\"", "\"", "(",
+    "( for <é@x>", "for <\"a é\"@x>", "for <é@[(]>", "for <a@[(]>", "for <é@[)>\"]>", "for <\"(é\"@x>", "for <é@x",
+    "for é@x", "for <é@x.>", "for <\"a\té\"@x>", "for <a@[é]>", "for <@é:a@b>", "for;", "for\x0b<é@x>", "fór <é@x>",
+    "for for <é@x>", "(é", "for<a@b>for <é@x>", "for<é@x>for <a@b>", "f for <é@x>or <a@b>", "(a (é)", "\"(é)\"",
+    "\\(é)", "\\\"", "for \"é\"@x",
+];
+
+/// A for with an address, mostly a clause.
+fn clause(r: &mut Random, out: &mut Vec<u8>) {
+    in_any_case(r, out, "for");
+    blanks(r, out, 0);
+    out.push(b'<');
+    let non_ascii = !r.once_in(4);
+    address(r, out, 60, non_ascii);
+    out.push(b'>');
+}
+
+/// A Received field; most of them have a clause with a non-ASCII address and nothing that holds them.
+fn received_field(r: &mut Random, out: &mut Vec<u8>) {
+    let start = out.len();
+    in_any_case(r, out, "Received");
+    out.push(b':');
+    if r.once_in(12) {
+        return received_near_998(r, out, start);
+    }
+    let mut value = Vec::new();
+    let faults = r.once_in(4);
+    for _ in 0..r.from(1, 7) {
+        if !r.once_in(8) {
+            blanks(r, &mut value, 1);
+        }
+        match r.below(12) {
+            0..=3 => clause(r, &mut value),
+            4 | 5 => comment(r, &mut value, faults),
+            6 => quoted_string(r, &mut value, 8, false),
+            7 if faults => value.extend_from_slice(r.pick(NEAR_CLAUSES).as_bytes()),
+            8 => atom(r, &mut value, 4, false),
+            _ => value.extend_from_slice(r.pick(RECEIVED).as_bytes()),
+        }
+    }
+    if r.once_in(8) {
+        value.extend_from_slice(r.pick(&[" ", "\t", " for", " for ", " for\t ", "for"]).as_bytes());
+    }
+    end_field(r, out, start, &value);
+}
+
+/// Lines that a removed clause joins, of about 998 bytes together.
+fn received_near_998(r: &mut Random, out: &mut Vec<u8>, start: usize) {
+    let before = r.from(9, 960);
+    out.resize(start + before, b'x');
+    let mut line = before;
+    for _ in 0..r.below(2) {
+        out.extend_from_slice(b"\r\n for <\xC3\xA9@x>y");
+        line += 1;
+    }
+    if r.once_in(4) {
+        // Another line, on which the name does not stand.
+        out.extend_from_slice(b"\r\n ");
+        let len = r.from(1, 900);
+        out.resize(out.len() + len, b'x');
+        line = 1 + len;
+    }
+    out.extend_from_slice(r.pick(&["\r\n for <é@x>", "\r\n\tFOR\r\n <é@x>", " \r\n  for<é@x>"]).as_bytes());
+    if r.once_in(4) {
+        out.extend_from_slice(r.pick(&["(é)", "\r\n ", "("]).as_bytes());
+    }
+    let whole = r.from(995, 1000);
+    let rest = whole.saturating_sub(line).min(980);
+    out.resize(out.len() + rest, b'z');
+    out.extend_from_slice(b"\r\n");
+}
+
 pub fn header(r: &mut Random) -> Vec<u8> {
     let mut out = Vec::new();
     if r.once_in(100) {
@@ -987,6 +1068,10 @@ pub fn header(r: &mut Random) -> Vec<u8> {
         }
         if r.once_in(4) {
             commented_field(r, &mut out);
+            continue;
+        }
+        if r.once_in(6) {
+            received_field(r, &mut out);
             continue;
         }
         let held = r.once_in(14);
@@ -1113,7 +1198,7 @@ pub fn damage(r: &mut Random, bytes: &mut Vec<u8>) {
             4 | 5 => {
                 bytes.remove(at);
             }
-            6 => bytes[at] = r.next() as u8,
+            6 => bytes[at] = r.number() as u8,
             _ if r.once_in(3) => bytes.truncate(at),
             _ => {
                 let end = (at + r.from(1, 20)).min(bytes.len());
@@ -1130,7 +1215,7 @@ pub fn random_bytes(r: &mut Random) -> Vec<u8> {
     let way = r.below(3);
     (0..len)
         .map(|_| match way {
-            0 => r.next() as u8,
+            0 => r.number() as u8,
             1 => r.byte(SPECIAL),
             _ => r.byte(b"MAIL FROM:<a@x>\r\nRCPT TO:\xc3\xa9 ="),
         })

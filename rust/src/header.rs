@@ -15,6 +15,8 @@ pub enum Kind {
     Held,
     /// [1]: "held only if non-ASCII stands outside their comments"
     HeldOutsideComments,
+    /// [2]: held for its clauses and what stands outside them and its comments.
+    Received,
     Other,
 }
 
@@ -37,7 +39,7 @@ static NAMES: [(&str, Kind); 32] = [
     ("Subject", Kind::Plain),
     ("Comments", Kind::Plain),
     ("Content-Description", Kind::Plain),
-    ("Received", Kind::Held),
+    ("Received", Kind::Received),
     ("Date", Kind::HeldOutsideComments),
     ("Resent-Date", Kind::HeldOutsideComments),
     ("Message-ID", Kind::HeldOutsideComments),

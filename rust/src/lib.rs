@@ -15,6 +15,7 @@ pub mod line_faults;
 pub mod offset;
 #[cfg(feature = "proved")]
 pub mod proved;
+pub mod received;
 pub mod rfc5322;
 pub mod sink;
 pub mod utf8;

@@ -5,6 +5,9 @@ use crate::Answer;
 use std::collections::BTreeMap;
 use std::fmt;
 
+/// Where the line at the front of the bytes stops, by its number and a limit.
+type StopOf = fn(&[u8], usize, usize) -> Option<Stop>;
+
 /// By number, what the line had come to, and what was wrong there.
 #[derive(Default)]
 pub struct LineFaults {
@@ -14,7 +17,7 @@ pub struct LineFaults {
 impl LineFaults {
     /// Counts a refusal with 2 or 5.
     pub fn count(&mut self, envelope: &[u8], header: &[u8], answer: Answer) {
-        let (bytes, stop): (_, fn(&[u8], usize, usize) -> Option<Stop>) = match answer.number {
+        let (bytes, stop): (_, StopOf) = match answer.number {
             2 => (envelope, envelope_line),
             5 => (header, header_line),
             _ => return,

@@ -64,7 +64,7 @@ pub struct Row {
 
 impl Row {
     /// Every word on a line of its own, the first one too. [5.5]: so are the rows inside a rewritten address field.
-    pub fn new() -> Row {
+    pub fn on_next_line() -> Row {
         Row { open: false, left: 0 }
     }
 
@@ -129,7 +129,7 @@ fn fitting(text: &[u8], room: usize) -> (usize, usize) {
 
 /// The encoded words of a text, each on a line of its own.
 pub fn row(sink: &mut impl Sink, text: &[u8]) {
-    let mut row = Row::new();
+    let mut row = Row::on_next_line();
     row.add(sink, text);
     row.end(sink);
 }

@@ -52,6 +52,7 @@ fn say_kind(kind: Kind) {
     match kind {
         Kind::Address => say(b"address"),
         Kind::PlainText => say(b"plain text"),
+        Kind::Received => say(b"Received"),
         Kind::Commented => say(b"with comments"),
         Kind::Other => say(b"other"),
         _ => say(b"held"),

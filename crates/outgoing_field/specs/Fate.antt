@@ -17,6 +17,7 @@ use Rattle.field.specs.Field.{encodedField}
 use Rattle.address_pieces.specs.AddressField.{addressField}
 use Rattle.structured_field.specs.Tokens.{asciiOutsideComments}
 use Rattle.structured_field.specs.StructuredField.{structuredField}
+use Rattle.received.specs.Received.{receivedField, passes}
 use Rattle.outgoing_field.specs.declared.HeldField.{HeldField}
 use Rattle.outgoing_field.specs.declared.HeldField.the-variants.{Absent, At}
 
@@ -26,11 +27,11 @@ pub data Fate : Type 0 where
 
 -- what becomes of a field whose value is not ASCII, by the kind of its name. "Plain text: name, colon, encoded words of the text.
 -- Every other name is encapsulated: `Downgraded-` before the name". Date and the others with comments "are held only if non-ASCII
--- stands outside their comments".
+-- stands outside their comments". Received fields by request 2.
 unfoldable pub kindFate : Rules → Kind → List ℕ → Fate
 kindFate rules Address field = written (addressField rules (nameOf field) (textOf field))
 kindFate rules PlainText field = written (encodedField false (nameOf field) (textOf field))
-kindFate rules Received field = held
+kindFate rules Received field = cond (passes (nameOf field) (valueOf field)) (written (receivedField (nameOf field) (valueOf field))) held
 kindFate rules Commented field = cond (asciiOutsideComments (valueOf field)) (written (structuredField (nameOf field) (valueOf field))) held
 kindFate rules Parameterized field = held
 kindFate rules Held field = held

@@ -8,7 +8,7 @@ use lib.Dec.{T, leb}
 use lib.ListN.{length, take, drop, length-append, length-take, length-drop, drop-of-length-le}
 use lib.Seq.{length-take-le, take-length}
 use mir.Facts.{and-yes, leb-yes}
-use borrow.Author.Tests.{le-leb}
+use borrow.Author.Tests.{le-leb, not-false}
 use Rattle.lists.specs.Byte.{isAscii}
 use Rattle.lists.specs.ListsLaws.{cond-has, yes-true, true-yes}
 use Rattle.lists.specs.Lists.{all, joined}
@@ -36,6 +36,7 @@ use Rattle.piece.specs.PieceLaws.{fitting-short}
 use Rattle.address_pieces.specs.AddressField.{addressField}
 use Rattle.structured_field.specs.Tokens.{asciiOutsideComments}
 use Rattle.structured_field.specs.StructuredField.{structuredField}
+use Rattle.received.specs.Received.{receivedField, passes}
 use Rattle.outgoing_field.specs.Fate.{Fate, kindFate, fateOf, segmentsOf, fieldSegments, headerSegments, limited, isHeld, heldFrom, heldOf}
 use Rattle.outgoing_field.specs.Fate.Fate.{held, written}
 use Rattle.outgoing_field.specs.declared.HeldField.the-variants.{Absent, At}
@@ -68,7 +69,7 @@ module _ (rules : Rules) (field : List ℕ) where
 unfoldable pub holds : Kind → List ℕ → Bool
 holds Address field = false
 holds PlainText field = false
-holds Received field = true
+holds Received field = not (passes (nameOf field) (valueOf field))
 holds Commented field = not (asciiOutsideComments (valueOf field))
 holds Parameterized field = true
 holds Held field = true
@@ -83,7 +84,7 @@ holds-is : (rules : Rules) (kind : Kind) (field : List ℕ) → holds kind field
 unfolding holds isHeld kindFate
 holds-is rules Address field = refl
 holds-is rules PlainText field = refl
-holds-is rules Received field = refl
+holds-is rules Received field = held-unless (passes (nameOf field) (valueOf field)) (receivedField (nameOf field) (valueOf field))
 holds-is rules Commented field = held-unless (asciiOutsideComments (valueOf field)) (structuredField (nameOf field) (valueOf field))
 holds-is rules Parameterized field = refl
 holds-is rules Held field = refl
@@ -97,6 +98,11 @@ pub holds-commented : (kind : Kind) (field : List ℕ) {value : List ℕ} {clear
     → not clear ≡ holds kind field
 unfolding holds
 holds-commented kind field e v q = rw (e, q, v)
+
+pub holds-received : (kind : Kind) (field : List ℕ) {value : List ℕ} {n : ℕ} {clear : Bool} → kind ≡ Received → value ≡ valueOf field → n ≡ nameLen field → clear ≡ passes (take n field) value
+    → not clear ≡ holds kind field
+unfolding holds
+holds-received kind field {n = n} e v k q = rw (e, q, v, name-part field n k)
 
 -- what is left to look through from a place on
 pub record HeldLeft (rules : Rules) (h : List ℕ) (at : ℕ) : Type 0 where
@@ -143,7 +149,7 @@ held-skip {rules} {h} {at} {r} l k g =
 unfoldable pub needsScratch : Kind → Bool
 needsScratch Address = true
 needsScratch PlainText = false
-needsScratch Received = false
+needsScratch Received = true
 needsScratch Commented = true
 needsScratch Parameterized = false
 needsScratch Held = false
@@ -173,6 +179,16 @@ module _ (rules : Rules) {kind : Kind} {field text scratch : List ℕ} {n : ℕ}
   unfolding segmentsOf
   kind-encoded downgraded e a = rw e (rw (bounded-short text (omega (arith, length-served s, s .short)), s .is, name-part field n k) at a)
 
+  -- a field that is made of its value, with the scratch that its kind needs
+  pub kind-made : (made : List ℕ → List ℕ → List Segment) {value before after : List ℕ} {at r : ℕ} → needsScratch kind ≡ true → kindFate rules kind field ≡ written (made (nameOf field) (valueOf field))
+      → value ≡ valueOf field → AppendedCapped (rendered (made (take n field) (fitting (length scratch) value))) at before after r
+      → AppendedCapped (rendered (segmentsOf (kindFate rules kind field))) at before after r
+  unfolding segmentsOf
+  kind-made made {value} t e v a =
+      let short : length value ≤ length field = rw v (length-value field) in
+      let given : fitting (length scratch) value ≡ value = fitting-short (length scratch) value (omega (arith, s .short)) (omega (arith, s .room t)) in
+      rw e (rw (given, v, name-part field n k) at a)
+
 module _ (rules : Rules) (kind : Kind) (field : List ℕ) where
   pub plain-is : kind ≡ PlainText → kindFate rules kind field ≡ written (encodedField false (nameOf field) (textOf field))
   unfolding kindFate
@@ -182,6 +198,14 @@ module _ (rules : Rules) (kind : Kind) (field : List ℕ) where
   unfolding kindFate
   other-is e = rw e
 
+  pub commented-is : kind ≡ Commented → holds kind field ≡ false → kindFate rules kind field ≡ written (structuredField (nameOf field) (valueOf field))
+  unfolding kindFate holds
+  commented-is e h = rw (e, not-false (asciiOutsideComments (valueOf field)) (rw e at h))
+
+  pub received-is : kind ≡ Received → holds kind field ≡ false → kindFate rules kind field ≡ written (receivedField (nameOf field) (valueOf field))
+  unfolding kindFate holds
+  received-is e h = rw (e, not-false (passes (nameOf field) (valueOf field)) (rw e at h))
+
   pub kind-none : (before : List ℕ) (at : ℕ) → holds kind field ≡ true → at ≤ greatest
       → AppendedCapped (rendered (segmentsOf (kindFate rules kind field))) at before before at
   unfolding segmentsOf isHeld rendered
@@ -190,26 +214,6 @@ module _ (rules : Rules) (kind : Kind) (field : List ℕ) where
       none : (fate : Fate) → isHeld fate ≡ true → AppendedCapped (rendered (segmentsOf fate)) at before before at
       none held e = capped-none at before h
       none (written segments) e = absurd (true-yes false e)
-
-pub commented-served : {kind : Kind} {field text scratch : List ℕ} → kind ≡ Commented → Served kind field text scratch
-    → (length field ≤ 32768) × (2 * length field ≤ length scratch)
-unfolding needsScratch
-commented-served e s = (s .short, s .room (rw e))
-
--- a field with comments, whose value code has at hand
-module _ (rules : Rules) (field : List ℕ) {value : List ℕ} {clear : Bool} (v : value ≡ valueOf field) (q : clear ≡ asciiOutsideComments value) where
-  pub commented-none : (before : List ℕ) (at : ℕ) → clear ≡ false → at ≤ greatest → AppendedCapped (rendered (segmentsOf (kindFate rules Commented field))) at before before at
-  unfolding holds
-  commented-none before at e h = kind-none rules Commented field before at (rw (← v, ← q, e)) h
-
-  pub commented-written : {before after : List ℕ} {n room at r : ℕ} → n ≡ nameLen field → clear ≡ true → length field ≤ 32768 → 2 * length field ≤ room
-      → AppendedCapped (rendered (structuredField (take n field) (fitting room value))) at before after r
-      → AppendedCapped (rendered (segmentsOf (kindFate rules Commented field))) at before after r
-  unfolding kindFate segmentsOf
-  commented-written {n = n} {room = room} k e h l a =
-      let short : length value ≤ length field = rw v (length-value field) in
-      let test : asciiOutsideComments (valueOf field) ≡ true = rw (← v) (sym q ∙ e) in
-      rw test (rw (fitting-short room value (omega arith) (omega arith), v, name-part field n k) at a)
 
 -- ---- a field
 

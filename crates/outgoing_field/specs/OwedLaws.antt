@@ -31,6 +31,8 @@ use Rattle.address_pieces.specs.LengthLaws.{address-field-within}
 use Rattle.structured_field.specs.Tokens.{asciiOutsideComments}
 use Rattle.structured_field.specs.StructuredField.{structuredField}
 use Rattle.structured_field.specs.StructuredFieldLaws.{structured-sound, length-structured}
+use Rattle.received.specs.Received.{receivedField, passes}
+use Rattle.received.specs.ReceivedLaws.{received-sound, length-received}
 use Rattle.outgoing_field.specs.Fate.{Fate, kindFate, fateOf, segmentsOf, fieldSegments, headerSegments}
 use Rattle.outgoing_field.specs.Fate.Fate.{held, written}
 
@@ -67,6 +69,13 @@ module _ {field : List ℕ} (s : Shaped field) where
     short = omega (arith, length-structured (nameOf field) (valueOf field), length-parts);
   }
 
+  owed-received : T (passes (nameOf field) (valueOf field)) → Owed (length field) (written (receivedField (nameOf field) (valueOf field)))
+  unfolding segmentsOf
+  owed-received t = record {
+    sound-all = received-sound (nameOf field) (valueOf field) (name-ascii field) (value-utf8 s) t;
+    short = omega (arith, length-received (nameOf field) (valueOf field), length-parts);
+  }
+
   owed-kind : (rules : Rules) (kind : Kind) → Owed (length field) (kindFate rules kind field)
   unfolding kindFate segmentsOf
   owed-kind rules Address = record {
@@ -74,7 +83,10 @@ module _ {field : List ℕ} (s : Shaped field) where
     short = address-field-within rules (nameOf field) (textOf field) (length field) (length-shaped s);
   }
   owed-kind rules PlainText = owed-encoded false
-  owed-kind rules Received = owed-held (length field)
+  owed-kind rules Received =
+      cond-has (Owed (length field)) (passes (nameOf field) (valueOf field)) (written (receivedField (nameOf field) (valueOf field))) held
+      owed-received
+      (λ t. owed-held (length field))
   owed-kind rules Commented =
       cond-has (Owed (length field)) (asciiOutsideComments (valueOf field)) (written (structuredField (nameOf field) (valueOf field))) held
       owed-structured

@@ -7,13 +7,16 @@ use header_name::Kind;
 use rules::Rules;
 
 // Whether a field of a kind is held where its value is not ASCII.
-fn holds(kind: Kind, field: &[u8]) -> bool
+pub(crate) fn holds(kind: Kind, field: &[u8]) -> bool
     ensures { λ r. ⌜ r ≡ holds kind (now (field .entry)) ⌝ }
 {
     match kind {
         Kind::Address => false,
         Kind::PlainText => false,
-        Kind::Received => true,
+        Kind::Received => {
+            let n = header_line::name_len(field);
+            !received::passes(&field[..n], header::value(field))
+        }
         Kind::Commented => !structured_field::ascii_outside_comments(header::value(field)),
         Kind::Parameterized => true,
         Kind::Held => true,

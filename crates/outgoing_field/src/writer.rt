@@ -1,12 +1,12 @@
 // What is written for the fields of a header.
 ghost use mathlib.Core.Path.{_≡_};
-ghost use Prim.Native.Nat.{_*_, _≤_};
+ghost use Prim.Native.Nat.{_≤_};
 ghost use lib.ListN.{length};
 ghost use Rattle.buffer.specs.Buffer.{AppendedCapped};
 ghost use Rattle.encoded_word.specs.Segments.{rendered};
-ghost use Rattle.header_name.specs.declared.Kind.the-variants.{Commented};
 ghost use Rattle.outgoing_field.specs.Fate.{kindFate, segmentsOf, fieldSegments, headerSegments, limited};
 ghost use Rattle.outgoing_field.specs.FateLaws.{needsScratch, limitedLen, Served, Roomy};
+use crate::held::holds;
 use field_text::TextPlace;
 use header_name::Kind;
 use rules::Rules;
@@ -14,20 +14,7 @@ use rules::Rules;
 // The most bytes that a header has, and so a field.
 const LIMIT: usize = 32768;
 
-// A field with comments, where it is not held.
-fn add_commented(out: &mut [u8], at: usize, rules: Rules, field: &[u8], scratch: &mut [u8]) -> usize
-    requires { ⌜ (length (now field) ≤ 32768) × (2 * length (now field) ≤ length (now scratch)) ⌝ }
-    ensures { λ r. ⌜ AppendedCapped (rendered (segmentsOf (kindFate rules Commented (now (field .entry))))) at (now (out .entry)) (now (out .exit)) r ⌝ }
-{
-    let value = header::value(field);
-    if !structured_field::ascii_outside_comments(value) {
-        return at;
-    }
-    let n = header_line::name_len(field);
-    structured_field::add_field(out, at, &field[..n], value, scratch)
-}
-
-// A field by its kind and its text. An address field and one with comments need a scratch.
+// A field by its kind and its text, where it is not held. Address fields, Received fields and those with comments need a scratch.
 fn add_by_kind(
     out: &mut [u8],
     at: usize,
@@ -40,13 +27,22 @@ fn add_by_kind(
     requires { ⌜ Served kind (now field) (now text) (now scratch) ⌝ }
     ensures { λ r. ⌜ AppendedCapped (rendered (segmentsOf (kindFate rules kind (now (field .entry))))) at (now (out .entry)) (now (out .exit)) r ⌝ }
 {
+    if holds(kind, field) {
+        return at;
+    }
     let n = header_line::name_len(field);
     let name = &field[..n];
     match kind {
         Kind::Address => address_pieces::add_field(out, at, rules, name, text, scratch),
         Kind::PlainText => field::add_encoded(out, at, name, text, false),
-        Kind::Received => at,
-        Kind::Commented => add_commented(out, at, rules, field, scratch),
+        Kind::Received => received::add_field(out, at, name, header::value(field), scratch),
+        Kind::Commented => structured_field::add_field(
+            out,
+            at,
+            name,
+            header::value(field),
+            scratch,
+        ),
         Kind::Parameterized => at,
         Kind::Held => at,
         Kind::Other => field::add_encoded(out, at, name, text, true),
@@ -111,7 +107,7 @@ fn needs_scratch(kind: Kind) -> bool
     match kind {
         Kind::Address => true,
         Kind::PlainText => false,
-        Kind::Received => false,
+        Kind::Received => true,
         Kind::Commented => true,
         Kind::Parameterized => false,
         Kind::Held => false,

@@ -21,6 +21,9 @@ tokenSegments token = cond (isComment token) (joined (map partSegments (parts to
 unfoldable pub valueSegments : List ℕ → List Segment
 valueSegments value = joined (map tokenSegments (tokens value))
 
--- the name as it came, colon (58), the value, CRLF
+-- the name as it came, colon (58), what becomes of the value, CRLF
+unfoldable pub named : List ℕ → List Segment → List Segment
+named name segments = raw (name ++ (58 ∷ [])) ∷ (segments ++ (raw (13 ∷ 10 ∷ []) ∷ []))
+
 unfoldable pub structuredField : List ℕ → List ℕ → List Segment
-structuredField name value = raw (name ++ (58 ∷ [])) ∷ (valueSegments value ++ (raw (13 ∷ 10 ∷ []) ∷ []))
+structuredField name value = named name (valueSegments value)

@@ -1,4 +1,5 @@
 -- Laws of what a structured field becomes: it is sound, how long it can be, and its writing part by part. Assumes nothing.
+use mathlib.Core.Path.{_≡_}
 use mathlib.Core.Bool.{Bool, true, _&&_, _||_}
 use mathlib.Core.List.{List, [], _∷_, _++_, append-nil, map}
 use Prim.Native.Nat.{ℕ, _+_, _-_, _*_, _≤_, _<_}
@@ -21,7 +22,7 @@ use Rattle.comment.specs.BoundaryLaws.{parts-utf8, run-text-utf8, length-run-te
 use Rattle.encoded_word.specs.MappedLaws.{mapped-le, mapped-sound}
 use Rattle.structured_field.specs.Tokens.{tokenLen, tokens, isComment, commentOrAscii, asciiOutsideComments}
 use Rattle.structured_field.specs.TokensLaws.{tokens-joined, tokens-utf8}
-use Rattle.structured_field.specs.StructuredField.{partSegments, tokenSegments, valueSegments, structuredField}
+use Rattle.structured_field.specs.StructuredField.{partSegments, tokenSegments, valueSegments, named, structuredField}
 
 -- ---- soundness
 
@@ -32,6 +33,9 @@ part-sound part h =
     (λ t. yes-and (all isAscii part) true t tt)
     (λ t. yes-and (utf8 (runText part)) true (run-text-utf8 part h) tt)
 
+pub comment-sound : (comment : List ℕ) → T (utf8 comment) → T (all sound (joined (map partSegments (parts comment))))
+comment-sound comment h = mapped-sound partSegments utf8 part-sound (parts comment) (parts-utf8 comment h)
+
 -- a comment that is UTF-8, or ASCII
 abbrev fair : List ℕ → Bool
 fair token = utf8 token && commentOrAscii token
@@ -41,25 +45,29 @@ unfolding tokenSegments commentOrAscii
 token-sound token h =
     let both = and-yes (utf8 token) (isComment token || all isAscii token) h in
     cond-has (λ (ss : List Segment). T (all sound ss)) (isComment token) (joined (map partSegments (parts token))) (raw token ∷ [])
-    (λ t. mapped-sound partSegments utf8 part-sound (parts token) (parts-utf8 token (both .0)))
+    (λ t. comment-sound token (both .0))
     (λ t. yes-and (all isAscii token) true (rw (no-false (isComment token) t) at (both .1)) tt)
 
-all-fair : (ts : List (List ℕ)) → T (all utf8 ts) → T (all commentOrAscii ts) → T (all fair ts)
-all-fair [] h q = tt
-all-fair (t ∷ ts) h q =
-    let a = and-yes (utf8 t) (all utf8 ts) h in
-    let b = and-yes (commentOrAscii t) (all commentOrAscii ts) q in
-    yes-and (fair t) (all fair ts) (yes-and (utf8 t) (commentOrAscii t) (a .0) (b .0)) (all-fair ts (a .1) (b .1))
+-- two tests of every token
+pub all-both : (f g : List ℕ → Bool) (ts : List (List ℕ)) → T (all f ts) → T (all g ts) → T (all (λ t. f t && g t) ts)
+all-both f g [] h q = tt
+all-both f g (t ∷ ts) h q =
+    let a = and-yes (f t) (all f ts) h in
+    let b = and-yes (g t) (all g ts) q in
+    yes-and (f t && g t) (all (λ t. f t && g t) ts) (yes-and (f t) (g t) (a .0) (b .0)) (all-both f g ts (a .1) (b .1))
+
+pub named-sound : (name : List ℕ) (segments : List Segment) → T (all isAscii name) → T (all sound segments) → T (all sound (named name segments))
+unfolding named
+named-sound name segments a h =
+    yes-and (all isAscii (name ++ (58 ∷ []))) (all sound (segments ++ (raw (13 ∷ 10 ∷ []) ∷ []))) (all-append isAscii name (58 ∷ []) a tt)
+    (all-append sound segments (raw (13 ∷ 10 ∷ []) ∷ []) h tt)
 
 -- what is written where no non-ASCII stands outside comments is sound
 pub structured-sound : (name value : List ℕ) → T (all isAscii name) → T (utf8 value) → T (asciiOutsideComments value) → T (all sound (structuredField name value))
 unfolding structuredField valueSegments asciiOutsideComments
 structured-sound name value a u q =
-    let label : T (all isAscii (name ++ (58 ∷ []))) = all-append isAscii name (58 ∷ []) a tt in
-    let segments = joined (map tokenSegments (tokens value)) in
-    let value-sound : T (all sound segments) = mapped-sound tokenSegments fair token-sound (tokens value) (all-fair (tokens value) (tokens-utf8 value u q) q) in
-    yes-and (all isAscii (name ++ (58 ∷ []))) (all sound (segments ++ (raw (13 ∷ 10 ∷ []) ∷ []))) label
-    (all-append sound segments (raw (13 ∷ 10 ∷ []) ∷ []) value-sound tt)
+    named-sound name (joined (map tokenSegments (tokens value))) a
+    (mapped-sound tokenSegments fair token-sound (tokens value) (all-both utf8 commentOrAscii (tokens value) (tokens-utf8 value u q) q))
 
 -- ---- how long it can be
 
@@ -70,16 +78,25 @@ part-le part h =
     (λ t. rw append-nil (omega arith))
     (λ t. rw length-append (omega (arith, length-row-le (runText part), length-run-text part)))
 
+pub comment-le : (comment : List ℕ) → length (rendered (joined (map partSegments (parts comment)))) ≤ 23 * length comment
+unfolding parts
+comment-le comment = rw (parts-joined comment) at (mapped-le partSegments 23 part-le (parts comment) (cut-some partLen comment))
+
 token-le : (token : List ℕ) → 0 < length token → length (rendered (tokenSegments token)) ≤ 23 * length token
-unfolding tokenSegments parts rendered
+unfolding tokenSegments rendered
 token-le token h =
     cond-has (λ (ss : List Segment). length (rendered ss) ≤ 23 * length token) (isComment token) (joined (map partSegments (parts token))) (raw token ∷ [])
-    (λ t. rw (parts-joined token) at (mapped-le partSegments 23 part-le (parts token) (cut-some partLen token)))
+    (λ t. comment-le token)
     (λ t. rw append-nil (omega arith))
 
+pub length-named : (name : List ℕ) (segments : List Segment) → length (rendered (named name segments)) ≡ 3 + length name + length (rendered segments)
+unfolding named rendered
+length-named name segments =
+    rw (length-append, rendered-append segments (raw (13 ∷ 10 ∷ []) ∷ []), length-append (rendered segments)) (omega (arith, length-append name (58 ∷ [])))
+
 pub length-structured : (name value : List ℕ) → length (rendered (structuredField name value)) ≤ 3 + length name + 23 * length value
-unfolding structuredField valueSegments tokens rendered
+unfolding structuredField valueSegments tokens
 length-structured name value =
     let segments = joined (map tokenSegments (tokens value)) in
     let most : length (rendered segments) ≤ 23 * length value = rw (tokens-joined value) at (mapped-le tokenSegments 23 token-le (tokens value) (cut-some tokenLen value)) in
-    rw (length-append, rendered-append segments (raw (13 ∷ 10 ∷ []) ∷ []), length-append (rendered segments)) (omega (arith, length-append name (58 ∷ [])))
+    rw (length-named name segments) (omega arith)

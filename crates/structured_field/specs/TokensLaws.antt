@@ -48,7 +48,7 @@ module _ (b : ℕ) (s : List ℕ) where
     token-comment n = rw (ne-eqb b 34 (λ e. not-suc-le-zero {n = 0} (omega arith)), eq-eqb b 40 p, ne-eqb (commentLen (b ∷ s)) 0 n)
 
 -- a token that does not begin with a parenthesis is no comment
-other-kind : (b n : ℕ) (s : List ℕ) → (b ≡ 40 → ⊥) → isComment (take n (b ∷ s)) ≡ false
+pub other-kind : (b n : ℕ) (s : List ℕ) → (b ≡ 40 → ⊥) → isComment (take n (b ∷ s)) ≡ false
 unfolding isComment commentLen
 other-kind b zero s h = refl
 other-kind b (suc n) s h = rw (ne-eqb b 40 h)
@@ -143,7 +143,7 @@ module _ (s : List ℕ) (at i : ℕ) (h : at < length s) (r : at + 1 + runTo isQ
 -- ---- UTF-8
 
 -- a token that is a comment ends where the comment does
-token-is-comment : (b : ℕ) (s : List ℕ) → isComment (take (tokenLen (b ∷ s)) (b ∷ s)) ≡ true → (0 < commentLen (b ∷ s)) × (tokenLen (b ∷ s) ≡ commentLen (b ∷ s))
+pub token-is-comment : (b : ℕ) (s : List ℕ) → isComment (take (tokenLen (b ∷ s)) (b ∷ s)) ≡ true → (0 < commentLen (b ∷ s)) × (tokenLen (b ∷ s) ≡ commentLen (b ∷ s))
 unfolding isComment
 token-is-comment b s e =
     by-test (eqb b 40)
@@ -169,7 +169,7 @@ string-some : (b : ℕ) (s : List ℕ) → 0 < stringLen (b ∷ s)
 unfolding stringLen
 string-some b s = omega arith
 
-token-some : (b : ℕ) (s : List ℕ) → 0 < tokenLen (b ∷ s)
+pub token-some : (b : ℕ) (s : List ℕ) → 0 < tokenLen (b ∷ s)
 token-some b s =
     by-test (eqb b 34)
     (λ t. rw (token-quote b s (yes-true (eqb b 34) t)) (string-some b s))

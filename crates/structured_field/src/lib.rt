@@ -4,6 +4,7 @@ mod writer;
 
 pub use tokens::ascii_outside_comments;
 pub use tokens::token_at;
+pub use writer::add_comment;
 pub use writer::add_field;
 
 // The token at a place of a value: where it ends, and whether it is a comment.

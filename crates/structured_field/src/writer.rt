@@ -25,7 +25,7 @@ fn add_part(out: &mut [u8], at: usize, part: &[u8], scratch: &mut [u8]) -> usize
     buffer::add_slice(out, end, b"\r\n ")
 }
 
-fn add_comment(out: &mut [u8], at: usize, comment: &[u8], scratch: &mut [u8]) -> usize
+fn add_parts(out: &mut [u8], at: usize, comment: &[u8], scratch: &mut [u8]) -> usize
     requires { ⌜ (length (now comment) ≤ 32768) × (length (now comment) ≤ length (now scratch)) ⌝ }
     ensures { λ r. ⌜ AppendedCapped (rendered (joined (map partSegments (parts (now (comment .entry)))))) at (now (out .entry)) (now (out .exit)) r ⌝ }
 {
@@ -44,7 +44,7 @@ fn add_token(out: &mut [u8], at: usize, token: &[u8], comment: bool, scratch: &m
     ensures { λ r. ⌜ AppendedCapped (rendered (tokenSegments (now (token .entry)))) at (now (out .entry)) (now (out .exit)) r ⌝ }
 {
     if comment {
-        return add_comment(out, at, token, scratch);
+        return add_parts(out, at, token, scratch);
     }
     buffer::add_slice(out, at, token)
 }
@@ -82,4 +82,13 @@ pub fn add_field(out: &mut [u8], at: usize, name: &[u8], value: &[u8], scratch: 
 {
     let end = piece::fitting_len(scratch.len(), value.len());
     add_fitting(out, at, name, &value[..end], scratch)
+}
+
+// Writes what a comment becomes from a place on, as far as it fits; answers the place after it. The scratch is as for a field: a comment
+// that it cannot serve counts as empty.
+pub fn add_comment(out: &mut [u8], at: usize, comment: &[u8], scratch: &mut [u8]) -> usize
+    ensures { λ r. ⌜ AppendedCapped (rendered (joined (map partSegments (parts (fitting (length (now (scratch .entry))) (now (comment .entry))))))) at (now (out .entry)) (now (out .exit)) r ⌝ }
+{
+    let end = piece::fitting_len(scratch.len(), comment.len());
+    add_parts(out, at, &comment[..end], scratch)
 }

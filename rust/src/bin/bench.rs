@@ -57,6 +57,13 @@ const ASCII: &[&str] = &[
     "Message-ID: <12345@example.org>\r\n",
 ];
 
+/// Trace lines with clauses that go, and one whose clause stays.
+const RECEIVED: &[&str] = &[
+    "Received: from mail.example.gr (mail.example.gr [192.0.2.1])\r\n\tby mx.example.net (Λιμάνι Πειραιά) with ESMTP id 12345\r\n\tfor <λιμάνι@example.gr>;\r\n\tMon, 1 Jan 2024 00:00:00 +0000\r\n",
+    "Received: from a.example.gr by b.example.gr with UTF8SMTP id 54321 for <πλοηγός@example.gr>;\r\n\tMon, 1 Jan 2024 00:00:00 +0000\r\n",
+    "Received: by c.example.gr (βάση) id 1 for <port@example.gr>; Mon, 1 Jan 2024 00:00:00 +0000\r\n",
+];
+
 fn nearly_ascii(size: usize) -> Vec<u8> {
     let mut out = "Subject: Strømvarsel\r\n".as_bytes().to_vec();
     out.extend_from_slice(&header(size - 50, ASCII));
@@ -149,7 +156,10 @@ fn main() {
     for size in [1, 4, 16, 32] {
         compare(&format!("nearly all ASCII, {size} KB"), &nearly_ascii(size * 1024));
     }
-    for (name, closed) in [("To", true), ("To", false), ("Date", true), ("Date", false)] {
+    for size in [1, 4, 16, 32] {
+        compare(&format!("Received, {size} KB"), &header(size * 1024, RECEIVED));
+    }
+    for (name, closed) in [("To", true), ("To", false), ("Date", true), ("Date", false), ("Received", true)] {
         for size in [1, 4, 16, 32] {
             let label = if closed { "nested comments" } else { "unclosed comment" };
             compare(&format!("{label}, {name}, {size} KB"), &nested(size * 1024, name, closed));

@@ -7,6 +7,7 @@ use hennelaku_model::call::{ENVELOPE, HEADER, NEITHER};
 use hennelaku_model::comment::{self, Part};
 use hennelaku_model::generate::{self, Random};
 use hennelaku_model::header::{is_blank, kind, next_non_ascii, Field, Kind};
+use hennelaku_model::received::{self, Held, Stretch};
 use hennelaku_model::rfc5322::is_address_list;
 use hennelaku_model::utf8::char_len;
 use hennelaku_model::words::SIZE;
@@ -214,6 +215,10 @@ fn look(met: &mut Met, input: &Input, got: &Outcome) {
     met.count("6 for an ORCPT", number == 6 && got.answer.input == ENVELOPE);
     met.count("6 for a field", number == 6 && got.answer.input == HEADER);
     met.count("6 for a field with a comment", number == 6 && held_beside_a_comment(&input.header));
+    let received = held_received(&input.header, got.answer);
+    met.count("6 for a Received with a for without an address", received == Some(Held::NoAddress));
+    met.count("6 for a Received with non-ASCII elsewhere", received == Some(Held::Elsewhere));
+    met.count("6 for a Received with a line past 998", received == Some(Held::Line));
     if number != 0 {
         return;
     }
@@ -225,6 +230,7 @@ fn look(met: &mut Met, input: &Input, got: &Outcome) {
     let mut fields = [0; 6];
     let mut comments = Comments::default();
     let mut groups = Groups::default();
+    let mut clauses = Clauses::default();
     let (mut names_of_76, mut folded, mut words_of_900) = (0, 0, 0);
     let mut first_lines = [0; 4];
     let mut from = 0;
@@ -240,6 +246,11 @@ fn look(met: &mut Met, input: &Input, got: &Outcome) {
                         comments.look(stretch, false);
                     }
                 });
+                from = field.end;
+                continue;
+            }
+            Kind::Received => {
+                clauses.look(&field);
                 from = field.end;
                 continue;
             }
@@ -297,6 +308,87 @@ fn look(met: &mut Met, input: &Input, got: &Outcome) {
     met.count("comment with a run of 900 that fits", comments.runs_of_900 > 0);
     met.count("comment more than 1,000 deep", comments.deepest > 1000);
     met.count("comma after a comment", comments.commas > 0);
+    met.count("Received with a clause removed", clauses.removed > 0);
+    met.count("Received with several clauses removed", clauses.several > 0);
+    met.count("Received with a clause removed, one kept", clauses.beside_one_kept > 0);
+    met.count("Received with a clause removed, folds before it", clauses.folds > 0);
+    met.count("Received with a clause removed, a comment rewritten", clauses.beside_a_comment > 0);
+    met.count("Received with a clause removed behind an unclosed parenthesis", clauses.unclosed > 0);
+    met.count("Received with a clause removed, a parenthesis in its address", clauses.parenthesis > 0);
+    met.count("Received with nothing left", clauses.nothing_left > 0);
+    met.count("Received with a line that grew to 998", clauses.line_of_998 > 0);
+    met.count("Received with a comment rewritten, no clause removed", clauses.comment_alone > 0);
+    met.count("Received that ends in a for", clauses.ends_in_for > 0);
+}
+
+/// What became of the Received fields of a header that is written.
+#[derive(Default)]
+struct Clauses {
+    removed: usize,
+    several: usize,
+    beside_one_kept: usize,
+    folds: usize,
+    beside_a_comment: usize,
+    unclosed: usize,
+    parenthesis: usize,
+    nothing_left: usize,
+    line_of_998: usize,
+    comment_alone: usize,
+    ends_in_for: usize,
+}
+
+impl Clauses {
+    /// A field that is not held.
+    fn look(&mut self, field: &Field) {
+        let (mut removed, mut kept, mut comments, mut left) = (0, 0, 0, Vec::new());
+        let (mut open, mut unclosed, mut fold, mut parenthesis) = (false, false, false, false);
+        let _ = received::stretches(field.value, |stretch, kind| match kind {
+            Stretch::Comment => {
+                comments += !stretch.is_ascii() as usize;
+                left.extend_from_slice(stretch);
+            }
+            Stretch::Clause => {
+                removed += 1;
+                unclosed |= open;
+                fold |= stretch.starts_with(b"\r\n");
+                parenthesis |= stretch.contains(&b'(');
+            }
+            Stretch::Other => {
+                open |= stretch.contains(&b'(') && !stretch.contains(&b'"') && !stretch.contains(&b'[');
+                kept += has(&stretch.to_ascii_lowercase(), b" for <") as usize;
+                left.extend_from_slice(stretch);
+            }
+        });
+        self.ends_in_for += left.to_ascii_lowercase().ends_with(b" for") as usize;
+        self.comment_alone += (comments > 0 && removed == 0) as usize;
+        if removed == 0 {
+            return;
+        }
+        self.removed += 1;
+        self.several += (removed > 1) as usize;
+        self.beside_one_kept += (kept > 0) as usize;
+        self.folds += fold as usize;
+        self.beside_a_comment += (comments > 0) as usize;
+        self.unclosed += unclosed as usize;
+        self.parenthesis += parenthesis as usize;
+        self.nothing_left += left.is_empty() as usize;
+        let grown = [field.name, b":", &left].concat();
+        self.line_of_998 += (comments == 0 && grown.split(|&b| b == b'\n').any(|line| line.len() > 997)) as usize;
+    }
+}
+
+/// Why the field that a 6 is about is held, if it is a Received.
+fn held_received(header: &[u8], answer: Answer) -> Option<Held> {
+    let mut from = 0;
+    while (answer.number, answer.input) == (6, HEADER) && from <= answer.offset {
+        let field = next_non_ascii(header, from)?;
+        if field.end > answer.offset {
+            let is_received = kind(field.name) == Kind::Received;
+            return received::check(field.name.len(), field.value).err().filter(|_| is_received);
+        }
+        from = field.end;
+    }
+    None
 }
 
 /// What stands in the comments of a header that is written.
@@ -481,6 +573,9 @@ fn compare(input: &Input, salt: u8, label: &str) -> Outcome {
         show(label, input, &model, &other, "answers or bytes differ");
     }
     let out = &other.header[GUARD..GUARD + other.answer.header_len];
+    if out.split(|&b| b == b'\n').any(|line| line.len() > 999) {
+        show(label, input, &model, &other, "a line of more than 998 bytes");
+    }
     if let Some(why) = (other.answer.number == 0).then(|| unlike_rfc5322(&input.header, out)).flatten() {
         show(label, input, &model, &other, &why);
     }
@@ -500,7 +595,7 @@ fn main() {
     let mut done = 0;
     while done < count && seconds.is_none_or(|limit| start.elapsed() < limit) {
         let input = next_input(&mut r, &mut scratch);
-        let got = compare(&input, r.next() as u8, &format!("seed {seed}, input {done}"));
+        let got = compare(&input, r.number() as u8, &format!("seed {seed}, input {done}"));
         numbers[got.answer.number as usize] += 1;
         look(&mut met, &input, &got);
         line_faults.count(&input.envelope, &input.header, got.answer);

@@ -1,4 +1,5 @@
-use Rattle.outgoing_field.specs.FateLaws.{holds, holds-commented}
+use Rattle.header.specs.FieldLaws.{name-size}
+use Rattle.outgoing_field.specs.FateLaws.{holds, holds-commented, holds-received}
 use borrow.Author.Needs.{needs}
 use Rattle.outgoing_field.proofs.held.holds.Statement.{statement}
 use Rattle.outgoing_field.proofs.held.holds.Tie as tie
@@ -12,11 +13,23 @@ enum-told-2 c = search needs
 enum-told-3 : tie.Need-enum-told-3
 enum-told-3 c = search needs
 
-enum-told-4 : tie.Need-enum-told-4
-enum-told-4 c = search needs
+name-len-requires : tie.Need-name-len-requires
+name-len-requires c κs = search needs
+
+slice-aggregate-passes : tie.Need-slice-aggregate-passes
+slice-aggregate-passes c = name-size _ _ (c .before .name-len .ensures)
 
 value-requires : tie.Need-value-requires
 value-requires c κs = search needs
+
+passes-requires : tie.Need-passes-requires
+passes-requires c κs = search needs
+
+enum-told-4 : tie.Need-enum-told-4
+enum-told-4 c = search needs
+
+value-requires-2 : tie.Need-value-requires-2
+value-requires-2 c κs = search needs
 
 ascii-outside-comments-requires : tie.Need-ascii-outside-comments-requires
 ascii-outside-comments-requires c κs = search needs
@@ -39,11 +52,10 @@ unfolding holds
 returns-2 c = rw (c .enum-told2 .given .1)
 
 returns-3 : tie.Need-returns-3
-unfolding holds
-returns-3 c = rw (c .enum-told3 .given .1)
+returns-3 c = holds-received _ _ (c .before .before .before .before .enum-told3 .given .1) (c .before .value .ensures) (c .before .before .before .name-len .ensures) (c .passes .ensures)
 
 returns-4 : tie.Need-returns-4
-returns-4 c = holds-commented _ _ (c .before .before .enum-told4 .given .1) (c .before .value .ensures) (c .ascii-outside-comments .ensures)
+returns-4 c = holds-commented _ _ (c .before .before .enum-told4 .given .1) (c .before .value2 .ensures) (c .ascii-outside-comments .ensures)
 
 returns-5 : tie.Need-returns-5
 unfolding holds
@@ -64,8 +76,12 @@ holds-spec =
     enum-told
     enum-told-2
     enum-told-3
-    enum-told-4
+    name-len-requires
+    slice-aggregate-passes
     value-requires
+    passes-requires
+    enum-told-4
+    value-requires-2
     ascii-outside-comments-requires
     enum-told-5
     enum-told-6

@@ -1,11 +1,19 @@
-use Rattle.outgoing_field.specs.FateLaws.{holds, kind-address, kind-encoded, kind-none, plain-is, other-is, commented-served}
-use Rattle.header_name.specs.declared.Kind.{Kind}
-use Rattle.header.specs.FieldLaws.{name-size}
+use mathlib.Core.Path.{ap, sym, _∙_}
 use native.Mathlib.Omega.{arith}
-use mathlib.Core.Path.{ap}
+use Rattle.received.specs.Received.{receivedField}
+use Rattle.structured_field.specs.StructuredField.{structuredField}
+use Rattle.header.specs.FieldLaws.{name-size}
+use Rattle.header_name.specs.declared.Kind.{Kind}
+use Rattle.outgoing_field.specs.FateLaws.{holds, needsScratch, kind-address, kind-encoded, kind-made, kind-none, plain-is, other-is, commented-is, received-is}
 use borrow.Author.Needs.{needs}
 use Rattle.outgoing_field.proofs.writer.add_by_kind.Statement.{statement}
 use Rattle.outgoing_field.proofs.writer.add_by_kind.Tie as tie
+
+holds-requires : tie.Need-holds-requires
+holds-requires c κs = search needs
+
+returns : tie.Need-returns
+returns c = kind-none _ _ _ _ _ (sym (c .before .holds .ensures) ∙ c .if1 .taken) (omega arith)
 
 name-len-requires : tie.Need-name-len-requires
 name-len-requires c κs = search needs
@@ -28,11 +36,20 @@ add-encoded-requires c κs = search needs
 enum-told-3 : tie.Need-enum-told-3
 enum-told-3 c = search needs
 
+value-requires : tie.Need-value-requires
+value-requires c κs = search needs
+
+add-field-requires-2 : tie.Need-add-field-requires-2
+add-field-requires-2 c κs = search needs
+
 enum-told-4 : tie.Need-enum-told-4
 enum-told-4 c = search needs
 
-add-commented-requires : tie.Need-add-commented-requires
-add-commented-requires c κs = commented-served (c .before .before .enum-told4 .given .1) (c .before .before .before .before .before .before .before .before .before .before .pre)
+value-requires-2 : tie.Need-value-requires-2
+value-requires-2 c κs = search needs
+
+add-field-requires-3 : tie.Need-add-field-requires-3
+add-field-requires-3 c κs = search needs
 
 enum-told-5 : tie.Need-enum-told-5
 enum-told-5 c = search needs
@@ -52,18 +69,14 @@ same-length c = search needs
 same-length-2 : tie.Need-same-length-2
 same-length-2 c = search needs
 
-returns : tie.Need-returns
-returns c = kind-address _ (c .before .before .before .before .before .before .before .before .before .before .before .before .before .before .before .pre) (c .before .before .before .before .before .before .before .before .before .before .name-len .ensures) (c .before .before .before .before .before .before .before .enum-told .given .1) (c .before .before .before .before .add-field .ensures)
+returns-2 : tie.Need-returns-2
+returns-2 c = kind-address _ (c .before .before .before .before .before .before .before .before .before .before .before .before .before .before .before .before .before .pre) (c .before .before .before .before .before .before .before .before .before .before .name-len .ensures) (c .before .before .before .before .before .before .before .enum-told .given .1) (c .before .before .before .before .add-field .ensures)
 
 same-length-3 : tie.Need-same-length-3
 same-length-3 c = search needs
 
-returns-2 : tie.Need-returns-2
-returns-2 c = kind-encoded _ (c .before .before .before .before .before .before .before .before .before .before .before .before .pre) (c .before .before .before .before .before .before .before .name-len .ensures) _ (plain-is _ _ _ (c .before .before .before .before .enum-told2 .given .1)) (c .before .before .add-encoded .ensures)
-
 returns-3 : tie.Need-returns-3
-unfolding holds
-returns-3 c = kind-none _ _ _ _ _ (ap (λ (k : Kind). holds k (c .before .before .before .before .before .before .before .before .args .field .now)) (c .enum-told3 .given .1)) (omega arith)
+returns-3 c = kind-encoded _ (c .before .before .before .before .before .before .before .before .before .before .before .before .before .before .pre) (c .before .before .before .before .before .before .before .name-len .ensures) _ (plain-is _ _ _ (c .before .before .before .before .enum-told2 .given .1)) (c .before .before .add-encoded .ensures)
 
 same-length-4 : tie.Need-same-length-4
 same-length-4 c = search needs
@@ -72,26 +85,39 @@ same-length-5 : tie.Need-same-length-5
 same-length-5 c = search needs
 
 returns-4 : tie.Need-returns-4
-returns-4 c = rw (c .before .before .before .before .before .before .before .enum-told4 .given .1) (c .before .before .before .before .add-commented .ensures)
-
-returns-5 : tie.Need-returns-5
-unfolding holds
-returns-5 c = kind-none _ _ _ _ _ (ap (λ (k : Kind). holds k (c .before .before .before .before .before .before .before .before .args .field .now)) (c .enum-told5 .given .1)) (omega arith)
-
-returns-6 : tie.Need-returns-6
-unfolding holds
-returns-6 c = kind-none _ _ _ _ _ (ap (λ (k : Kind). holds k (c .before .before .before .before .before .before .before .before .args .field .now)) (c .enum-told6 .given .1)) (omega arith)
+unfolding needsScratch
+returns-4 c = kind-made _ (c .before .before .before .before .before .before .before .before .before .before .before .before .before .before .before .before .before .before .pre) (c .before .before .before .before .before .before .before .before .before .before .before .name-len .ensures) receivedField (ap (λ (k : Kind). needsScratch k) (c .before .before .before .before .before .before .before .before .enum-told3 .given .1)) (received-is _ _ _ (c .before .before .before .before .before .before .before .before .enum-told3 .given .1) (sym (c .before .before .before .before .before .before .before .before .before .before .before .before .before .holds .ensures) ∙ c .before .before .before .before .before .before .before .before .before .before .before .before .if1 .left)) (c .before .before .before .before .before .before .value .ensures) (c .before .before .before .before .add-field2 .ensures)
 
 same-length-6 : tie.Need-same-length-6
 same-length-6 c = search needs
 
+same-length-7 : tie.Need-same-length-7
+same-length-7 c = search needs
+
+returns-5 : tie.Need-returns-5
+unfolding needsScratch
+returns-5 c = kind-made _ (c .before .before .before .before .before .before .before .before .before .before .before .before .before .before .before .before .before .before .pre) (c .before .before .before .before .before .before .before .before .before .before .before .name-len .ensures) structuredField (ap (λ (k : Kind). needsScratch k) (c .before .before .before .before .before .before .before .before .enum-told4 .given .1)) (commented-is _ _ _ (c .before .before .before .before .before .before .before .before .enum-told4 .given .1) (sym (c .before .before .before .before .before .before .before .before .before .before .before .before .before .holds .ensures) ∙ c .before .before .before .before .before .before .before .before .before .before .before .before .if1 .left)) (c .before .before .before .before .before .before .value2 .ensures) (c .before .before .before .before .add-field3 .ensures)
+
+returns-6 : tie.Need-returns-6
+unfolding holds
+returns-6 c = kind-none _ _ _ _ _ (ap (λ (k : Kind). holds k (c .before .before .before .before .before .before .before .before .before .before .args .field .now)) (c .enum-told5 .given .1)) (omega arith)
+
 returns-7 : tie.Need-returns-7
-returns-7 c = kind-encoded _ (c .before .before .before .before .before .before .before .before .before .before .before .before .pre) (c .before .before .before .before .before .before .before .name-len .ensures) _ (other-is _ _ _ (c .before .before .before .before .enum-told7 .given .1)) (c .before .before .add-encoded2 .ensures)
+unfolding holds
+returns-7 c = kind-none _ _ _ _ _ (ap (λ (k : Kind). holds k (c .before .before .before .before .before .before .before .before .before .before .args .field .now)) (c .enum-told6 .given .1)) (omega arith)
+
+same-length-8 : tie.Need-same-length-8
+same-length-8 c = search needs
+
+returns-8 : tie.Need-returns-8
+returns-8 c = kind-encoded _ (c .before .before .before .before .before .before .before .before .before .before .before .before .before .before .pre) (c .before .before .before .before .before .before .before .name-len .ensures) _ (other-is _ _ _ (c .before .before .before .before .enum-told7 .given .1)) (c .before .before .add-encoded2 .ensures)
 
 pub add-by-kind-spec : {M : Type 1} → statement M
 add-by-kind-spec =
     tie.close
     (tie.spec
+    holds-requires
+    returns
     name-len-requires
     slice-aggregate-name
     enum-told
@@ -99,22 +125,27 @@ add-by-kind-spec =
     enum-told-2
     add-encoded-requires
     enum-told-3
+    value-requires
+    add-field-requires-2
     enum-told-4
-    add-commented-requires
+    value-requires-2
+    add-field-requires-3
     enum-told-5
     enum-told-6
     enum-told-7
     add-encoded-requires-2
     same-length
     same-length-2
-    returns
-    same-length-3
     returns-2
+    same-length-3
     returns-3
     same-length-4
     same-length-5
     returns-4
+    same-length-6
+    same-length-7
     returns-5
     returns-6
-    same-length-6
-    returns-7)
+    returns-7
+    same-length-8
+    returns-8)

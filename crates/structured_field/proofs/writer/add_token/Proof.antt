@@ -4,8 +4,8 @@ use borrow.Author.Needs.{needs}
 use Rattle.structured_field.proofs.writer.add_token.Statement.{statement}
 use Rattle.structured_field.proofs.writer.add_token.Tie as tie
 
-add-comment-requires : tie.Need-add-comment-requires
-add-comment-requires c κs = search needs
+add-parts-requires : tie.Need-add-parts-requires
+add-parts-requires c κs = search needs
 
 same-length : tie.Need-same-length
 same-length c = search needs
@@ -14,7 +14,7 @@ same-length-2 : tie.Need-same-length-2
 same-length-2 c = search needs
 
 returns : tie.Need-returns
-returns c = capped-same (token-comment _ (c .before .before .before .before .before .before .before .before .before .before .before .pre .0) (c .before .before .before .before .before .before .before .if1 .taken)) (c .before .before .before .before .add-comment .ensures)
+returns c = capped-same (token-comment _ (c .before .before .before .before .before .before .before .before .before .before .before .pre .0) (c .before .before .before .before .before .before .before .if1 .taken)) (c .before .before .before .before .add-parts .ensures)
 
 add-slice-requires : tie.Need-add-slice-requires
 add-slice-requires c κs = search needs
@@ -29,7 +29,7 @@ pub add-token-spec : {M : Type 1} → statement M
 add-token-spec =
     tie.close
     (tie.spec
-    add-comment-requires
+    add-parts-requires
     same-length
     same-length-2
     returns

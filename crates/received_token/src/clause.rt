@@ -1,0 +1,105 @@
+// FOR clauses.
+ghost use mathlib.Core.Path.{_≡_};
+ghost use Rattle.received_token.specs.Clause.{isWhite, whiteLen, isFor, angledLen, clauseLen, forLen, isClause, isRemoved};
+use address::Scan;
+
+// Whether a byte is a space, a TAB or of a fold.
+pub(crate) fn is_white(b: u8) -> bool
+    ensures { λ r. ⌜ r ≡ isWhite b ⌝ }
+{
+    (b == 32) | (b == 9) | (b == 13) | (b == 10)
+}
+
+// How much white space stands at the front.
+pub(crate) fn white_len(s: &[u8]) -> usize
+    ensures { λ r. ⌜ r ≡ whiteLen (now (s .entry)) ⌝ }
+{
+    let mut i = 0;
+    while i < s.len() {
+        if !is_white(s[i]) {
+            return i;
+        }
+        i += 1;
+    }
+    i
+}
+
+// Whether the word for stands at the front.
+fn is_for(s: &[u8]) -> bool
+    ensures { λ r. ⌜ r ≡ isFor (now (s .entry)) ⌝ }
+{
+    let after = line::byte_at(s, 3);
+    letter_case::same_any_case(line::part(s, 0, 3), b"for") & (is_white(after) | (after == b'<'))
+}
+
+// How long the address in angle brackets is at the front; 0 where there is none.
+fn angled_len(s: &[u8]) -> usize
+    ensures { λ r. ⌜ r ≡ angledLen (now (s .entry)) ⌝ }
+{
+    if line::byte_at(s, 0) != b'<' {
+        return 0;
+    }
+    match address::address(s, 1) {
+        Scan::To(n) => {
+            if line::byte_at(s, n) == b'>' {
+                n + 1
+            } else {
+                0
+            }
+        }
+        Scan::Stop(_) => 0,
+    }
+}
+
+// How long the clause is at the front; 0 where there is none. The word and the byte after it are 4 bytes.
+fn clause_len(s: &[u8]) -> usize
+    ensures { λ r. ⌜ r ≡ clauseLen (now (s .entry)) ⌝ }
+{
+    if s.len() < 4 {
+        return 0;
+    }
+    let white = white_len(s);
+    let word = &s[white..];
+    if !is_for(word) {
+        return 0;
+    }
+    let more = &word[3..];
+    let blanks = white_len(more);
+    let n = angled_len(&more[blanks..]);
+    if n == 0 {
+        return 0;
+    }
+    white + 3 + blanks + n
+}
+
+// The same with a for that no address follows.
+pub fn for_len(s: &[u8]) -> usize
+    ensures { λ r. ⌜ r ≡ forLen (now (s .entry)) ⌝ }
+{
+    if s.len() < 4 {
+        return 0;
+    }
+    let white = white_len(s);
+    if !is_for(&s[white..]) {
+        return 0;
+    }
+    let n = clause_len(s);
+    if n == 0 {
+        return white + 4;
+    }
+    n
+}
+
+// Whether a text is a clause.
+pub fn is_clause(s: &[u8]) -> bool
+    ensures { λ r. ⌜ r ≡ isClause (now (s .entry)) ⌝ }
+{
+    clause_len(s) == s.len()
+}
+
+// Whether a text is a clause whose address is not ASCII.
+pub fn is_removed(s: &[u8]) -> bool
+    ensures { λ r. ⌜ r ≡ isRemoved (now (s .entry)) ⌝ }
+{
+    is_clause(s) & !utf8::is_ascii(s)
+}
