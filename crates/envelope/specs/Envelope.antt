@@ -48,10 +48,13 @@ faultNumber RetiredAlternative = 10
 unfoldable pub isFine : Fault → Bool
 isFine fault = eqb (faultNumber fault) 0
 
--- The lines from line n on: the first at fault, with its fault, or the number of RCPT lines. "A missing line is malformed at its
--- number, so an empty envelope is 2 at line 0".
+-- The number of RCPT lines where line n is missing. "A missing line is malformed at its number, so an empty envelope is 2 at line 0".
+unfoldable pub counted : ℕ → Checked
+counted n = cond (ltb n 2) (Refused Malformed n) (Passed (pred n))
+
+-- the lines from line n on: the first at fault, with its fault, or the number of RCPT lines
 unfoldable pub checkedFrom : Rules → ℕ → List (List ℕ) → Checked
-checkedFrom rules n [] = cond (ltb n 2) (Refused Malformed n) (Passed (pred n))
+checkedFrom rules n [] = counted n
 checkedFrom rules n (line ∷ more) = let next = checkedFrom rules (suc n) more in cond (isFine (faultOf rules n line)) next (Refused (faultOf rules n line) n)
 
 unfoldable pub checked : Rules → List ℕ → Checked

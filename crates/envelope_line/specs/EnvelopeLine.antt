@@ -79,13 +79,15 @@ wellFormed mail line =
     && all isParam (params (tail mail line))
     && altsOk (alts (params (tail mail line)))
 
--- 3: "path not ASCII, no ALT-ADDRESS". 4: "ALT-ADDRESS beside an ASCII path, or not xtext of an ASCII address". 10: "ALT-ADDRESS in a
--- current message, .. in place of 4". Given whether the path is ASCII, and the ALT-ADDRESS parameters. The empty path and
--- Postmaster are ASCII.
+-- 4: "ALT-ADDRESS beside an ASCII path, or not xtext of an ASCII address". 10: "ALT-ADDRESS in a current message, .. in place of 4". Given
+-- whether the path is ASCII, and the value of ALT-ADDRESS. The empty path and Postmaster are ASCII.
+unfoldable pub valueFault : Rules → Bool → List ℕ → Fault
+valueFault rules ascii v = cond (allowsAlternative rules) (cond (not ascii && isAltAddress v) Fine BadAlternative) RetiredAlternative
+
+-- 3: "path not ASCII, no ALT-ADDRESS". Given the ALT-ADDRESS parameters.
 unfoldable pub altFault : Rules → Bool → List (List ℕ) → Fault
 altFault rules ascii [] = cond ascii Fine NoAlternative
-altFault rules ascii (p ∷ ps) =
-    cond (allowsAlternative rules) (cond (not ascii && isAltAddress (value p)) Fine BadAlternative) RetiredAlternative
+altFault rules ascii (p ∷ ps) = valueFault rules ascii (value p)
 
 -- "the lowest number within one line"; 10 "on its line after 2"
 unfoldable pub lineFault : Rules → Bool → List ℕ → Fault

@@ -46,7 +46,7 @@ only-alt-fault-requires : tie.Need-only-alt-fault-requires
 only-alt-fault-requires c κs = search needs
 
 returns-6 : tie.Need-returns-6
-returns-6 c = c .only-alt-fault .ensures ∙ ap (onlyAltFault _) (c .before .part .ensures ∙ param-part _ _ _ (c .before .before .before .before .param-end .ensures)) ∙ sym (tail-one-alt _ _ (sym (c .before .before .before .before .before .before .before .before .before .before .is-spaced .ensures) ∙ not-false _ (c .before .before .before .before .before .before .before .before .before .if1 .left)) (sym (c .before .before .before .before .before .before .before .before .are-params .ensures) ∙ not-false _ (c .before .before .before .before .before .before .before .if2 .left)) (one-alt (alt-from (c .before .before .before .before .before .before .alt-place .ensures)) _ (c .before .before .before .before .param-end .ensures) (c .before .before .before .before .before .if3 .left) (alt-from (c .before .before .before .alt-place2 .ensures)) (c .before .before .if5 .left)))
+returns-6 c = c .only-alt-fault .ensures ∙ ap (onlyAltFault _ _) (c .before .part .ensures ∙ param-part _ _ _ (c .before .before .before .before .param-end .ensures)) ∙ sym (tail-one-alt _ _ (sym (c .before .before .before .before .before .before .before .before .before .before .is-spaced .ensures) ∙ not-false _ (c .before .before .before .before .before .before .before .before .before .if1 .left)) (sym (c .before .before .before .before .before .before .before .before .are-params .ensures) ∙ not-false _ (c .before .before .before .before .before .before .before .if2 .left)) (one-alt (alt-from (c .before .before .before .before .before .before .alt-place .ensures)) _ (c .before .before .before .before .param-end .ensures) (c .before .before .before .before .before .if3 .left) (alt-from (c .before .before .before .alt-place2 .ensures)) (c .before .before .if5 .left)))
 
 pub tail-fault-spec : {M : Type 1} → statement M
 tail-fault-spec =
