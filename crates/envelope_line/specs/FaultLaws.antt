@@ -31,7 +31,7 @@ tailFault rules ascii t = cond (spaced t && all isParam (params t) && altsOk (al
 unfoldable pub onlyAltFault : Rules → Bool → List ℕ → Fault
 onlyAltFault rules ascii p = cond (hasValue p) (altFault rules ascii (p ∷ [])) Malformed
 
-module _ {rules : Rules} (ascii : Bool) (t : List ℕ) where
+module _ (rules : Rules) (ascii : Bool) (t : List ℕ) where
   pub tail-unspaced : spaced t ≡ false → tailFault rules ascii t ≡ Malformed
   unfolding tailFault
   tail-unspaced e = rw e
@@ -64,7 +64,7 @@ module _ {rules : Rules} (ascii : Bool) (t : List ℕ) where
 
 -- ---- the only ALT-ADDRESS
 
-module _ {rules : Rules} (ascii : Bool) (p : List ℕ) where
+module _ (rules : Rules) (ascii : Bool) (p : List ℕ) where
   pub only-bare : hasValue p ≡ false → Malformed ≡ onlyAltFault rules ascii p
   unfolding onlyAltFault
   only-bare e = rw e
@@ -94,9 +94,9 @@ pub record AltTaken (rules : Rules) (ascii : Bool) (v : List ℕ) : Type 0 where
   pub not-ascii : T (not ascii)
   pub is-address : T (isAltAddress v)
 
-pub alt-taken : {rules : Rules} (ascii : Bool) (v : List ℕ) → valueFault rules ascii v ≡ Fine → AltTaken rules ascii v
+pub alt-taken : (rules : Rules) (ascii : Bool) (v : List ℕ) → valueFault rules ascii v ≡ Fine → AltTaken rules ascii v
 unfolding valueFault
-alt-taken {rules} ascii v f =
+alt-taken rules ascii v f =
     by-test (allowsAlternative rules)
     (λ t. let g = rw (yes-true (allowsAlternative rules) t) at f in
     by-test (not ascii && isAltAddress v)
@@ -106,7 +106,7 @@ alt-taken {rules} ascii v f =
 
 -- ---- the whole line
 
-module _ {rules : Rules} (mail : Bool) (line : List ℕ) where
+module _ (rules : Rules) (mail : Bool) (line : List ℕ) where
   -- whether the path ends where one can
   path-is-to : {x : Scan} → x ≡ pathAt mail line → isTo (pathScan mail (drop (verbLen mail) line)) ≡ isTo x
   unfolding pathAt
@@ -194,7 +194,7 @@ module _ (mail : Bool) (line : List ℕ) where
 
 -- ---- a line without fault
 
-module _ {rules : Rules} (mail : Bool) (line : List ℕ) (f : lineFault rules mail line ≡ Fine) where
+module _ (rules : Rules) (mail : Bool) (line : List ℕ) (f : lineFault rules mail line ≡ Fine) where
   pub well-formed : T (wellFormed mail line)
   unfolding lineFault
   well-formed = by-test (wellFormed mail line) (λ t. t) (λ t. absurd (
@@ -212,7 +212,7 @@ module _ {rules : Rules} (mail : Bool) (line : List ℕ) (f : lineFault rules ma
       go : (ascii : Bool) (found : List (List ℕ)) → altFault rules ascii found ≡ Fine → ascii ≡ true
       go true found k = refl
       go false [] k = absurd (let z : _≡_ {A = ℕ} 0 1 = cc in omega arith)
-      go false (p ∷ found) k = absurd (T-not (allowsAlternative rules) (alt-taken false (value p) k .allowed) n)
+      go false (p ∷ found) k = absurd (T-not (allowsAlternative rules) (alt-taken rules false (value p) k .allowed) n)
 
   pub formed : Formed mail line
   formed = formed-of mail line well-formed

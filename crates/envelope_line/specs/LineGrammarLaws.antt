@@ -391,20 +391,20 @@ replaced-line : {rules : Rules} {mail : Bool} {front p v t : List ℕ} → T (al
     → T (isAltAddress v) → Written rules mail (front ++ (p ++ (62 ∷ t))) (writtenLine mail (front ++ (p ++ (62 ∷ t))))
 replaced-line {v = v} a f q h (Tail.with-alt o x y) k = rw (replaced-by f q h o x y) (Written.replaced a f q h o x (read-alt-address v k) y)
 
-written-by : {rules : Rules} {mail : Bool} {p : List ℕ} {v : Option (List ℕ)} {line : List ℕ} (ascii : Bool) → ascii ≡ all isAscii p → Line mail p v line → faultBy rules ascii v ≡ Fine
+written-by : (rules : Rules) {mail : Bool} {p : List ℕ} {v : Option (List ℕ)} {line : List ℕ} (ascii : Bool) → ascii ≡ all isAscii p → Line mail p v line → faultBy rules ascii v ≡ Fine
     → Written rules mail line (writtenLine mail line)
 unfolding writtenLine
-written-by {v = none} true e l k = rw (line-read l .path-is, ← e) (Written.copied l (rw (← e) tt))
-written-by {v = none} false e l k = absurd (let z : _≡_ {A = ℕ} 0 1 = cc in omega arith)
-written-by {v = some w} ascii e l k =
-    let t = alt-taken ascii w k in
+written-by rules {v = none} true e l k = rw (line-read l .path-is, ← e) (Written.copied l (rw (← e) tt))
+written-by rules {v = none} false e l k = absurd (let z : _≡_ {A = ℕ} 0 1 = cc in omega arith)
+written-by rules {v = some w} ascii e l k =
+    let t = alt-taken rules ascii w k in
     rw (l .is) (replaced-line (t .allowed) (l .is-front) (l .is-path) (rw (← e) (t .not-ascii)) (l .is-tail) (t .is-address))
 
 -- what is written for a line without fault
-pub line-written : {rules : Rules} (mail : Bool) (line : List ℕ) → lineFault rules mail line ≡ Fine → Written rules mail line (writtenLine mail line)
-line-written {rules} mail line f =
-    let l = read-line mail line (well-formed mail line f) in
-    written-by (all isAscii (path mail line)) refl l (sym (line-fault rules l) ∙ f)
+pub line-written : (rules : Rules) (mail : Bool) (line : List ℕ) → lineFault rules mail line ≡ Fine → Written rules mail line (writtenLine mail line)
+line-written rules mail line f =
+    let l = read-line mail line (well-formed rules mail line f) in
+    written-by rules (all isAscii (path mail line)) refl l (sym (line-fault rules l) ∙ f)
 
 -- and nothing else
 pub written-exact : {rules : Rules} {mail : Bool} {line out : List ℕ} → Written rules mail line out → out ≡ writtenLine mail line

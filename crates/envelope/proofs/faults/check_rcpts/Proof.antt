@@ -9,13 +9,13 @@ use Rattle.envelope.proofs.faults.check_rcpts.Statement.{statement}
 use Rattle.envelope.proofs.faults.check_rcpts.Tie as tie
 
 abbrev Inv-loop : tie.InvT-loop
-Inv-loop envelope at starts₀ n₀ i₀ starts n i = RcptsReached envelope at starts₀ starts n i
+Inv-loop rules envelope at starts₀ n₀ i₀ starts n i = RcptsReached rules envelope at starts₀ starts n i
 
 abbrev μ-loop : tie.MeasureT-loop
-μ-loop envelope at starts₀ n₀ i₀ starts n i = length envelope - i
+μ-loop rules envelope at starts₀ n₀ i₀ starts n i = length envelope - i
 
 loop-holds : tie.Need-loop-holds Inv-loop μ-loop
-loop-holds c = rcpts-start _ _ _
+loop-holds c = rcpts-start _ _ _ _
 
 line-end-requires : tie.Need-line-end-requires Inv-loop μ-loop
 line-end-requires c κs = search needs
