@@ -50,11 +50,11 @@ crlf-only (a ∷ b ∷ []) c h =
     rw (eqb→eq a 13 (p .0), eqb→eq b 10 (p .1))
 crlf-only (a ∷ b ∷ d ∷ s) c h = absurd (omega arith)
 
-text-ended : {rules : Rules} (mail : Bool) (line : List ℕ) → isFine (endedFault rules mail line) ≡ true → T (atEnd line) → lineText line ++ (13 ∷ 10 ∷ []) ≡ line
+text-ended : (rules : Rules) (mail : Bool) (line : List ℕ) → isFine (endedFault rules mail line) ≡ true → T (atEnd line) → lineText line ++ (13 ∷ 10 ∷ []) ≡ line
 unfolding lineText
-text-ended mail line f k =
+text-ended rules mail line f k =
     let n = lineLen line in
-    let last = crlf-only (drop n line) (ended mail line f) (rw length-drop (omega (arith, leb-yes {a = length line} {b = n + 2} k))) in
+    let last = crlf-only (drop n line) (ended rules mail line f) (rw length-drop (omega (arith, leb-yes {a = length line} {b = n + 2} k))) in
     rw last (take-append-drop n line)
 
 -- a line in front of others
@@ -65,7 +65,7 @@ rcpts-ended : (rules : Rules) (rcpts : List (List ℕ)) → RcptsFine rules rcpt
 rcpts-ended rules [] f k = refl
 rcpts-ended rules (line ∷ more) f k =
     let b = and-yes (atEnd line) (all atEnd more) k in
-    rw (rcpts-ended rules more (f .1) (b .1)) (line-before (lineText line) line (eachEnded (map lineText more)) (text-ended false line (f .0) (b .0)))
+    rw (rcpts-ended rules more (f .1) (b .1)) (line-before (lineText line) line (eachEnded (map lineText more)) (text-ended rules false line (f .0) (b .0)))
 
 -- ---- what is written
 
@@ -76,32 +76,32 @@ rcpts-out (text ∷ more) = rw (rcpts-out more) (line-before (writtenLine false 
 
 rcpts-written : (rules : Rules) (rcpts : List (List ℕ)) → RcptsFine rules rcpts → RcptsWritten rules (map lineText rcpts) (map (writtenLine false) (map lineText rcpts))
 rcpts-written rules [] f = RcptsWritten.end
-rcpts-written rules (line ∷ more) f = RcptsWritten.then (line-written false (lineText line) (ended-fine false line (f .0))) (rcpts-written rules more (f .1))
+rcpts-written rules (line ∷ more) f = RcptsWritten.then (line-written rules false (lineText line) (ended-fine rules false line (f .0))) (rcpts-written rules more (f .1))
 
 lines-written : (rules : Rules) (m : ℕ) (ls : List (List ℕ)) → checkedFrom rules 0 ls ≡ Passed m → LinesFine rules ls → T (all atEnd ls) → EnvelopeWritten rules (joined ls) (writtenOf (map lineText ls))
 unfolding writtenOf writtenEnded counted checkedFrom
 lines-written rules m [] p f k = absurd (let z : _≡_ {A = ℕ} 0 1 = cc in omega arith)
 lines-written rules m (mail ∷ rcpts) p f k =
     let b = and-yes (atEnd mail) (all atEnd rcpts) k in
-    let count = passed-count 0 0 m rcpts (omega arith) (passed-line 0 m mail rcpts p .1) in
+    let count = passed-count rules 0 0 m rcpts (omega arith) (passed-line rules 0 m mail rcpts p .1) in
     let text = lineText mail in
     record {
       mail = text;
       rcpts = map lineText rcpts;
       new-mail = writtenLine true text;
       new-rcpts = map (writtenLine false) (map lineText rcpts);
-      incoming = rw (rcpts-ended rules rcpts (f .1) (b .1)) (line-before text mail (eachEnded (map lineText rcpts)) (text-ended true mail (f .0) (b .0)));
+      incoming = rw (rcpts-ended rules rcpts (f .1) (b .1)) (line-before text mail (eachEnded (map lineText rcpts)) (text-ended rules true mail (f .0) (b .0)));
       outgoing = rw (rcpts-out (map lineText rcpts)) (line-before (writtenLine true text) (writtenLine true text ++ (13 ∷ 10 ∷ [])) (eachEnded (map (writtenLine false) (map lineText rcpts))) refl);
-      first = line-written true text (ended-fine true mail (f .0));
+      first = line-written rules true text (ended-fine rules true mail (f .0));
       others = rcpts-written rules rcpts (f .1);
       some = rw length-map (omega (arith, count .2, count .3));
       few = rw length-map (omega (arith, count .1, count .2));
     }
 
 -- "A non-ASCII path is replaced by the decoded ALT-ADDRESS, and that parameter goes with the space before it. .. Nothing else changes."
-pub envelope-written : {rules : Rules} (e : List ℕ) (m : ℕ) → checked rules e ≡ Passed m → EnvelopeWritten rules e (written e)
+pub envelope-written : (rules : Rules) (e : List ℕ) (m : ℕ) → checked rules e ≡ Passed m → EnvelopeWritten rules e (written e)
 unfolding checked written texts
-envelope-written {rules} e m p = rw (lines-joined e) at (lines-written rules m (lines e) p (passed-fine e m p) (lines-end e))
+envelope-written rules e m p = rw (lines-joined e) at (lines-written rules m (lines e) p (passed-fine rules e m p) (lines-end e))
 
 -- ---- nothing else is written
 

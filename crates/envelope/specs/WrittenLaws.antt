@@ -118,15 +118,15 @@ starts-texts : (rules : Rules) (e : List ℕ) (n at m : ℕ) (ls : List (List �
 unfolding startsFrom
 starts-texts rules e n at m [] q p = refl
 starts-texts rules e n at m (line ∷ more) q p =
-    let f = passed-line n m line more p in
+    let f = passed-line rules n m line more p in
     by-test (ltb at (length e))
     (λ t. let s = drop at e in
     let cut = q ∙ lines-at e at (at + lineLen s) refl (ltb-yes {a = at} {b = length e} t) in
     let a : line ≡ take (lineLen s + 2) s = cc in
     let b : more ≡ lines (drop (at + lineLen s + 2) e) = cc in
     let text : lineText s ≡ lineText line = rw a (sym (text-front s)) in
-    let g : isFine (faultOf rules n s) ≡ true = rw (← fault-front s n, ← a) (f .0) in
-    let to : at + lineLen s + 2 ≡ at + length line = rw a (omega (arith, length-take (lineLen s + 2) s, length-drop at e, fine-end e at (at + lineLen s) n refl g)) in
+    let g : isFine (faultOf rules n s) ≡ true = rw (← fault-front s rules n, ← a) (f .0) in
+    let to : at + lineLen s + 2 ≡ at + length line = rw a (omega (arith, length-take (lineLen s + 2) s, length-drop at e, fine-end rules e at (at + lineLen s) n refl g)) in
     let rest = starts-texts rules e (suc n) (at + length line) m more (rw (← to) b) (f .1) in
     rw (f .0, text, rest))
     (λ t. absurd (let z = q ∙ lines-end e at (ltb-no {a = at} {b = length e} t) in let y : _≡_ {A = ℕ} 0 1 = cc in omega arith))
@@ -137,8 +137,8 @@ rcpts-texts : (rules : Rules) (e : List ℕ) (m : ℕ) (ls : List (List ℕ)) �
 unfolding startsFrom counted checkedFrom
 rcpts-texts rules e m [] q p = absurd (let z : _≡_ {A = ℕ} 0 1 = cc in omega arith)
 rcpts-texts rules e m (mail ∷ rcpts) q p =
-    let f = passed-line 0 m mail rcpts p in
-    let k = passed-count 0 (0 + length mail) m rcpts (omega arith) (f .1) in
+    let f = passed-line rules 0 m mail rcpts p in
+    let k = passed-count rules 0 (0 + length mail) m rcpts (omega arith) (f .1) in
     (rw (f .0) (rw (f .0) at (starts-texts rules e 0 0 m (mail ∷ rcpts) q p)), rw (f .0) (omega (arith, k .0)), k .1)
 
 entries-take : (n : ℕ) (array : List ℕ) → n ≤ length array → entries n array ≡ take n array

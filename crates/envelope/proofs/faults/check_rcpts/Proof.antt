@@ -36,13 +36,13 @@ mul-starts : tie.Need-mul-starts Inv-loop μ-loop
 mul-starts c = omega (arith, c .before .before .before .before .before .loop .inv .few)
 
 element-write-starts : tie.Need-element-write-starts Inv-loop μ-loop
-element-write-starts c = omega (arith, fine-few (c .before .before .before .before .before .loop .n + 1) (drop (c .before .before .before .before .before .loop .i) (c .before .before .before .before .before .before .before .args .envelope .now)) (rw (c .before .before .rcpt-fault .ensures) at (sym (c .before .is-fine .ensures) ∙ not-false _ (c .if1 .left))))
+element-write-starts c = omega (arith, fine-few _ (c .before .before .before .before .before .loop .n + 1) (drop (c .before .before .before .before .before .loop .i) (c .before .before .before .before .before .before .before .args .envelope .now)) (rw (c .before .before .rcpt-fault .ensures) at (sym (c .before .is-fine .ensures) ∙ not-false _ (c .if1 .left))))
 
 add-n : tie.Need-add-n Inv-loop μ-loop
 add-n c = omega (arith, c .before .before .before .before .before .loop .inv .few)
 
 add-i : tie.Need-add-i Inv-loop μ-loop
-add-i c = omega (arith, fine-end (c .before .before .before .before .before .before .before .args .envelope .now) (c .before .before .before .before .before .loop .i) (c .before .before .before .line-end .result) (c .before .before .before .before .before .loop .n + 1) (c .before .before .before .line-end .ensures) (rw (c .before .before .rcpt-fault .ensures) at (sym (c .before .is-fine .ensures) ∙ not-false _ (c .if1 .left))))
+add-i c = omega (arith, fine-end _ (c .before .before .before .before .before .before .before .args .envelope .now) (c .before .before .before .before .before .loop .i) (c .before .before .before .line-end .result) (c .before .before .before .before .before .loop .n + 1) (c .before .before .before .line-end .ensures) (rw (c .before .before .rcpt-fault .ensures) at (sym (c .before .is-fine .ensures) ∙ not-false _ (c .if1 .left))))
 
 loop-less : tie.Need-loop-less Inv-loop μ-loop
 loop-less c = omega (arith, c .before .before .before .line-end .ensures)
