@@ -26,8 +26,8 @@ rcpt-fault-requires c κs = c .line-end .ensures
 is-fine-requires : tie.Need-is-fine-requires Inv-loop μ-loop
 is-fine-requires c κs = search needs
 
-add-t11 : tie.Need-add-t11 Inv-loop μ-loop
-add-t11 c = omega (arith, c .before .before .before .before .before .loop .inv .few)
+add-t12 : tie.Need-add-t12 Inv-loop μ-loop
+add-t12 c = omega (arith, c .before .before .before .before .before .loop .inv .few)
 
 returns : tie.Need-returns Inv-loop μ-loop
 returns c = rcpts-refused (c .before .before .before .before .before .loop .inv) _ (c .before .before .before .before .loop-test .taken) (c .before .before .before .line-end .ensures) (c .before .before .rcpt-fault .ensures) (sym (c .before .is-fine .ensures) ∙ not-true _ (c .if1 .taken))
@@ -66,7 +66,7 @@ check-rcpts-spec =
     line-end-requires
     rcpt-fault-requires
     is-fine-requires
-    add-t11
+    add-t12
     returns
     mul-starts
     element-write-starts
