@@ -23,6 +23,7 @@ static uint8_t out_header[HENNELAKU_HEADER_ROOM_MAX];
 int main(void)
 {
     hennelaku_answer answer = hennelaku_downgrade(
+        HENNELAKU_SPOOL,
         (const uint8_t *)envelope, strlen(envelope),
         (const uint8_t *)header, strlen(header),
         out_envelope, sizeof out_envelope,

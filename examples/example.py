@@ -6,11 +6,12 @@
 LIBRARY is the path of libhennelaku.so.0, where the loader does not find it by itself."""
 import ctypes
 import sys
-from ctypes import POINTER, c_char_p, c_size_t, c_uint32
+from ctypes import POINTER, c_char_p, c_size_t, c_uint32, c_uint64
 
-VERSION = 200  # HENNELAKU_VERSION of the header that the declarations below are taken from
+VERSION = 300  # HENNELAKU_VERSION of the header that the declarations below are taken from
 ENVELOPE_ROOM_MAX = 16384
 HEADER_ROOM_MAX = 1048576
+SPOOL, CURRENT = 0, 1
 
 
 class Answer(ctypes.Structure):
@@ -51,17 +52,17 @@ class Library:
             raise OSError(f"{path} is version {self.calls.hennelaku_version()}, not {VERSION}")
         buffer = POINTER(ctypes.c_char)
         self.calls.hennelaku_downgrade.restype = Answer
-        self.calls.hennelaku_downgrade.argtypes = [c_char_p, c_size_t, c_char_p, c_size_t, buffer, c_size_t, buffer, c_size_t]
+        self.calls.hennelaku_downgrade.argtypes = [c_uint64] + 2 * [c_char_p, c_size_t] + 2 * [buffer, c_size_t]
         self.calls.hennelaku_smtp_reply.restype = Reply
         self.calls.hennelaku_smtp_reply.argtypes = [c_uint32]
         self.envelope = ctypes.create_string_buffer(ENVELOPE_ROOM_MAX)
         self.header = ctypes.create_string_buffer(HEADER_ROOM_MAX)
 
-    def downgrade(self, envelope, header):
+    def downgrade(self, setting, envelope, header):
         """The outgoing envelope and header, as bytes."""
-        answer = self.calls.hennelaku_downgrade(
-            envelope, len(envelope), header, len(header), self.envelope, len(self.envelope), self.header, len(self.header)
-        )
+        inputs = envelope, len(envelope), header, len(header)
+        buffers = self.envelope, len(self.envelope), self.header, len(self.header)
+        answer = self.calls.hennelaku_downgrade(setting, *inputs, *buffers)
         if answer.number != 0:
             raise Refused(answer, self.calls.hennelaku_smtp_reply(answer.number))
         return ctypes.string_at(self.envelope, answer.envelope_len), ctypes.string_at(self.header, answer.header_len)
@@ -70,6 +71,7 @@ class Library:
 def main():
     library = Library(*sys.argv[1:])
     envelope, header = library.downgrade(
+        SPOOL,
         "MAIL FROM:<é@example.org> ALT-ADDRESS=e+2Bx@example.org\r\nRCPT TO:<b@example.net>\r\n".encode(),
         "Subject: é\r\nX-Note: ok\r\n".encode(),
     )

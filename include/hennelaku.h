@@ -21,12 +21,12 @@ extern "C" {
  * greater one.
  */
 #define HENNELAKU_VERSION_MAJOR 0
-#define HENNELAKU_VERSION_MINOR 2
+#define HENNELAKU_VERSION_MINOR 3
 #define HENNELAKU_VERSION_PATCH 0
 #define HENNELAKU_VERSION \
     (10000 * HENNELAKU_VERSION_MAJOR + 100 * HENNELAKU_VERSION_MINOR \
      + HENNELAKU_VERSION_PATCH)
-#define HENNELAKU_VERSION_TEXT "0.2.0"
+#define HENNELAKU_VERSION_TEXT "0.3.0"
 
 /* Limits of one call. */
 #define HENNELAKU_MAX_ENVELOPE 16384   /* bytes of an envelope */
@@ -62,9 +62,9 @@ extern "C" {
 
 /*
  * The numbers of the answers. Where two conditions hold, the one that is
- * looked for first is told: 1 (envelope, then header); 2, 3 and 4 as the first
- * envelope line at fault, the lowest number within one line; the first 5; 6,
- * the envelope before the header; 7; 8.
+ * looked for first is told: 1 (envelope, then header); 2, 3 and 4, or in a
+ * current message 2, 3 and 10, as the first envelope line at fault, the lowest
+ * number within one line; the first 5; 6, the envelope before the header; 7; 8.
  *
  * Lines count from 0, each from the start of the envelope or of the header; a
  * continuation line of a header counts as a line.
@@ -90,9 +90,9 @@ enum hennelaku_number {
     /* A path is not ASCII, and its line has no ALT-ADDRESS. place is the line
      * of the envelope, offset the byte after its '<'. */
     HENNELAKU_NO_ALT_ADDRESS = 3,
-    /* An ALT-ADDRESS stands beside a path that is ASCII, or is not xtext of an
-     * ASCII address. place is the line of the envelope, offset the first byte
-     * of the ALT-ADDRESS value. */
+    /* An ALT-ADDRESS of a spool message stands beside a path that is ASCII, or
+     * is not xtext of an ASCII address. place is the line of the envelope,
+     * offset the first byte of the ALT-ADDRESS value. */
     HENNELAKU_BAD_ALT_ADDRESS = 4,
     /* A header line is malformed. place is the line of the header. offset: see
      * above. */
@@ -108,7 +108,26 @@ enum hennelaku_number {
     HENNELAKU_ENVELOPE_ROOM = 7,
     /* The outgoing header is longer than its buffer. place is the length that
      * it needs, in bytes. */
-    HENNELAKU_HEADER_ROOM = 8
+    HENNELAKU_HEADER_ROOM = 8,
+    /* An ALT-ADDRESS stands in a current message, whatever its path and its
+     * value. place is the line of the envelope, offset the first byte of the
+     * ALT-ADDRESS value. */
+    HENNELAKU_ALT_ADDRESS_RETIRED = 10
+};
+
+/*
+ * The setting of a call says where a message is from. RFC 6531 has no
+ * ALT-ADDRESS: messages in which alternatives are still named are from the spool,
+ * all others current. Every setting but 0 means a current message.
+ *
+ * In a current message an ALT-ADDRESS is refused by 10, so that a path that is
+ * not ASCII is always refused; and a header field that has an address with an
+ * inner alternative, `<address <ASCII address>>`, is put as a whole into a
+ * Downgraded- field.
+ */
+enum hennelaku_setting {
+    HENNELAKU_SPOOL = 0,
+    HENNELAKU_CURRENT = 1
 };
 
 /* The input that number, place and offset of an answer are about; for 7 and 8
@@ -142,7 +161,7 @@ uint32_t hennelaku_version(void);
 /*
  * Downgrades one message.
  *
- * envelope: one line `MAIL FROM:<path> ..`, then 1 to 100 lines
+ * setting: HENNELAKU_SPOOL or HENNELAKU_CURRENT. envelope: one line `MAIL FROM:<path> ..`, then 1 to 100 lines
  * `RCPT TO:<path> ..`, each ended by CRLF. header: the header section, each
  * line ended by CRLF, without the empty line after it; it may be empty.
  * envelope_room and header_room are the sizes of the buffers.
@@ -157,7 +176,7 @@ uint32_t hennelaku_version(void);
  *
  *     address     From Sender Reply-To To Cc Bcc, the same six after Resent-,
  *                 Return-Path Disposition-Notification-To: addresses replaced
- *                 or removed, a group as a whole where one in it would be
+ *                 (in a spool message) or removed, a group as a whole where one in it would be
  *                 removed; phrases and comments in encoded words; where an
  *                 address was replaced or removed, the original text in a
  *                 Downgraded- field after it
@@ -195,6 +214,7 @@ uint32_t hennelaku_version(void);
  * distinct buffers. It uses at most HENNELAKU_STACK bytes of stack.
  */
 hennelaku_answer hennelaku_downgrade(
+    uint64_t setting,
     const uint8_t *envelope, size_t envelope_len,
     const uint8_t *header, size_t header_len,
     uint8_t *envelope_buffer, size_t envelope_room,
@@ -222,6 +242,7 @@ typedef struct hennelaku_reply {
  *     6  554 5.6.9  header in UTF-8 cannot be transferred
  *     7  451 4.3.1  no room; the message may be sent again
  *     8  451 4.3.1
+ *    10  555 5.5.4  parameter of MAIL or RCPT not implemented
  *     any other number  451 4.3.0
  */
 hennelaku_reply hennelaku_smtp_reply(uint32_t number);

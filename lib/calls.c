@@ -9,12 +9,14 @@
  * beside it, and not null, also where that length is 0.
  */
 hennelaku_answer hennelaku_downgrade_slices(
+    uint64_t setting,
     const uint8_t *envelope, size_t envelope_len,
     const uint8_t *header, size_t header_len,
     uint8_t *envelope_buffer, size_t envelope_room,
     uint8_t *header_buffer, size_t header_room);
 
 hennelaku_answer hennelaku_downgrade(
+    uint64_t setting,
     const uint8_t *envelope, size_t envelope_len,
     const uint8_t *header, size_t header_len,
     uint8_t *envelope_buffer, size_t envelope_room,
@@ -23,13 +25,15 @@ hennelaku_answer hennelaku_downgrade(
     uint8_t none[4] = {0, 0, 0, 0};
 
     return hennelaku_downgrade_slices(
+        setting,
         envelope_len == 0 ? &none[0] : envelope, envelope_len,
         header_len == 0 ? &none[1] : header, header_len,
         envelope_room == 0 ? &none[2] : envelope_buffer, envelope_room,
         header_room == 0 ? &none[3] : header_buffer, header_room);
 }
 
-/* What the library has to say of a number. */
+/* What the library has to say of a number; its text is null where no answer has
+ * this number. */
 typedef struct meaning {
     const char *text;
     hennelaku_reply reply;
@@ -67,7 +71,10 @@ static const meaning meanings[] = {
         {451, "4.3.1", "No room for the downgraded envelope"}},
     [HENNELAKU_HEADER_ROOM] = {
         "the outgoing header is longer than its buffer",
-        {451, "4.3.1", "No room for the downgraded header"}}
+        {451, "4.3.1", "No room for the downgraded header"}},
+    [HENNELAKU_ALT_ADDRESS_RETIRED] = {
+        "an ALT-ADDRESS stands in a current message",
+        {555, "5.5.4", "ALT-ADDRESS is not taken in a current message"}}
 };
 
 static const meaning no_answer = {
@@ -77,8 +84,8 @@ static const meaning no_answer = {
 
 static const meaning *meaning_of(uint32_t number)
 {
-    return number < sizeof meanings / sizeof meanings[0] ? &meanings[number]
-                                                         : &no_answer;
+    return number < sizeof meanings / sizeof meanings[0]
+        && meanings[number].text != NULL ? &meanings[number] : &no_answer;
 }
 
 const char *hennelaku_number_text(uint32_t number)

@@ -30,6 +30,7 @@ enum {
 /* A message file, taken apart. */
 typedef struct message {
     const char *file;
+    uint64_t setting;
     part envelope;
     part header;
     part body;
@@ -38,7 +39,7 @@ typedef struct message {
 
 static int print_usage(FILE *out)
 {
-    fputs("usage: hennelaku [FILE|-]\n", out);
+    fputs("usage: hennelaku [--current] [FILE|-]\n", out);
     return STATUS_USAGE;
 }
 
@@ -52,6 +53,8 @@ static int print_help(void)
           "the header, and maybe an empty line and the body. Without FILE, "
           "or for -, standard\n"
           "input is read.\n"
+          "  --current  the message is not from the spool: no ALT-ADDRESS "
+          "is taken\n"
           "  --help     this text\n"
           "  --version  the version\n"
           "Exit status: 0 written, 64 wrong usage, 65 refused, 66 no such "
@@ -72,7 +75,7 @@ static const char *meaning(hennelaku_answer answer)
         : "a held header field holds non-ASCII";
 }
 
-static const char *advice(hennelaku_answer answer)
+static const char *advice(uint64_t setting, hennelaku_answer answer)
 {
     switch (answer.number) {
     case HENNELAKU_TOO_LONG:
@@ -83,12 +86,17 @@ static const char *advice(hennelaku_answer answer)
         return "an envelope is a line MAIL FROM:<address> and 1 to 100 lines "
                "RCPT TO:<address>,\n    parameters after one space each";
     case HENNELAKU_NO_ALT_ADDRESS:
-        return "add a space and ALT-ADDRESS= with the owner's ASCII address, "
-               "as xtext, to the line";
+        return setting != HENNELAKU_SPOOL
+            ? "name an ASCII address, or send by servers that know SMTPUTF8"
+            : "add a space and ALT-ADDRESS= with the owner's ASCII address, "
+              "as xtext, to the line";
     case HENNELAKU_BAD_ALT_ADDRESS:
         return "take ALT-ADDRESS off a line with an ASCII address; beside "
                "another, give an ASCII\n    address as xtext (+ is +2B, = is "
                "+3D)";
+    case HENNELAKU_ALT_ADDRESS_RETIRED:
+        return "take ALT-ADDRESS off the line, or --current off the command "
+               "for a message from the spool";
     case HENNELAKU_HEADER_LINE:
         return "a header line is a name, a colon and UTF-8, or goes on after "
                "a space or TAB; it has at\n    most 998 bytes, its name 76, "
@@ -146,6 +154,7 @@ static int tell_refusal(const message *m, hennelaku_answer answer)
     case HENNELAKU_ENVELOPE_LINE:
     case HENNELAKU_NO_ALT_ADDRESS:
     case HENNELAKU_BAD_ALT_ADDRESS:
+    case HENNELAKU_ALT_ADDRESS_RETIRED:
     case HENNELAKU_HEADER_LINE:
     case HENNELAKU_HELD:
         tell_line(m, answer);
@@ -156,7 +165,7 @@ static int tell_refusal(const message *m, hennelaku_answer answer)
                 hennelaku_number_text(answer.number));
         return STATUS_SOFTWARE;
     }
-    fprintf(stderr, "what to do: %s\n", advice(answer));
+    fprintf(stderr, "what to do: %s\n", advice(m->setting, answer));
     return STATUS_REFUSED;
 }
 
@@ -225,7 +234,7 @@ static int write_message(const message *m, const downgraded *d)
 }
 
 /* Downgrades a message and writes it. */
-static int show_message(const char *file, part all)
+static int show_message(uint64_t setting, const char *file, part all)
 {
     downgraded d;
     message m;
@@ -233,10 +242,11 @@ static int show_message(const char *file, part all)
 
     memset(&d, 0, sizeof d);
     m.file = file;
+    m.setting = setting;
     if (!take_apart(all, &m)) {
         return STATUS_REFUSED;
     }
-    if (!downgrade(m.envelope, m.header, &d)) {
+    if (!downgrade(setting, m.envelope, m.header, &d)) {
         fprintf(stderr, "%s: no memory\n", file);
         status = STATUS_NO_MEMORY;
     } else if (d.answer.number != HENNELAKU_OK) {
@@ -249,7 +259,7 @@ static int show_message(const char *file, part all)
 }
 
 /* Reads an open file, with each LF alone made CRLF, and shows it. */
-static int show_file(FILE *in, const char *file)
+static int show_file(uint64_t setting, FILE *in, const char *file)
 {
     buffer as_it_came = {NULL, 0, 0, 0};
     buffer all = {NULL, 0, 0, 0};
@@ -274,7 +284,7 @@ static int show_file(FILE *in, const char *file)
             fprintf(stderr, "%s: note: lines that end in LF alone are taken "
                     "to end in CRLF: %zu\n", file, lone);
         }
-        status = show_message(file, buffer_part(&all));
+        status = show_message(setting, file, buffer_part(&all));
     }
     buffer_clear(&all);
     return status;
@@ -282,17 +292,24 @@ static int show_file(FILE *in, const char *file)
 
 int main(int argc, char **argv)
 {
-    const char *file = argc < 2 ? "-" : argv[1];
+    uint64_t setting = HENNELAKU_SPOOL;
+    const char *file;
     FILE *in = stdin;
     int status;
 
-    if (argc == 2 && strcmp(file, "--help") == 0) {
+    if (argc == 2 && strcmp(argv[1], "--help") == 0) {
         return print_help();
     }
-    if (argc == 2 && strcmp(file, "--version") == 0) {
+    if (argc == 2 && strcmp(argv[1], "--version") == 0) {
         puts("hennelaku " HENNELAKU_VERSION_TEXT);
         return STATUS_WRITTEN;
     }
+    if (argc > 1 && strcmp(argv[1], "--current") == 0) {
+        setting = HENNELAKU_CURRENT;
+        argc--;
+        argv++;
+    }
+    file = argc < 2 ? "-" : argv[1];
     if (argc > 2 || (file[0] == '-' && file[1] != '\0')) {
         return print_usage(stderr);
     }
@@ -301,14 +318,14 @@ int main(int argc, char **argv)
         return STATUS_SOFTWARE;
     }
     if (strcmp(file, "-") == 0) {
-        return show_file(stdin, "standard input");
+        return show_file(setting, stdin, "standard input");
     }
     in = fopen(file, "rb");
     if (in == NULL) {
         fprintf(stderr, "%s: cannot be opened: %s\n", file, strerror(errno));
         return STATUS_NO_INPUT;
     }
-    status = show_file(in, file);
+    status = show_file(setting, in, file);
     fclose(in);
     return status;
 }

@@ -187,8 +187,8 @@ static int downgrade_message(delivery *d, part *body)
     *body = rest;
     add_without_bcc(&d->header, header);
     if (d->header.failed
-        || !downgrade(buffer_part(&d->envelope), buffer_part(&d->header),
-                      &d->downgraded)) {
+        || !downgrade(d->options->setting, buffer_part(&d->envelope),
+                      buffer_part(&d->header), &d->downgraded)) {
         return end_no_memory(d);
     }
     d->is_downgraded = 1;

@@ -18,6 +18,7 @@ enum {
 typedef struct delivery_options {
     smtp_options smtp;
     envelope_addresses addresses;
+    uint64_t setting;          /* of the library's call */
     const char *alternatives;  /* the name of the file; null for none */
     const char *queue_id;      /* null where it is not known */
 } delivery_options;

@@ -16,12 +16,12 @@ typedef struct downgraded {
 int library_fits(void);
 
 /* Downgrades an envelope and a header. Returns 0 where there is no memory. */
-int downgrade(part envelope, part header, downgraded *d);
+int downgrade(uint64_t setting, part envelope, part header, downgraded *d);
 
 void downgraded_clear(downgraded *d);
 
-/* Whether the library takes this envelope: the numbers 1 to 4 are not answered
- * for it. */
+/* Whether the library takes this envelope in the spool: the numbers 1 to 4 are
+ * not answered for it. */
 int is_envelope(part envelope);
 
 #endif

@@ -26,8 +26,8 @@
 #include "message.h"
 
 #define USAGE \
-    "usage: hennelaku-pipe -n HOST:PORT [-a FILE] [-q ID] [-t SECONDS] " \
-    "[-e NAME] [-l FILE] -f SENDER -- RECIPIENT.."
+    "usage: hennelaku-pipe -n HOST:PORT [-a FILE | -s current] [-q ID] " \
+    "[-t SECONDS] [-e NAME] [-l FILE] -f SENDER -- RECIPIENT.."
 
 /* Statuses of --check, which Postfix never sees. */
 enum {
@@ -54,6 +54,9 @@ static void print_help(void)
          "  -n HOST:PORT  the next hop; also [HOST]:PORT\n"
          "  -a FILE       alternatives: an address and its ASCII address on "
          "each line\n"
+         "  -s SETTING    spool, as without this option, or current: no "
+         "alternatives are taken,\n"
+         "                and an address that is not ASCII is refused\n"
          "  -q ID         the queue's name of the message, for the log\n"
          "  -t SECONDS    wait for no answer longer than this\n"
          "  -e NAME       the name for EHLO, where not this machine's\n"
@@ -93,6 +96,13 @@ static part read_sender(const char *text)
                    || strcmp(text, "MAILER-DAEMON") == 0 ? "" : text);
 }
 
+static int read_setting(const char *text, uint64_t *setting)
+{
+    *setting = strcmp(text, "spool") == 0 ? HENNELAKU_SPOOL
+                                          : HENNELAKU_CURRENT;
+    return *setting == HENNELAKU_SPOOL || strcmp(text, "current") == 0;
+}
+
 static int read_option(settings *s, char letter, const char *value)
 {
     switch (letter) {
@@ -102,6 +112,8 @@ static int read_option(settings *s, char letter, const char *value)
     case 'a':
         s->delivery.alternatives = value;
         return 1;
+    case 's':
+        return read_setting(value, &s->delivery.setting);
     case 'q':
         s->delivery.queue_id = value;
         return 1;
@@ -121,7 +133,8 @@ static int read_option(settings *s, char letter, const char *value)
     }
 }
 
-/* Returns 0 where the arguments are wrong. */
+/* Returns 0 where the arguments are wrong: a current message has no
+ * alternatives, among it. */
 static int read_settings(settings *s, int argc, char **argv)
 {
     char machine[256] = "";
@@ -147,7 +160,9 @@ static int read_settings(settings *s, int argc, char **argv)
     s->delivery.smtp.own_name = s->own_name;
     s->delivery.addresses.recipients = (const char *const *)(argv + i);
     s->delivery.addresses.recipient_count = (size_t)(argc - i);
-    return s->has_hop && s->has_sender && i < argc;
+    return s->has_hop && s->has_sender && i < argc
+        && (s->delivery.setting == HENNELAKU_SPOOL
+            || s->delivery.alternatives == NULL);
 }
 
 /* Appends a line to a file in one write, so that lines of two processes do not

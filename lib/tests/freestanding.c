@@ -42,7 +42,7 @@ __asm__(".globl _start\n_start:\n\txor %ebp, %ebp\n\tand $-16, %rsp\n\tcall run\
 void run(void)
 {
     hennelaku_answer a = hennelaku_downgrade(
-        (const uint8_t *)envelope, sizeof envelope - 1,
+        HENNELAKU_SPOOL, (const uint8_t *)envelope, sizeof envelope - 1,
         (const uint8_t *)header, sizeof header - 1,
         out_envelope, sizeof out_envelope, out_header, sizeof out_header);
     int right = a.number == HENNELAKU_OK && a.envelope_len == 54

@@ -22,6 +22,20 @@ static int all_ascii(const uint8_t *at, size_t len)
     return 1;
 }
 
+/* Whether calls with a setting answer a number: 4 is for the spool, 10 for
+ * current messages. */
+static int number_fits(uint32_t number, uint64_t setting)
+{
+    switch (number) {
+    case HENNELAKU_BAD_ALT_ADDRESS:
+        return setting == HENNELAKU_SPOOL;
+    case HENNELAKU_ALT_ADDRESS_RETIRED:
+        return setting != HENNELAKU_SPOOL;
+    default:
+        return number <= HENNELAKU_HEADER_ROOM;
+    }
+}
+
 /* Whether the input of an answer goes with its number. */
 static int input_fits(hennelaku_answer a)
 {
@@ -61,7 +75,9 @@ static int offset_fits(hennelaku_answer a, bytes envelope, bytes header)
     bytes input = a.input == HENNELAKU_ENVELOPE ? envelope : header;
     size_t line;
 
-    if (a.number < HENNELAKU_ENVELOPE_LINE || a.number > HENNELAKU_HELD) {
+    if (a.number == HENNELAKU_OK || a.number == HENNELAKU_TOO_LONG
+        || a.number == HENNELAKU_ENVELOPE_ROOM
+        || a.number == HENNELAKU_HEADER_ROOM) {
         return a.offset == 0;
     }
     if (a.offset > input.len) {
@@ -72,6 +88,7 @@ static int offset_fits(hennelaku_answer a, bytes envelope, bytes header)
     case HENNELAKU_NO_ALT_ADDRESS:
         return line == a.place && input.at[a.offset - 1] == '<';
     case HENNELAKU_BAD_ALT_ADDRESS:
+    case HENNELAKU_ALT_ADDRESS_RETIRED:
         return line == a.place && input.at[a.offset - 1] == '=';
     case HENNELAKU_HELD:
         return a.offset < input.len && input.at[a.offset] > 127
@@ -82,13 +99,13 @@ static int offset_fits(hennelaku_answer a, bytes envelope, bytes header)
     }
 }
 
-static const char *broken_answer(const outcome *o, bytes envelope,
-                                 bytes header)
+static const char *broken_answer(const outcome *o, uint64_t setting,
+                                 bytes envelope, bytes header)
 {
     hennelaku_answer a = o->answer;
 
-    if (a.number > HENNELAKU_HEADER_ROOM) {
-        return "a number over 8";
+    if (!number_fits(a.number, setting)) {
+        return "a number that the setting does not have";
     }
     if (a.number != HENNELAKU_OK
         && (a.envelope_len != 0 || a.header_len != 0)) {
@@ -123,7 +140,7 @@ static const char *broken_answer(const outcome *o, bytes envelope,
     return NULL;
 }
 
-outcome call(area_kind kind, bytes envelope, bytes header,
+outcome call(uint64_t setting, area_kind kind, bytes envelope, bytes header,
              size_t envelope_room, size_t header_room)
 {
     area e = area_of(kind, envelope.at, envelope.len);
@@ -133,10 +150,10 @@ outcome call(area_kind kind, bytes envelope, bytes header,
     o.envelope = area_new(kind, envelope_room);
     o.header = area_new(kind, header_room);
     errno = 12345;
-    o.answer = hennelaku_downgrade(e.at, e.len, h.at, h.len,
+    o.answer = hennelaku_downgrade(setting, e.at, e.len, h.at, h.len,
                                    o.envelope.at, envelope_room,
                                    o.header.at, header_room);
-    o.broken = broken_answer(&o, envelope, header);
+    o.broken = broken_answer(&o, setting, envelope, header);
     if (errno != 12345) {
         o.broken = "errno changed";
     }

@@ -20,7 +20,7 @@ typedef struct outcome {
 
 bytes bytes_of(const char *text);
 
-outcome call(area_kind kind, bytes envelope, bytes header,
+outcome call(uint64_t setting, area_kind kind, bytes envelope, bytes header,
              size_t envelope_room, size_t header_room);
 
 void outcome_free(outcome *o);

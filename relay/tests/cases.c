@@ -425,3 +425,93 @@ const test_case cases[] = {
 };
 
 const size_t case_count = sizeof cases / sizeof cases[0];
+
+/* An ALT-ADDRESS on the MAIL line, cut before its value. */
+#define E_ALT "MAIL FROM:<" E_ACUTE "@example.org> ALT-ADDRESS="
+
+const test_case current_cases[] = {
+    /* 10, whatever path and value. */
+    {"10: the whole case",
+     IN_ENVELOPE(10, 0, E_ALT, "e+2Bx@example.org\r\n" RCPT,
+                 "Subject: " E_ACUTE "\r\nX-Note: ok\r\n")},
+    {"10: beside an ASCII path",
+     IN_RCPT(10, "RCPT TO:<a@x> ALT-ADDRESS=", "b@x\r\n")},
+    {"10: beside an empty path",
+     IN_ENVELOPE(10, 0, "MAIL FROM:<> ALT-ADDRESS=", "b@x\r\n" RCPT, "")},
+    {"10: beside Postmaster",
+     IN_RCPT(10, "RCPT TO:<postMASTER> ALT-ADDRESS=", "b@x\r\n")},
+    {"10: a value that is not xtext",
+     IN_RCPT(10, "RCPT TO:<" E_ACUTE "@x> ALT-ADDRESS=", "e+2bx@x\r\n")},
+    {"10: a value that is no address",
+     IN_RCPT(10, "RCPT TO:<" E_ACUTE "@x> ALT-ADDRESS=", "+\r\n")},
+    {"10: a keyword in any case, after others",
+     IN_RCPT(10, "rcpt to:<" E_ACUTE "@x> A ORCPT=b aLT-aDDRESS=",
+             "e@x NOTIFY=NEVER\r\n")},
+
+    /* 2 and 3 as in the spool. */
+    {"current: no value is 2", IN_RCPT(2, "RCPT TO:<a@x> ALT-ADDRESS", "\r\n")},
+    {"current: an empty value is 2",
+     IN_RCPT(2, "RCPT TO:<a@x> ALT-ADDRESS=", "\r\n")},
+    {"current: a second one is 2",
+     IN_RCPT(2, "RCPT TO:<" E_ACUTE "@x> ALT-ADDRESS=e@x ALT-ADDRESS",
+             "=e@x\r\n")},
+    {"current: = in the value is 2",
+     IN_RCPT(2, "RCPT TO:<" E_ACUTE "@x> ALT-ADDRESS=e", "=x\r\n")},
+    {"current: non-ASCII in the value is 2",
+     IN_RCPT(2, "RCPT TO:<" E_ACUTE "@x> ALT-ADDRESS=", E_ACUTE "@x\r\n")},
+    {"current: a path that is not ASCII is 3",
+     IN_RCPT(3, "RCPT TO:<", E_ACUTE "@x>\r\n")},
+
+    /* Which is told first. */
+    {"order: 10 on line 0 before 2 on line 1",
+     IN_ENVELOPE(10, 0, E_ALT, "a@x\r\nRCPT\r\n", "")},
+    {"order: 10 on line 0 before 3 on line 1",
+     IN_ENVELOPE(10, 0, E_ALT, "a@x\r\nRCPT TO:<" E_ACUTE "@x>\r\n", "")},
+    {"order: 10 on line 0 before a missing line",
+     IN_ENVELOPE(10, 0, E_ALT, "a@x\r\n", "")},
+    {"order: 3 on line 0 before 10 on line 1",
+     IN_ENVELOPE(3, 0, "MAIL FROM:<",
+                 E_ACUTE "@x>\r\nRCPT TO:<a@x> ALT-ADDRESS=b@x\r\n", "")},
+    {"order: 2 on line 0 before 10 on line 1",
+     IN_ENVELOPE(2, 0, "MAIL",
+                 "\r\nRCPT TO:<a@x> ALT-ADDRESS=b@x\r\n", "")},
+    {"order: 2 before 10 on one line",
+     IN_RCPT(2, "RCPT TO:<a@x> ALT-ADDRESS=a@x ", "-a\r\n")},
+    {"order: 10 before 5",
+     IN_ENVELOPE(10, 1, MAIL "RCPT TO:<a@x> ALT-ADDRESS=", "a@x\r\n",
+                 "a\r\n")},
+    {"order: 10 before 6 of an ORCPT on a line before",
+     IN_ENVELOPE(10, 1, "MAIL FROM:<a@x> ORCPT=" E_ACUTE "\r\n"
+                 "RCPT TO:<a@x> ALT-ADDRESS=", "a@x\r\n",
+                 "Keywords: " E_ACUTE "\r\n")},
+
+    /* Inner alternatives. */
+    {"an inner alternative does not fit", PLAIN,
+     "To: <" E_ACUTE "@x <e@x>>\r\n", TAKEN, PLAIN,
+     "Downgraded-To:" HERE "=3C" E_WORD "=40x_=3Ce=40x=3E=3E" CLOSE "\r\n"},
+    {"beside other addresses neither", PLAIN,
+     "Cc: a@x, " E_ACUTE " <" E_ACUTE "@x <e@x>>\r\n", TAKEN, PLAIN,
+     "Downgraded-Cc:" HERE "a=40x=2C_" E_WORD "_=3C" E_WORD
+     "=40x_=3Ce=40x=3E=3E" CLOSE "\r\n"},
+    {"in a group neither", PLAIN,
+     "To: h: <" E_ACUTE "@x <e@x>>;\r\n", TAKEN, PLAIN,
+     "Downgraded-To:" HERE "h=3A_=3C" E_WORD "=40x_=3Ce=40x=3E=3E=3B" CLOSE
+     "\r\n"},
+    {"in ASCII it is copied", PLAIN, "To: <a@x <e@x>>\r\n", TAKEN, PLAIN,
+     "To: <a@x <e@x>>\r\n"},
+
+    /* As in the spool. */
+    {"current: a removed address", PLAIN,
+     "To: " E_ACUTE "@example.org\r\n", TAKEN, PLAIN,
+     "To:\r\n Internationalized Address" OPEN "=C3=A9=40example=2Eorg" CLOSE
+     "\r\n Removed:;\r\n"
+     "Downgraded-To:" HERE "=C3=A9=40example=2Eorg" CLOSE "\r\n"},
+    {"current: parameters that begin so", MAIL
+     "RCPT TO:<a@x> ALT-ADDRESSES=b ALT=c ADDRESS=d ORCPT=ALT-ADDRESS\r\n",
+     "Subject: " E_ACUTE "\r\n", TAKEN, MAIL
+     "RCPT TO:<a@x> ALT-ADDRESSES=b ALT=c ADDRESS=d ORCPT=ALT-ADDRESS\r\n",
+     "Subject:" HERE E_WORD CLOSE "\r\n"},
+};
+
+const size_t current_case_count =
+    sizeof current_cases / sizeof current_cases[0];

@@ -1,4 +1,5 @@
-/* The worked cases: an input and the whole answer. */
+/* The worked cases: an input and the whole answer; those of document 01 are
+ * spool messages. */
 #ifndef CASES_H
 #define CASES_H
 
@@ -15,7 +16,12 @@ typedef struct test_case {
     const char *header_out;
 } test_case;
 
+/* Spool messages. */
 extern const test_case cases[];
 extern const size_t case_count;
+
+/* Current messages. */
+extern const test_case current_cases[];
+extern const size_t current_case_count;
 
 #endif

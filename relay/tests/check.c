@@ -79,26 +79,87 @@ static void expect_bytes(const char *part, const area *got, size_t got_len,
     }
 }
 
-void expect_refusal(area_kind kind, bytes envelope, bytes header,
-                    size_t envelope_room, size_t header_room,
+void expect_refusal(uint64_t setting, area_kind kind, bytes envelope,
+                    bytes header, size_t envelope_room, size_t header_room,
                     hennelaku_answer want)
 {
-    outcome o = call(kind, envelope, header, envelope_room, header_room);
+    outcome o = call(setting, kind, envelope, header, envelope_room,
+                     header_room);
 
     expect_answer(&o, want);
     outcome_free(&o);
 }
 
-void expect_output(area_kind kind, bytes envelope, bytes header,
-                   size_t envelope_room, size_t header_room,
+void expect_output(uint64_t setting, area_kind kind, bytes envelope,
+                   bytes header, size_t envelope_room, size_t header_room,
                    bytes envelope_out, bytes header_out)
 {
-    outcome o = call(kind, envelope, header, envelope_room, header_room);
+    outcome o = call(setting, kind, envelope, header, envelope_room,
+                     header_room);
 
     expect_answer(&o, refusal(HENNELAKU_OK, HENNELAKU_NO_INPUT, 0, 0));
     expect_bytes("envelope", &o.envelope, o.answer.envelope_len, envelope_out);
     expect_bytes("header", &o.header, o.answer.header_len, header_out);
     outcome_free(&o);
+}
+
+hennelaku_answer no_envelope_room(size_t needed)
+{
+    return refusal(HENNELAKU_ENVELOPE_ROOM, HENNELAKU_ENVELOPE, needed, 0);
+}
+
+hennelaku_answer no_header_room(size_t needed)
+{
+    return refusal(HENNELAKU_HEADER_ROOM, HENNELAKU_HEADER, needed, 0);
+}
+
+/* A case that is taken: with ample buffers, with buffers of just the size, and
+ * with one or both a byte short or empty. */
+static void run_taken(uint64_t setting, const test_case *t, area_kind kind)
+{
+    bytes e = bytes_of(t->envelope);
+    bytes h = bytes_of(t->header);
+    bytes eo = bytes_of(t->envelope_out);
+    bytes ho = bytes_of(t->header_out);
+
+    expect_output(setting, kind, e, h, eo.len + 100, ho.len + 100, eo, ho);
+    expect_output(setting, kind, e, h, eo.len, ho.len, eo, ho);
+    expect_refusal(setting, kind, e, h, eo.len - 1, ho.len,
+                   no_envelope_room(eo.len));
+    expect_refusal(setting, kind, e, h, 0, ho.len, no_envelope_room(eo.len));
+    if (ho.len > 0) {
+        expect_refusal(setting, kind, e, h, eo.len, ho.len - 1,
+                       no_header_room(ho.len));
+        expect_refusal(setting, kind, e, h, eo.len, 0, no_header_room(ho.len));
+        expect_refusal(setting, kind, e, h, eo.len - 1, ho.len - 1,
+                       no_envelope_room(eo.len));
+        expect_refusal(setting, kind, e, h, 0, 0, no_envelope_room(eo.len));
+    }
+}
+
+/* A case that is refused: with ample buffers, and with none, since 7 and 8
+ * come last. */
+static void run_refused(uint64_t setting, const test_case *t,
+                        area_kind kind)
+{
+    bytes e = bytes_of(t->envelope);
+    bytes h = bytes_of(t->header);
+
+    expect_refusal(setting, kind, e, h, 500, 500, t->answer);
+    expect_refusal(setting, kind, e, h, 0, 0, t->answer);
+}
+
+void expect_case(uint64_t setting, const test_case *t)
+{
+    int kind;
+
+    for (kind = 0; kind < AREA_KINDS; kind++) {
+        if (t->answer.number == HENNELAKU_OK) {
+            run_taken(setting, t, (area_kind)kind);
+        } else {
+            run_refused(setting, t, (area_kind)kind);
+        }
+    }
 }
 
 text text_new(size_t room)

@@ -3,6 +3,7 @@
 #define CHECK_H
 
 #include "call.h"
+#include "cases.h"
 
 #define MAIL "MAIL FROM:<a@example.org>\r\n"
 #define RCPT "RCPT TO:<b@example.net>\r\n"
@@ -22,18 +23,25 @@ int failed_tests(void);
 hennelaku_answer refusal(uint32_t number, uint32_t input, size_t place,
                          size_t offset);
 
+/* The refusals by 7 and 8. */
+hennelaku_answer no_envelope_room(size_t needed);
+hennelaku_answer no_header_room(size_t needed);
+
 /* Number, input, place and offset, and what holds of every call. */
 void expect_answer(const outcome *o, hennelaku_answer want);
 
 /* A call that is to be refused so. */
-void expect_refusal(area_kind kind, bytes envelope, bytes header,
-                    size_t envelope_room, size_t header_room,
+void expect_refusal(uint64_t setting, area_kind kind, bytes envelope,
+                    bytes header, size_t envelope_room, size_t header_room,
                     hennelaku_answer want);
 
 /* A call that is to write just this. */
-void expect_output(area_kind kind, bytes envelope, bytes header,
-                   size_t envelope_room, size_t header_room,
+void expect_output(uint64_t setting, area_kind kind, bytes envelope,
+                   bytes header, size_t envelope_room, size_t header_room,
                    bytes envelope_out, bytes header_out);
+
+/* A worked case in each kind of memory, with buffers of several sizes. */
+void expect_case(uint64_t setting, const test_case *t);
 
 /* Bytes that a test builds; to be freed by text_free. */
 typedef struct text {

@@ -26,7 +26,8 @@ static bytes input_of(bytes envelope, bytes header, hennelaku_answer a)
     return a.input == HENNELAKU_ENVELOPE ? envelope : header;
 }
 
-void expect_same_when_cut(bytes envelope, bytes header, hennelaku_answer a)
+void expect_same_when_cut(uint64_t setting, bytes envelope, bytes header,
+                          hennelaku_answer a)
 {
     bytes input = input_of(envelope, header, a);
     size_t start = line_start(input, a.place);
@@ -41,10 +42,10 @@ void expect_same_when_cut(bytes envelope, bytes header, hennelaku_answer a)
         hennelaku_answer want = a;
 
         want.offset = cut < a.offset ? cut : a.offset;
-        expect_refusal(AREA_GUARDED,
+        expect_refusal(setting, AREA_GUARDED,
                        a.input == HENNELAKU_ENVELOPE ? front : envelope,
-                       a.input == HENNELAKU_ENVELOPE ? header : front,
-                       500, 500, want);
+                       a.input == HENNELAKU_ENVELOPE ? header : front, 500,
+                       500, want);
     }
 }
 
@@ -75,8 +76,8 @@ static int is_well_formed(bytes envelope, bytes header, hennelaku_answer a,
     } else {
         header = text_bytes(input);
     }
-    got = hennelaku_downgrade(envelope.at, envelope.len, header.at, header.len,
-                              none, 0, none, 0);
+    got = hennelaku_downgrade(HENNELAKU_SPOOL, envelope.at, envelope.len,
+                              header.at, header.len, none, 0, none, 0);
     return got.number != a.number || got.place != a.place;
 }
 
@@ -144,7 +145,7 @@ static void test_search(void)
         if (a.number == HENNELAKU_ENVELOPE_LINE
             || a.number == HENNELAKU_HEADER_LINE) {
             expect_first_bad(e, h, a);
-            expect_same_when_cut(e, h, a);
+            expect_same_when_cut(HENNELAKU_SPOOL, e, h, a);
             snprintf(name, sizeof name, "%s, by search", cases[i].name);
             report(name);
         }
@@ -266,10 +267,10 @@ static void run_limits(const limit_case *limits, size_t count, uint32_t input,
         if (l->number == HENNELAKU_OK) {
             want = refusal(HENNELAKU_OK, HENNELAKU_NO_INPUT, 0, 0);
         }
-        o = call(AREA_EXACT, e, h, 4000, 16000);
+        o = call(HENNELAKU_SPOOL, AREA_EXACT, e, h, 4000, 16000);
         expect_first_bad(e, h, want);
         expect_answer(&o, want);
-        expect_same_when_cut(e, h, want);
+        expect_same_when_cut(HENNELAKU_SPOOL, e, h, want);
         outcome_free(&o);
         text_free(&t);
         snprintf(name, sizeof name, "limit of %s line %zu: %s",
@@ -296,7 +297,8 @@ static void test_longest(void)
     }
     text_add(&e, "RCPT TO:<b@x> A=");
     text_fill(&e, 'a', e.room - e.len);
-    expect_refusal(AREA_BEFORE_PAGE, text_bytes(&e), bytes_of(""), 0, 0,
+    expect_refusal(HENNELAKU_SPOOL, AREA_BEFORE_PAGE, text_bytes(&e),
+                   bytes_of(""), 0, 0,
                    refusal(2, HENNELAKU_ENVELOPE, place, e.len));
     report("2 at the end of 16384 bytes");
     text_free(&lines);
@@ -310,7 +312,8 @@ static void test_longest(void)
     text_fill(&h, 'X', 1);
     text_fill(&h, ':', 1);
     text_fill(&h, 'a', h.room - h.len);
-    expect_refusal(AREA_BEFORE_PAGE, bytes_of(PLAIN), text_bytes(&h), 0, 0,
+    expect_refusal(HENNELAKU_SPOOL, AREA_BEFORE_PAGE, bytes_of(PLAIN),
+                   text_bytes(&h), 0, 0,
                    refusal(5, HENNELAKU_HEADER, place, h.len));
     report("5 at the end of 32768 bytes");
     text_free(&lines);
@@ -335,8 +338,10 @@ static void test_line_101(void)
 
         text_add(&e, lines[i]);
         expect_first_bad(text_bytes(&e), bytes_of(""), want);
-        expect_refusal(AREA_EXACT, text_bytes(&e), bytes_of(""), 0, 0, want);
-        expect_same_when_cut(text_bytes(&e), bytes_of(""), want);
+        expect_refusal(HENNELAKU_SPOOL, AREA_EXACT, text_bytes(&e),
+                       bytes_of(""), 0, 0, want);
+        expect_same_when_cut(HENNELAKU_SPOOL, text_bytes(&e), bytes_of(""),
+                             want);
         text_free(&e);
         snprintf(name, sizeof name, "101 RCPT lines are 2 at 101: %zu", i);
         report(name);
@@ -351,7 +356,8 @@ static void test_line_100(void)
 
     e.at[e.len - 3] = ' ';
     expect_first_bad(text_bytes(&e), bytes_of(""), want);
-    expect_refusal(AREA_EXACT, text_bytes(&e), bytes_of(""), 0, 0, want);
+    expect_refusal(HENNELAKU_SPOOL, AREA_EXACT, text_bytes(&e), bytes_of(""),
+                   0, 0, want);
     report("the 100th RCPT line malformed is 2 at 100");
     text_free(&e);
 }

@@ -23,6 +23,7 @@
 typedef struct job {
     bytes envelope;
     bytes header;
+    uint64_t setting;
     int calls;
     uint32_t number;
 } job;
@@ -36,8 +37,8 @@ static void *run(void *argument)
 
     if (j->calls) {
         j->number = hennelaku_downgrade(
-            j->envelope.at, j->envelope.len, j->header.at, j->header.len,
-            envelope_buffer, sizeof envelope_buffer,
+            j->setting, j->envelope.at, j->envelope.len, j->header.at,
+            j->header.len, envelope_buffer, sizeof envelope_buffer,
             header_buffer, sizeof header_buffer).number;
     }
     return NULL;
@@ -118,19 +119,21 @@ int main(void)
         "X-Note: " E_ACUTE "\r\n " E_ACUTE "\r\n",
         "To: " E_ACUTE "\r\n " E_ACUTE "\r\n",
     };
-    job nothing = {{NULL, 0}, {NULL, 0}, 0, 0};
+    job nothing = {{NULL, 0}, {NULL, 0}, 0, 0, 0};
     size_t least = used_by(&nothing);
     size_t most = least;
     size_t count = sizeof headers / sizeof headers[0];
     size_t i;
 
-    for (i = 0; i < case_count + count; i++) {
-        job j = {{NULL, 0}, {NULL, 0}, 1, 0};
+    for (i = 0; i < 2 * (case_count + count); i++) {
+        job j = {{NULL, 0}, {NULL, 0}, 0, 1, 0};
+        size_t at = i / 2;
         size_t used;
 
-        j.envelope = bytes_of(i < case_count ? cases[i].envelope : PLAIN);
-        j.header = bytes_of(i < case_count ? cases[i].header
-                                           : headers[i - case_count]);
+        j.setting = i % 2 == 0 ? HENNELAKU_SPOOL : HENNELAKU_CURRENT;
+        j.envelope = bytes_of(at < case_count ? cases[at].envelope : PLAIN);
+        j.header = bytes_of(at < case_count ? cases[at].header
+                                            : headers[at - case_count]);
         used = used_by(&j);
         if (used > most) {
             most = used;

@@ -2,6 +2,7 @@
 //! Written from document 01, Address fields, and the requests named below.
 
 use crate::address::{address, word};
+use crate::call::Setting;
 use crate::comment::{self, comment_end, Part};
 use crate::header::is_blank;
 use crate::sink::Sink;
@@ -27,10 +28,10 @@ pub trait Parts {
 /// "The text must be a comma list of mailboxes or groups (`phrase : mailboxes ;`, perhaps none), with runs of spaces
 /// and TABs allowed around `, : ; <` and at the end." [1]: comments "at the start of an address list and wherever
 /// spaces may stand in it outside `< >` and phrases". None where the text does not fit.
-pub fn list(text: &[u8], parts: &mut impl Parts) -> Option<()> {
+pub fn list(text: &[u8], setting: Setting, parts: &mut impl Parts) -> Option<()> {
     let mut at = gap(text, 0, parts)?;
     loop {
-        at = mailbox_or_group(text, at, parts)?;
+        at = mailbox_or_group(text, at, setting, parts)?;
         at = gap(text, at, parts)?;
         if at == text.len() {
             return Some(());
@@ -39,19 +40,19 @@ pub fn list(text: &[u8], parts: &mut impl Parts) -> Option<()> {
     }
 }
 
-fn mailbox_or_group(text: &[u8], at: usize, parts: &mut impl Parts) -> Option<usize> {
-    match mailbox(text, at, parts)? {
+fn mailbox_or_group(text: &[u8], at: usize, setting: Setting, parts: &mut impl Parts) -> Option<usize> {
+    match mailbox(text, at, setting, parts)? {
         Mailbox::End(end) => Some(end),
-        Mailbox::Phrase(end) => group_from_colon(text, end, parts),
+        Mailbox::Phrase(end) => group_from_colon(text, end, setting, parts),
     }
 }
 
 /// [4]: "If any member of a group has a non-ASCII address without an alternative, the whole group becomes the pieces
 /// before its colon", which have come, and what stands for its members. [4.2]: "The list must fit before the rule is
 /// used."
-fn group_from_colon(text: &[u8], colon: usize, parts: &mut impl Parts) -> Option<usize> {
+fn group_from_colon(text: &[u8], colon: usize, setting: Setting, parts: &mut impl Parts) -> Option<usize> {
     let mut look = Look::default();
-    let semicolon = members(text, colon, &mut look)?;
+    let semicolon = members(text, colon, setting, &mut look)?;
     if look.removed {
         // "everything between its colon and semicolon (spaces and TABs at both ends dropped)"
         let mut between = &text[colon + 1..semicolon];
@@ -61,18 +62,18 @@ fn group_from_colon(text: &[u8], colon: usize, parts: &mut impl Parts) -> Option
         parts.removed_members(between);
         return gap(text, semicolon + 1, parts);
     }
-    members(text, colon, parts)?;
+    members(text, colon, setting, parts)?;
     mark(text, semicolon, b';', parts)
 }
 
 /// From a group's colon to its semicolon. A member is a mailbox: no group stands inside a group.
-fn members(text: &[u8], colon: usize, parts: &mut impl Parts) -> Option<usize> {
+fn members(text: &[u8], colon: usize, setting: Setting, parts: &mut impl Parts) -> Option<usize> {
     let mut at = mark(text, colon, b':', parts)?;
     if text.get(at) == Some(&b';') {
         return Some(at);
     }
     loop {
-        at = match mailbox(text, at, parts)? {
+        at = match mailbox(text, at, setting, parts)? {
             Mailbox::End(end) => gap(text, end, parts)?,
             Mailbox::Phrase(_) => return None,
         };
@@ -92,7 +93,7 @@ enum Mailbox {
 
 /// "A mailbox is a bare address, or an optional phrase and `<address>`, or with an alternative
 /// `<address <ASCII address>>`, the first non-ASCII, at least one space or TAB between."
-fn mailbox(text: &[u8], at: usize, parts: &mut impl Parts) -> Option<Mailbox> {
+fn mailbox(text: &[u8], at: usize, setting: Setting, parts: &mut impl Parts) -> Option<Mailbox> {
     // No phrase has an `@` outside a quoted string, so what begins as an address is one.
     if let Some(end) = address(text, at) {
         parts.bare(within(text, at, end)?);
@@ -107,17 +108,21 @@ fn mailbox(text: &[u8], at: usize, parts: &mut impl Parts) -> Option<Mailbox> {
             return Some(Mailbox::Phrase(at));
         }
     }
-    angle(text, at, parts).map(Mailbox::End)
+    angle(text, at, setting, parts).map(Mailbox::End)
 }
 
 /// From `<` to behind its last `>`.
-fn angle(text: &[u8], at: usize, parts: &mut impl Parts) -> Option<usize> {
+fn angle(text: &[u8], at: usize, setting: Setting, parts: &mut impl Parts) -> Option<usize> {
     let start = blanks(text, at + 1);
     let end = address(text, start)?;
     let first = within(text, start, end)?;
     if text.get(end) == Some(&b'>') {
         parts.angle(first);
         return Some(end + 1);
+    }
+    // [13]: in a current message "an address with an inner alternative no longer fits an address field".
+    if setting == Setting::Current {
+        return None;
     }
     let inner = blanks(text, end);
     if inner == end || text.get(inner) != Some(&b'<') || first.is_ascii() {
@@ -229,9 +234,9 @@ impl Parts for Look {
 }
 
 /// None where the text does not fit; else whether any address is replaced or removed.
-pub fn replaces(text: &[u8]) -> Option<bool> {
+pub fn replaces(text: &[u8], setting: Setting) -> Option<bool> {
     let mut look = Look::default();
-    list(text, &mut look)?;
+    list(text, setting, &mut look)?;
     Some(look.replaced || look.removed)
 }
 
@@ -347,6 +352,6 @@ fn add_unquoted(row: &mut Row, sink: &mut impl Sink, word: &[u8]) {
 }
 
 /// The pieces of a text that fits.
-pub fn pieces(sink: &mut impl Sink, text: &[u8]) {
-    let _ = list(text, &mut Pieces { sink });
+pub fn pieces(sink: &mut impl Sink, text: &[u8], setting: Setting) {
+    let _ = list(text, setting, &mut Pieces { sink });
 }

@@ -23,6 +23,23 @@ pub struct Answer {
     pub header_len: usize,
 }
 
+/// [13]: "The caller says by a number whether a message is from the spool (0), treated as today, or current (any other)."
+#[derive(Clone, Copy, PartialEq, Eq, Debug)]
+pub enum Setting {
+    Spool,
+    Current,
+}
+
+impl Setting {
+    pub fn new(number: u64) -> Setting {
+        if number == 0 {
+            Setting::Spool
+        } else {
+            Setting::Current
+        }
+    }
+}
+
 pub const NEITHER: u32 = 0;
 pub const ENVELOPE: u32 = 1;
 pub const HEADER: u32 = 2;
@@ -38,15 +55,22 @@ fn refuse(number: u32, input: u32, place: usize, offset: usize) -> Answer {
 
 /// "Order: 1 (envelope first); then 2, 3 and 4 as the first envelope line at fault, the lowest number within one
 /// line; then the first 5; then 6, ORCPT lines before header fields (a field's place is its first line); then 7;
-/// then 8."
-pub fn downgrade(envelope: &[u8], header: &[u8], envelope_buffer: &mut [u8], header_buffer: &mut [u8]) -> Answer {
+/// then 8." [13.3]: in a current message 10 stands for 4.
+pub fn downgrade(
+    setting: u64,
+    envelope: &[u8],
+    header: &[u8],
+    envelope_buffer: &mut [u8],
+    header_buffer: &mut [u8],
+) -> Answer {
+    let setting = Setting::new(setting);
     if envelope.len() > LONGEST_ENVELOPE {
         return refuse(1, ENVELOPE, 0, 0);
     }
     if header.len() > LONGEST_HEADER {
         return refuse(1, HEADER, 1, 0);
     }
-    let envelope = match envelope::check(envelope) {
+    let envelope = match envelope::check(envelope, setting) {
         Ok(envelope) => envelope,
         Err(refusal) => return refuse(refusal.number, ENVELOPE, refusal.line, refusal.offset),
     };
@@ -58,9 +82,9 @@ pub fn downgrade(envelope: &[u8], header: &[u8], envelope_buffer: &mut [u8], hea
         return refuse(6, ENVELOPE, line, offset);
     }
     // Both outputs are counted before a byte is written.
-    let mut scratch = Vec::new();
+    let mut job = Job { setting, envelope: &envelope, header, scratch: Vec::new() };
     let mut header_count = Counter::default();
-    if let Err(start) = write_header(&mut header_count, &envelope, header, &mut scratch, held) {
+    if let Err(start) = job.write_header(&mut header_count, held) {
         // [8.5]: "the field's first non-ASCII byte"; the field has one.
         return refuse(6, HEADER, header::line_number(header, start), find(header, start, |b| b >= 128));
     }
@@ -74,7 +98,7 @@ pub fn downgrade(envelope: &[u8], header: &[u8], envelope_buffer: &mut [u8], hea
     }
     envelope.write(&mut Writer { buffer: envelope_buffer, at: 0 });
     // The count met no field that is held.
-    let _ = write_header(&mut Writer { buffer: header_buffer, at: 0 }, &envelope, header, &mut scratch, |_, _| false);
+    let _ = job.write_header(&mut Writer { buffer: header_buffer, at: 0 }, |_, _| false);
     let (envelope_len, header_len) = (envelope_count.len, header_count.len);
     Answer { number: 0, input: NEITHER, place: 0, offset: 0, envelope_len, header_len }
 }
@@ -87,48 +111,6 @@ fn held(kind: Kind, field: &Field) -> bool {
         Kind::Received => received::check(field.name.len(), field.value).is_err(),
         Kind::Address | Kind::Plain | Kind::Other => false,
     }
-}
-
-/// The new first fields, then each field downgraded. "A field whose value is ASCII is copied." Stops at a field that is
-/// held, with its place.
-fn write_header(
-    sink: &mut impl Sink,
-    envelope: &Envelope,
-    header: &[u8],
-    scratch: &mut Vec<u8>,
-    held: impl Fn(Kind, &Field) -> bool,
-) -> Result<(), usize> {
-    envelope.first_fields(sink);
-    let mut done = 0;
-    while let Some(field) = header::next_non_ascii(header, done) {
-        sink.put(&header[done..field.start]);
-        let kind = header::kind(field.name);
-        if held(kind, &field) {
-            return Err(field.start);
-        }
-        match kind {
-            Kind::Address => write_address_field(sink, &field, scratch),
-            // "Plain text: name, colon, encoded words of the text."
-            Kind::Plain => write_words(sink, b"", &field),
-            Kind::HeldOutsideComments => {
-                write_name(sink, &field);
-                comment::write_value(sink, field.value);
-                sink.put(b"\r\n");
-            }
-            Kind::Received => {
-                write_name(sink, &field);
-                received::write_value(sink, field.value);
-                sink.put(b"\r\n");
-            }
-            // Held above.
-            Kind::Held => {}
-            // "Every other name is encapsulated"
-            Kind::Other => encapsulate(sink, &field),
-        }
-        done = field.end;
-    }
-    sink.put(&header[done..]);
-    Ok(())
 }
 
 fn write_name(sink: &mut impl Sink, field: &Field) {
@@ -151,24 +133,72 @@ fn write_words(sink: &mut impl Sink, before_name: &[u8], field: &Field) {
     sink.put(b"\r\n");
 }
 
-fn write_address_field(sink: &mut impl Sink, field: &Field, scratch: &mut Vec<u8>) {
-    let mut text = field.folded_text();
-    if text.contains(&b'\r') {
-        scratch.clear();
-        header::unfolded(text, |part| scratch.extend_from_slice(part));
-        text = scratch;
+/// What the outgoing header is made from.
+struct Job<'a> {
+    setting: Setting,
+    envelope: &'a Envelope<'a>,
+    header: &'a [u8],
+    /// For texts without their folds.
+    scratch: Vec<u8>,
+}
+
+impl Job<'_> {
+    /// The new first fields, then each field downgraded. "A field whose value is ASCII is copied." Stops at a field that is
+    /// held, with its place.
+    fn write_header(&mut self, sink: &mut impl Sink, held: impl Fn(Kind, &Field) -> bool) -> Result<(), usize> {
+        let header = self.header;
+        self.envelope.first_fields(sink);
+        let mut done = 0;
+        while let Some(field) = header::next_non_ascii(header, done) {
+            sink.put(&header[done..field.start]);
+            let kind = header::kind(field.name);
+            if held(kind, &field) {
+                return Err(field.start);
+            }
+            match kind {
+                Kind::Address => self.write_address_field(sink, &field),
+                // "Plain text: name, colon, encoded words of the text."
+                Kind::Plain => write_words(sink, b"", &field),
+                Kind::HeldOutsideComments => {
+                    write_name(sink, &field);
+                    comment::write_value(sink, field.value);
+                    sink.put(b"\r\n");
+                }
+                Kind::Received => {
+                    write_name(sink, &field);
+                    received::write_value(sink, field.value);
+                    sink.put(b"\r\n");
+                }
+                // Held above.
+                Kind::Held => {}
+                // "Every other name is encapsulated"
+                Kind::Other => encapsulate(sink, &field),
+            }
+            done = field.end;
+        }
+        sink.put(&header[done..]);
+        Ok(())
     }
-    match address_list::replaces(text) {
-        // "Text that does not fit is encapsulated."
-        None => encapsulate(sink, field),
-        Some(replaces) => {
-            write_name(sink, field);
-            address_list::pieces(sink, text);
-            sink.put(b"\r\n");
-            // "If any address was replaced or removed, a `Downgraded-` field with encoded words of the original
-            // text follows the rewritten field."
-            if replaces {
-                encapsulate(sink, field);
+
+    fn write_address_field(&mut self, sink: &mut impl Sink, field: &Field) {
+        let mut text = field.folded_text();
+        if text.contains(&b'\r') {
+            self.scratch.clear();
+            header::unfolded(text, |part| self.scratch.extend_from_slice(part));
+            text = &self.scratch;
+        }
+        match address_list::replaces(text, self.setting) {
+            // "Text that does not fit is encapsulated."
+            None => encapsulate(sink, field),
+            Some(replaces) => {
+                write_name(sink, field);
+                address_list::pieces(sink, text, self.setting);
+                sink.put(b"\r\n");
+                // "If any address was replaced or removed, a `Downgraded-` field with encoded words of the original
+                // text follows the rewritten field."
+                if replaces {
+                    encapsulate(sink, field);
+                }
             }
         }
     }

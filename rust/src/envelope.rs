@@ -1,7 +1,8 @@
-//! The envelope: its lines checked (2, 3, 4, and 6 for ORCPT), what replaces their paths, and the writing.
+//! The envelope: its lines checked (2, 3, 4, 10, and 6 for ORCPT), what replaces their paths, and the writing.
 //! Written from document 01, Envelope lines and Address fields, and the requests named below.
 
 use crate::address::{address, decode_xtext, is_ascii_address, value_end, LINE};
+use crate::call::Setting;
 use crate::offset;
 use crate::sink::Sink;
 use crate::utf8::{find, is_utf8};
@@ -24,6 +25,7 @@ struct Swap {
 
 /// A well-formed envelope.
 pub struct Envelope<'a> {
+    setting: Setting,
     bytes: &'a [u8],
     lines: usize,
     swaps: [Swap; LINES],
@@ -48,9 +50,9 @@ pub struct Line {
     held: Option<usize>,
 }
 
-/// "2, 3 and 4 as the first envelope line at fault, the lowest number within one line"
-pub fn check(bytes: &[u8]) -> Result<Envelope<'_>, Refusal> {
-    let mut envelope = Envelope { bytes, lines: 0, swaps: [Swap::default(); LINES], swapped: 0, held: None };
+/// "2, 3 and 4 as the first envelope line at fault, the lowest number within one line", and 10 of [13].
+pub fn check(bytes: &[u8], setting: Setting) -> Result<Envelope<'_>, Refusal> {
+    let mut envelope = Envelope { setting, bytes, lines: 0, swaps: [Swap::default(); LINES], swapped: 0, held: None };
     let mut start = 0;
     while start < bytes.len() {
         let line = envelope.lines;
@@ -165,6 +167,8 @@ impl Envelope<'_> {
             // 3: "path not ASCII, no ALT-ADDRESS". [8.8]: "3 points at the byte after `<`, 4 at the byte after the `=`".
             None if !path.is_ascii() => return Err((3, start + parts.path)),
             None => {}
+            // 10: "ALT-ADDRESS in a current message, on its line after 2, in place of 4 and with 4's offset"
+            Some((_, value, _)) if self.setting == Setting::Current => return Err((10, start + value)),
             // 4: "ALT-ADDRESS beside an ASCII path, or not xtext of an ASCII address"
             Some((_, value, end)) if path.is_ascii() || !is_alternative(&line[value..end]) => {
                 return Err((4, start + value))

@@ -1222,12 +1222,23 @@ pub fn random_bytes(r: &mut Random) -> Vec<u8> {
         .collect()
 }
 
-/// One input.
-pub fn input(r: &mut Random) -> (Vec<u8>, Vec<u8>) {
+/// From the spool and current by halves; now and then a number that is 0 if it is cut.
+pub fn setting(r: &mut Random) -> u64 {
+    match r.below(16) {
+        0..=7 => 0,
+        8 => 1 << r.below(64),
+        9 => r.number() << r.below(64) | 1 << 63,
+        _ => [1, 2, 255, 256, 1 << 32, 1 << 63, u64::MAX][r.below(7)],
+    }
+}
+
+/// One message for this setting.
+pub fn input(r: &mut Random, setting: u64) -> (Vec<u8>, Vec<u8>) {
+    // A plain envelope, so that the header decides: more often where an ALT-ADDRESS is refused.
+    let plain = if setting == 0 { 15 } else { 26 };
     let mut e = match r.below(40) {
         0 => random_bytes(r),
-        // A plain envelope, so that the header decides.
-        1..=15 => b"MAIL FROM:<a@x>\r\nRCPT TO:<b@y>\r\n".to_vec(),
+        n if n <= plain => b"MAIL FROM:<a@x>\r\nRCPT TO:<b@y>\r\n".to_vec(),
         _ => envelope(r),
     };
     let mut h = if r.once_in(40) { random_bytes(r) } else { header(r) };

@@ -15,7 +15,9 @@ struct ProvedAnswer {
 
 #[link(name = "hennelaku", kind = "static")]
 extern "C" {
+    fn hennelaku_version() -> u32;
     fn hennelaku_downgrade_slices(
+        setting: u64,
         envelope: *const u8,
         envelope_len: usize,
         header: *const u8,
@@ -27,10 +29,30 @@ extern "C" {
     ) -> ProvedAnswer;
 }
 
-pub fn downgrade(envelope: &[u8], header: &[u8], envelope_buffer: &mut [u8], header_buffer: &mut [u8]) -> Answer {
+/// The first version whose call has a setting.
+const VERSION: u32 = 300;
+
+/// Ends the program if the library's calls are not those declared here.
+pub fn check_version() {
+    // SAFETY: it takes nothing.
+    let version = unsafe { hennelaku_version() };
+    if version < VERSION {
+        eprintln!("libhennelaku.a has version {version}; {VERSION} or later is needed");
+        std::process::exit(2);
+    }
+}
+
+pub fn downgrade(
+    setting: u64,
+    envelope: &[u8],
+    header: &[u8],
+    envelope_buffer: &mut [u8],
+    header_buffer: &mut [u8],
+) -> Answer {
     // SAFETY: each pointer comes from a slice with its length; the two buffers are apart from all others.
     let answer = unsafe {
         hennelaku_downgrade_slices(
+            setting,
             envelope.as_ptr(),
             envelope.len(),
             header.as_ptr(),

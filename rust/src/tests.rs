@@ -9,11 +9,15 @@ use crate::{downgrade, Answer};
 const MAIL: &str = "MAIL FROM:<a@x>\r\n";
 const RCPT: &str = "RCPT TO:<b@y>\r\n";
 
-/// The answer, and both outputs where it is 0.
+/// The answer for a message from the spool, and both outputs where it is 0.
 fn call(envelope: &[u8], header: &[u8]) -> (Answer, String, String) {
+    call_set(0, envelope, header)
+}
+
+fn call_set(setting: u64, envelope: &[u8], header: &[u8]) -> (Answer, String, String) {
     let mut envelope_buffer = vec![0xEE; 20_000];
     let mut header_buffer = vec![0xEE; 700_000];
-    let answer = downgrade(envelope, header, &mut envelope_buffer, &mut header_buffer);
+    let answer = downgrade(setting, envelope, header, &mut envelope_buffer, &mut header_buffer);
     assert!(envelope_buffer[answer.envelope_len..].iter().all(|&b| b == 0xEE));
     assert!(header_buffer[answer.header_len..].iter().all(|&b| b == 0xEE));
     envelope_buffer.truncate(answer.envelope_len);
@@ -176,7 +180,8 @@ fn buffers_of_just_the_length() {
     ] {
         let mut envelope_buffer = vec![0xEE; envelope_room];
         let mut header_buffer = vec![0xEE; header_room];
-        let a = downgrade(WHOLE_ENVELOPE.as_bytes(), WHOLE_HEADER.as_bytes(), &mut envelope_buffer, &mut header_buffer);
+        let a =
+            downgrade(0, WHOLE_ENVELOPE.as_bytes(), WHOLE_HEADER.as_bytes(), &mut envelope_buffer, &mut header_buffer);
         assert_eq!((a.number, a.place, a.envelope_len, a.header_len), want);
         if a.number != 0 {
             assert!(envelope_buffer.iter().chain(&header_buffer).all(|&b| b == 0xEE));
@@ -287,9 +292,9 @@ fn order_of_refusals() {
     assert_eq!(answer(orcpt.as_bytes(), "Date: é\r\n".as_bytes()), (6, 2));
     assert_eq!(answer(good.as_bytes(), "A: b\r\n c\r\nDate:\r\n é\r\n".as_bytes()), (6, 2));
     // 6 before 7 and 8.
-    let refused = downgrade(good.as_bytes(), "Date: é\r\n".as_bytes(), &mut [], &mut []);
+    let refused = downgrade(0, good.as_bytes(), "Date: é\r\n".as_bytes(), &mut [], &mut []);
     assert_eq!((refused.number, refused.place), (6, 0));
-    let refused = downgrade(good.as_bytes(), b"A: b\r\n", &mut [], &mut []);
+    let refused = downgrade(0, good.as_bytes(), b"A: b\r\n", &mut [], &mut []);
     assert_eq!((refused.number, refused.place), (7, 32));
 }
 
@@ -555,9 +560,9 @@ fn offsets_of_the_other_refusals() {
     assert_eq!(offset_of(good.as_bytes(), "A: é\r\n".as_bytes()), (0, 0, 0));
     assert_eq!(offset_of(&[b'x'; 16_385], b""), (1, 0, 0));
     assert_eq!(offset_of(b"", &[b'x'; 32_769]), (1, 1, 0));
-    let refused = downgrade(good.as_bytes(), b"A: b\r\n", &mut [0; 31], &mut [0; 6]);
+    let refused = downgrade(0, good.as_bytes(), b"A: b\r\n", &mut [0; 31], &mut [0; 6]);
     assert_eq!((refused.number, refused.offset), (7, 0));
-    let refused = downgrade(good.as_bytes(), b"A: b\r\n", &mut [0; 32], &mut [0; 5]);
+    let refused = downgrade(0, good.as_bytes(), b"A: b\r\n", &mut [0; 32], &mut [0; 5]);
     assert_eq!((refused.number, refused.offset), (8, 0));
 }
 
@@ -566,7 +571,7 @@ fn input_that_an_answer_is_about() {
     let good = MAIL.to_string() + RCPT;
     let orcpt = "MAIL FROM:<a@x>\r\nRCPT TO:<b@y> ORCPT=é\r\n";
     let input = |envelope: &[u8], header: &[u8], rooms: (usize, usize)| {
-        let answer = downgrade(envelope, header, &mut vec![0; rooms.0], &mut vec![0; rooms.1]);
+        let answer = downgrade(0, envelope, header, &mut vec![0; rooms.0], &mut vec![0; rooms.1]);
         (answer.number, answer.input)
     };
     let whole = |envelope: &str, header: &str| input(envelope.as_bytes(), header.as_bytes(), (1000, 1000));
@@ -1565,4 +1570,91 @@ fn lines_of_received_that_grow() {
     // A second field is another one.
     let header = format!("Received: for <é@x>\r\nReceived:{}\r\n", line(999));
     assert_eq!(answer((MAIL.to_string() + RCPT).as_bytes(), header.as_bytes()), (6, 1));
+}
+
+// The setting
+
+/// [13.2]: "every number but 0"
+const CURRENT: [u64; 8] = [1, 2, 255, 256, 1 << 16, 1 << 32, 1 << 63, u64::MAX];
+
+#[test]
+fn alternatives_in_a_current_envelope() {
+    let answer = |setting: u64, lines: &[&str], header: &str| {
+        let envelope = lines.join("\r\n") + "\r\n";
+        let (answer, ..) = call_set(setting, envelope.as_bytes(), header.as_bytes());
+        assert!(answer.number == 0 || answer.input == ENVELOPE);
+        (answer.number, answer.place, answer.offset)
+    };
+    for setting in CURRENT {
+        // [13.1]: beside any path, xtext or not. [13.4]: the first byte of the value.
+        for path in ["a@x", "é@x"] {
+            for value in ["a@x", "a", "+2b", "a+2Bb@x", "+", "<>"] {
+                let line = format!("MAIL FROM:<{path}> X=1 Alt-Address={value} Y");
+                let offset = line.find("ess=").unwrap() + 4;
+                assert_eq!(answer(setting, &[&line, "RCPT TO:<b@y>"], "bad"), (10, 0, offset));
+                let line = format!("RCPT TO:<{path}> ALT-ADDRESS={value}");
+                let offset = 17 + line.find("ESS=").unwrap() + 4;
+                assert_eq!(answer(setting, &["MAIL FROM:<a@x>", &line], ""), (10, 1, offset));
+            }
+        }
+        assert_eq!(answer(setting, &["MAIL FROM:<> ALT-ADDRESS=a@x", "RCPT TO:<b@y>"], ""), (10, 0, 25));
+        assert_eq!(answer(setting, &["MAIL FROM:<>", "RCPT TO:<Postmaster> ALT-ADDRESS=a@x"], ""), (10, 1, 47));
+        for line in [
+            "RCPT TO:<é@x> ALT-ADDRESS",
+            "RCPT TO:<é@x> ALT-ADDRESS=",
+            "RCPT TO:<é@x> ALT-ADDRESS=a ALT-ADDRESS=a",
+            "RCPT TO:<é@x> ALT-ADDRESS=a=",
+            "RCPT TO:<é@x> ALT-ADDRESS=é",
+            "RCPT TO:<é@x> ALT-ADDRESS=a -",
+        ] {
+            let current = answer(setting, &["MAIL FROM:<>", line], "");
+            assert_eq!(current.0, 2, "{line}");
+            assert_eq!(current, answer(0, &["MAIL FROM:<>", line], ""));
+        }
+        // [13.3]
+        assert_eq!(answer(setting, &["MAIL FROM:<> ALT-ADDRESS=a@x", "bad"], "bad"), (10, 0, 25));
+        assert_eq!(answer(setting, &["MAIL FROM:<é@x>", "RCPT TO:<é@y> ALT-ADDRESS=a@x"], ""), (3, 0, 11));
+        assert_eq!(answer(setting, &["MAIL FROM:<>", "bad", "RCPT TO:<b@y> ALT-ADDRESS=a@x"], ""), (2, 1, 14));
+        assert_eq!(answer(setting, &["MAIL FROM:<>", "RCPT TO:<b@y> ORCPT=é ALT-ADDRESS=a"], "Date: é\r\n").0, 10);
+        assert_eq!(answer(setting, &["MAIL FROM:<>", "RCPT TO:<b@y> ORCPT=é"], "").0, 6);
+        let long = "x".repeat(16_385);
+        assert_eq!(answer(setting, &["MAIL FROM:<> ALT-ADDRESS=a@x", &long], ""), (1, 0, 0));
+        let refused = downgrade(setting, "MAIL FROM:<> ALT-ADDRESS=a@x\r\n".as_bytes(), b"", &mut [], &mut []);
+        assert_eq!((refused.number, refused.envelope_len, refused.header_len), (10, 0, 0));
+        // ALT-ADDRESS is another parameter in no other way.
+        assert_eq!(answer(setting, &["MAIL FROM:<>", "RCPT TO:<b@y> ALT-ADDRESSX=a ALT-ADDRES=b"], ""), (0, 0, 0));
+    }
+    assert_eq!(answer(0, &["MAIL FROM:<é@x> ALT-ADDRESS=a@x", "RCPT TO:<b@y>"], ""), (0, 0, 0));
+    assert_eq!(answer(0, &["MAIL FROM:<> ALT-ADDRESS=a@x", "RCPT TO:<b@y>"], ""), (4, 0, 25));
+}
+
+#[test]
+fn inner_alternatives_of_a_current_message() {
+    let envelope = MAIL.to_string() + RCPT;
+    let current = |setting: u64, header: &str| {
+        let (answer, _, out) = call_set(setting, envelope.as_bytes(), header.as_bytes());
+        assert_eq!(answer.number, 0, "{header:?}");
+        out
+    };
+    for setting in CURRENT {
+        // [13.5]: also where a group would go as a whole.
+        for text in [
+            "<é@x <a@b>>", "é <é@x <a@b>>", "b@c, <é@x <a@b>>", "g:<é@x <a@b>>;", "g:é@x,<é@x <a@b>>;",
+            "<é@x\t< a@b>> (c)",
+        ] {
+            let row = current(setting, &format!("To: {text}\r\n"));
+            let row = row.strip_prefix("Downgraded-To:").unwrap().strip_suffix("\r\n").unwrap();
+            assert_eq!(read_row(row.as_bytes()).unwrap().0, text.as_bytes());
+        }
+        let ascii = "To: <a@b <c@d>>\r\n";
+        assert_eq!(current(setting, ascii), ascii);
+        // Without one all is as ever.
+        for header in [
+            "To: é@x\r\n", "To: é <a@b>, g:é@x;\r\n", "From: (é) <é@x>\r\n", "Subject: é\r\n", "X: <é@x <a@b>>\r\n",
+            "Received: x for <é@x>\r\n", "To: é <a@b <c@d>>\r\n",
+        ] {
+            assert_eq!(current(setting, header), out(header), "{header}");
+        }
+    }
+    assert!(out("To: <é@x <a@b>>\r\n").starts_with("To:\r\n <a@b>\r\nDowngraded-To: "));
 }

@@ -4,7 +4,7 @@
 //! let envelope = "MAIL FROM:<é@example.org> ALT-ADDRESS=e+2Bx@example.org\r\nRCPT TO:<b@example.net>\r\n";
 //! let header = "Subject: é\r\n";
 //!
-//! match hennelaku::downgrade_to_vec(envelope.as_bytes(), header.as_bytes()) {
+//! match hennelaku::downgrade_to_vec(hennelaku::Setting::Spool, envelope.as_bytes(), header.as_bytes()) {
 //!     Ok(message) => assert!(message.envelope.starts_with(b"MAIL FROM:<e+x@example.org>\r\n")),
 //!     Err(refusal) => println!("{} {refusal}", refusal.reply().code),
 //! }
@@ -16,7 +16,7 @@ use std::ffi::{c_char, CStr};
 use std::fmt;
 
 /// The version of hennelaku.h that this crate is written for.
-pub const VERSION: u32 = 200;
+pub const VERSION: u32 = 300;
 
 /// Bytes of an envelope and of a header, at most; longer ones are refused.
 pub const MAX_ENVELOPE: usize = 16_384;
@@ -62,6 +62,7 @@ mod c {
         pub fn hennelaku_number_text(number: u32) -> *const c_char;
         pub fn hennelaku_smtp_reply(number: u32) -> Reply;
         pub fn hennelaku_downgrade(
+            setting: u64,
             envelope: *const u8,
             envelope_len: usize,
             header: *const u8,
@@ -95,10 +96,11 @@ pub enum Reason {
     EnvelopeRoom = 7,
     /// The outgoing header is longer than its buffer.
     HeaderRoom = 8,
+    /// An ALT-ADDRESS stands in a current message.
+    AltAddressRetired = 10,
 }
 
-/// Every reason; the one with the number n stands at n - 1.
-const REASONS: [Reason; 8] = [
+const REASONS: [Reason; 9] = [
     Reason::TooLong,
     Reason::EnvelopeLine,
     Reason::NoAltAddress,
@@ -107,9 +109,16 @@ const REASONS: [Reason; 8] = [
     Reason::Held,
     Reason::EnvelopeRoom,
     Reason::HeaderRoom,
+    Reason::AltAddressRetired,
 ];
 
 impl Reason {
+    /// The reason with a number that the library answered.
+    fn of(number: u32) -> Reason {
+        let found = REASONS.into_iter().find(|reason| reason.number() == number);
+        found.unwrap_or_else(|| panic!("libhennelaku answered {number}"))
+    }
+
     /// The library's number.
     pub fn number(self) -> u32 {
         self as u32
@@ -143,6 +152,16 @@ pub struct Reply {
     pub code: u32,
     pub enhanced: &'static str,
     pub text: &'static str,
+}
+
+/// Where a message is from.
+#[derive(Clone, Copy, Debug, PartialEq, Eq, Hash)]
+#[repr(u64)]
+pub enum Setting {
+    /// From the spool: alternatives may be named.
+    Spool = 0,
+    /// By RFC 6531, which has no alternatives.
+    Current = 1,
 }
 
 /// The input that a refusal is about, or whose output has no room.
@@ -205,9 +224,8 @@ fn result(answer: c::Answer) -> Result<Lengths, Refusal> {
     if answer.number == 0 {
         return Ok(Lengths { envelope: answer.envelope_len, header: answer.header_len });
     }
-    let reason = REASONS.get(answer.number as usize - 1).copied();
     Err(Refusal {
-        reason: reason.unwrap_or_else(|| panic!("libhennelaku answered {}", answer.number)),
+        reason: Reason::of(answer.number),
         input: if answer.input == 1 { Input::Envelope } else { Input::Header },
         place: answer.place,
         offset: answer.offset,
@@ -219,6 +237,7 @@ fn result(answer: c::Answer) -> Result<Lengths, Refusal> {
 /// # Panics
 /// Where the library that is linked is not of [`VERSION`]: its answer may have other members.
 pub fn downgrade(
+    setting: Setting,
     envelope: &[u8],
     header: &[u8],
     envelope_buffer: &mut [u8],
@@ -229,6 +248,7 @@ pub fn downgrade(
     // members of this version.
     result(unsafe {
         c::hennelaku_downgrade(
+            setting as u64,
             envelope.as_ptr(),
             envelope.len(),
             header.as_ptr(),
@@ -252,12 +272,12 @@ pub struct Downgraded {
 ///
 /// # Panics
 /// As [`downgrade`].
-pub fn downgrade_to_vec(envelope: &[u8], header: &[u8]) -> Result<Downgraded, Refusal> {
+pub fn downgrade_to_vec(setting: Setting, envelope: &[u8], header: &[u8]) -> Result<Downgraded, Refusal> {
     let mut message = Downgraded {
         envelope: vec![0; envelope.len().min(ENVELOPE_ROOM_MAX)],
         header: vec![0; header_room_for(header.len())],
     };
-    let lengths = downgrade(envelope, header, &mut message.envelope, &mut message.header)?;
+    let lengths = downgrade(setting, envelope, header, &mut message.envelope, &mut message.header)?;
     message.envelope.truncate(lengths.envelope);
     message.header.truncate(lengths.header);
     message.header.shrink_to_fit();

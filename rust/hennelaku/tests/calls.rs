@@ -7,7 +7,7 @@ const HEADER: &str = "Subject: é\r\nX-Note: ok\r\n";
 const PLAIN: &str = "MAIL FROM:<a@x>\r\nRCPT TO:<b@x>\r\n";
 
 fn refused(envelope: &str, header: &[u8]) -> Refusal {
-    downgrade_to_vec(envelope.as_bytes(), header).unwrap_err()
+    downgrade_to_vec(Setting::Spool, envelope.as_bytes(), header).unwrap_err()
 }
 
 fn refusal(reason: Reason, input: Input, place: usize, offset: usize) -> Refusal {
@@ -23,7 +23,7 @@ fn version_of_the_library() {
 
 #[test]
 fn whole_case() {
-    let message = downgrade_to_vec(ENVELOPE.as_bytes(), HEADER.as_bytes()).unwrap();
+    let message = downgrade_to_vec(Setting::Spool, ENVELOPE.as_bytes(), HEADER.as_bytes()).unwrap();
     assert_eq!(message.envelope, b"MAIL FROM:<e+x@example.org>\r\nRCPT TO:<b@example.net>\r\n");
     assert_eq!(message.header.len(), 146);
     assert!(message.header.ends_with(b"Subject: =?UTF-8?Q?=C3=A9?=\r\nX-Note: ok\r\n"));
@@ -33,7 +33,7 @@ fn whole_case() {
 fn buffers_of_just_the_size_and_a_byte_short() {
     let call = |envelope_room: usize, header_room: usize| {
         let (mut e, mut h) = (vec![0xA5; envelope_room], vec![0xA5; header_room]);
-        let answer = downgrade(ENVELOPE.as_bytes(), HEADER.as_bytes(), &mut e, &mut h);
+        let answer = downgrade(Setting::Spool, ENVELOPE.as_bytes(), HEADER.as_bytes(), &mut e, &mut h);
         let untouched = e.iter().chain(&h).all(|&byte| byte == 0xA5);
         (answer, untouched)
     };
@@ -56,8 +56,21 @@ fn every_refusal() {
 }
 
 #[test]
+fn current_messages() {
+    let current =
+        |envelope: &str, header: &str| downgrade_to_vec(Setting::Current, envelope.as_bytes(), header.as_bytes());
+    let at = |offset| refusal(Reason::AltAddressRetired, Input::Envelope, 0, offset);
+    assert_eq!(current(ENVELOPE, ""), Err(at(39)));
+    assert_eq!(current("MAIL FROM:<a@x> ALT-ADDRESS=b@x\r\n", ""), Err(at(28)));
+    let header = "To: <é@x <e@x>>\r\n";
+    assert_eq!(current(PLAIN, header).unwrap().header, b"Downgraded-To: =?UTF-8?Q?=3C=C3=A9=40x_=3Ce=40x=3E=3E?=\r\n");
+    let spool = downgrade_to_vec(Setting::Spool, PLAIN.as_bytes(), header.as_bytes()).unwrap();
+    assert!(spool.header.starts_with(b"To:\r\n <e@x>\r\n"));
+}
+
+#[test]
 fn empty_header() {
-    let message = downgrade_to_vec(PLAIN.as_bytes(), b"").unwrap();
+    let message = downgrade_to_vec(Setting::Spool, PLAIN.as_bytes(), b"").unwrap();
     assert_eq!((message.envelope.as_slice(), message.header.len()), (PLAIN.as_bytes(), 0));
 }
 
@@ -79,6 +92,7 @@ fn replies_and_words() {
         (Reason::Held, 554, "5.6.9"),
         (Reason::EnvelopeRoom, 451, "4.3.1"),
         (Reason::HeaderRoom, 451, "4.3.1"),
+        (Reason::AltAddressRetired, 555, "5.5.4"),
     ];
     for (reason, code, enhanced) in replies {
         assert_eq!((reason.reply().code, reason.reply().enhanced), (code, enhanced));

@@ -6,10 +6,14 @@ use hennelaku_model::{downgrade, proved, Answer};
 use std::hint::black_box;
 use std::time::{Duration, Instant};
 
-type Call = fn(&[u8], &[u8], &mut [u8], &mut [u8]) -> Answer;
+type Call = fn(u64, &[u8], &[u8], &mut [u8], &mut [u8]) -> Answer;
 
 const ENVELOPE: &str = "MAIL FROM:<é@example.org> SIZE=1000 ALT-ADDRESS=e+2Bx@example.org\r\n\
     RCPT TO:<b@example.net>\r\nRCPT TO:<αβ@example.net> ALT-ADDRESS=ab@example.net\r\n";
+
+/// One that a current message may have.
+const CURRENT_ENVELOPE: &str =
+    "MAIL FROM:<e+x@example.org> SIZE=1000\r\nRCPT TO:<b@example.net>\r\nRCPT TO:<ab@example.net>\r\n";
 
 /// A header of about `size` bytes: these fields over and over, the last one cut to an ASCII field.
 fn header(size: usize, fields: &[&str]) -> Vec<u8> {
@@ -103,34 +107,45 @@ struct Buffers {
 }
 
 /// Nanoseconds for each call, over `times` calls.
-fn time(call: Call, header: &[u8], buffers: &mut Buffers, times: u32) -> f64 {
+fn time(call: Call, setting: u64, header: &[u8], buffers: &mut Buffers, times: u32) -> f64 {
+    let envelope = if setting == 0 { ENVELOPE } else { CURRENT_ENVELOPE };
     let start = Instant::now();
     for _ in 0..times {
-        let answer =
-            call(black_box(ENVELOPE.as_bytes()), black_box(header), &mut buffers.envelope, &mut buffers.header);
+        let answer = call(
+            black_box(setting),
+            black_box(envelope.as_bytes()),
+            black_box(header),
+            &mut buffers.envelope,
+            &mut buffers.header,
+        );
         black_box(answer);
     }
     start.elapsed().as_nanos() as f64 / times as f64
 }
 
-/// The best of several rounds, the two by turns.
 fn compare(label: &str, header: &[u8]) {
+    compare_set(label, 0, header);
+}
+
+/// The best of several rounds, the two by turns.
+fn compare_set(label: &str, setting: u64, header: &[u8]) {
     if !label.contains(&std::env::args().nth(1).unwrap_or_default()) {
         return;
     }
     let mut buffers = Buffers { envelope: vec![0; 1000], header: vec![0; 1_048_576] };
     let mut again = Buffers { envelope: vec![0; 1000], header: vec![0; 1_048_576] };
-    let model = downgrade(ENVELOPE.as_bytes(), header, &mut buffers.envelope, &mut buffers.header);
-    let other = proved::downgrade(ENVELOPE.as_bytes(), header, &mut again.envelope, &mut again.header);
+    let envelope = if setting == 0 { ENVELOPE } else { CURRENT_ENVELOPE }.as_bytes();
+    let model = downgrade(setting, envelope, header, &mut buffers.envelope, &mut buffers.header);
+    let other = proved::downgrade(setting, envelope, header, &mut again.envelope, &mut again.header);
     assert_eq!((model, model.number), (other, 0));
     assert!(buffers.envelope == again.envelope && buffers.header == again.header);
-    let once = time(downgrade, header, &mut buffers, 20).max(1.0);
+    let once = time(downgrade, setting, header, &mut buffers, 20).max(1.0);
     // Short rounds, so that many of them pass without a pause on a busy machine.
     let times = ((Duration::from_micros(500).as_nanos() as f64 / once) as u32).max(1);
     let (mut best_model, mut best_proved) = (f64::MAX, f64::MAX);
     for _ in 0..200 {
-        best_model = best_model.min(time(downgrade, header, &mut buffers, times));
-        best_proved = best_proved.min(time(proved::downgrade, header, &mut buffers, times));
+        best_model = best_model.min(time(downgrade, setting, header, &mut buffers, times));
+        best_proved = best_proved.min(time(proved::downgrade, setting, header, &mut buffers, times));
     }
     println!(
         "{label:<34} {:>6} in {:>7} out   proved {best_proved:>9.0} ns   model {best_model:>9.0} ns   ratio {:.2}",
@@ -141,6 +156,7 @@ fn compare(label: &str, header: &[u8]) {
 }
 
 fn main() {
+    proved::check_version();
     println!("the whole call; a ratio under 1 means that the proved call is faster");
     compare("small, mixed, 1 KB", &header(1024, MIXED));
     compare("long, non-ASCII, 30 KB", &header(30_720, NON_ASCII));
@@ -149,6 +165,9 @@ fn main() {
     println!();
     for size in [1, 4, 16, 32] {
         compare(&format!("mixed, {size} KB"), &header(size * 1024, MIXED));
+    }
+    for size in [1, 4, 16, 32] {
+        compare_set(&format!("mixed, current, {size} KB"), 1, &header(size * 1024, MIXED));
     }
     for size in [1, 4, 16, 32] {
         compare(&format!("non-ASCII, {size} KB"), &header(size * 1024, NON_ASCII));

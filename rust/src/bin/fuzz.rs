@@ -3,7 +3,7 @@
 //!     fuzz [--seed N] [--count N] [--seconds N]
 
 use hennelaku_model::address_list::Parts;
-use hennelaku_model::call::{ENVELOPE, HEADER, NEITHER};
+use hennelaku_model::call::{Setting, ENVELOPE, HEADER, NEITHER};
 use hennelaku_model::comment::{self, Part};
 use hennelaku_model::generate::{self, Random};
 use hennelaku_model::header::{is_blank, kind, next_non_ascii, Field, Kind};
@@ -19,7 +19,7 @@ use std::time::{Duration, Instant};
 /// Bytes before and after each buffer.
 const GUARD: usize = 64;
 
-type Call = fn(&[u8], &[u8], &mut [u8], &mut [u8]) -> Answer;
+type Call = fn(u64, &[u8], &[u8], &mut [u8], &mut [u8]) -> Answer;
 
 /// What a call leaves: its answer, and both buffers with their guards.
 #[derive(PartialEq)]
@@ -41,6 +41,7 @@ fn outcome(call: Call, input: &Input, salt: u8) -> Outcome {
     let mut envelope = filled(input.envelope_room, salt);
     let mut header = filled(input.header_room, salt);
     let answer = call(
+        input.setting,
         &input.envelope,
         &input.header,
         &mut envelope[GUARD..GUARD + input.envelope_room],
@@ -50,6 +51,7 @@ fn outcome(call: Call, input: &Input, salt: u8) -> Outcome {
 }
 
 struct Input {
+    setting: u64,
     envelope: Vec<u8>,
     header: Vec<u8>,
     envelope_room: usize,
@@ -60,8 +62,12 @@ struct Input {
 /// before."
 fn fault(input: &Input, got: &Outcome, salt: u8) -> Option<String> {
     let a = got.answer;
-    if a.number > 8 {
-        return Some("a number above 8".into());
+    let known = match Setting::new(input.setting) {
+        Setting::Spool => a.number <= 8,
+        Setting::Current => a.number <= 10 && a.number != 4 && a.number != 9,
+    };
+    if !known {
+        return Some("a number that the call does not have".into());
     }
     if a.number != 0 && (a.envelope_len, a.header_len) != (0, 0) {
         return Some("lengths after a refusal".into());
@@ -113,7 +119,7 @@ fn fields(header: &[u8]) -> Vec<&[u8]> {
 
 /// A rewritten address field of the outgoing header that is no address list by RFC 5322, as one with a group inside a
 /// group.
-fn unlike_rfc5322(header: &[u8], out: &[u8]) -> Option<String> {
+fn unlike_rfc5322(setting: Setting, header: &[u8], out: &[u8]) -> Option<String> {
     let out = fields(out);
     // For each field of the header whether it is rewritten as an address list, and how many are written for it.
     let mut written = Vec::new();
@@ -121,7 +127,7 @@ fn unlike_rfc5322(header: &[u8], out: &[u8]) -> Option<String> {
         let replaces = next_non_ascii(field, 0).filter(|field| kind(field.name) == Kind::Address).map(|field| {
             let mut text = Vec::new();
             header::unfolded(field.folded_text(), |part| text.extend_from_slice(part));
-            address_list::replaces(&text)
+            address_list::replaces(&text, setting)
         });
         written.push((matches!(replaces, Some(Some(_))), 1 + matches!(replaces, Some(Some(true))) as usize));
     }
@@ -201,6 +207,8 @@ fn first_line(name_len: usize, text: &[u8]) -> usize {
 /// Looks at an input and what the model made of it.
 fn look(met: &mut Met, input: &Input, got: &Outcome) {
     let number = got.answer.number;
+    let setting = Setting::new(input.setting);
+    let current = setting == Setting::Current;
     let lines = |bytes: &[u8], len: usize| bytes.split(|&b| b == b'\n').any(|line| line.len() == len + 1);
     let envelope_lines = input.envelope.iter().filter(|&&b| b == b'\n').count();
     met.count("1 for the envelope", number == 1 && got.answer.place == 0);
@@ -219,6 +227,17 @@ fn look(met: &mut Met, input: &Input, got: &Outcome) {
     met.count("6 for a Received with a for without an address", received == Some(Held::NoAddress));
     met.count("6 for a Received with non-ASCII elsewhere", received == Some(Held::Elsewhere));
     met.count("6 for a Received with a line past 998", received == Some(Held::Line));
+    met.count("current message", current);
+    met.count("current message by a number whose last 8 bits are 0", current && input.setting as u8 == 0);
+    met.count("current message by a number whose last 32 bits are 0", current && input.setting as u32 == 0);
+    let in_spool = if number == 10 { spool_answer(input) } else { got.answer };
+    met.count("10 where the spool has 0, 5, 6, 7 or 8", number == 10 && matches!(in_spool.number, 0 | 5..=8));
+    let same_offset = in_spool.offset == got.answer.offset;
+    met.count("10 where the spool has 4 at that byte", number == 10 && in_spool.number == 4 && same_offset);
+    let later = in_spool.place > got.answer.place && matches!(in_spool.number, 2..=4);
+    met.count("10 before a fault of the spool on a later line", number == 10 && later);
+    met.count("3 in a current message", number == 3 && current);
+    met.count("current message that is written", number == 0 && current);
     if number != 0 {
         return;
     }
@@ -231,6 +250,7 @@ fn look(met: &mut Met, input: &Input, got: &Outcome) {
     let mut comments = Comments::default();
     let mut groups = Groups::default();
     let mut clauses = Clauses::default();
+    let mut no_longer_fit = 0;
     let (mut names_of_76, mut folded, mut words_of_900) = (0, 0, 0);
     let mut first_lines = [0; 4];
     let mut from = 0;
@@ -254,7 +274,7 @@ fn look(met: &mut Met, input: &Input, got: &Outcome) {
                 from = field.end;
                 continue;
             }
-            Kind::Address => match address_list::replaces(&text) {
+            Kind::Address => match address_list::replaces(&text, setting) {
                 None => 2,
                 Some(false) => 3,
                 Some(true) if has(&text, b">>") => 4,
@@ -262,12 +282,13 @@ fn look(met: &mut Met, input: &Input, got: &Outcome) {
             },
         };
         fields[at] += 1;
+        no_longer_fit += (at == 2 && address_list::replaces(&text, Setting::Spool).is_some()) as usize;
         if at < 3 {
             first_lines[first_line(written_name_len(&field), &text)] += 1;
         }
         if at > 2 {
-            let _ = address_list::list(&text, &mut comments);
-            let _ = address_list::list(&text, &mut groups);
+            let _ = address_list::list(&text, setting, &mut comments);
+            let _ = address_list::list(&text, setting, &mut groups);
             words_of_900 += text.split(|&b| b" \t<>,:;\"".contains(&b)).any(|word| word.len() == 900) as usize;
         }
         names_of_76 += (field.name.len() == 76) as usize;
@@ -281,6 +302,7 @@ fn look(met: &mut Met, input: &Input, got: &Outcome) {
     met.count("plain text field", fields[0] > 0);
     met.count("field encapsulated", fields[1] > 0);
     met.count("address field that does not fit", fields[2] > 0);
+    met.count("address field that fits in the spool only", no_longer_fit > 0);
     met.count("address field with a phrase encoded alone", fields[3] > 0);
     met.count("address field with an alternative", fields[4] > 0);
     met.count("address field with one removed", fields[5] > 0);
@@ -319,6 +341,11 @@ fn look(met: &mut Met, input: &Input, got: &Outcome) {
     met.count("Received with a line that grew to 998", clauses.line_of_998 > 0);
     met.count("Received with a comment rewritten, no clause removed", clauses.comment_alone > 0);
     met.count("Received that ends in a for", clauses.ends_in_for > 0);
+}
+
+/// What a message from the spool would be answered, with all the room it wants.
+fn spool_answer(input: &Input) -> Answer {
+    downgrade(0, &input.envelope, &input.header, &mut vec![0; 17_000], &mut vec![0; 700_000])
 }
 
 /// What became of the Received fields of a header that is written.
@@ -538,7 +565,7 @@ fn show(label: &str, input: &Input, model: &Outcome, other: &Outcome, why: &str)
     println!("difference at {label}: {why}");
     println!("envelope ({} bytes): \"{}\"", input.envelope.len(), input.envelope.escape_ascii());
     println!("header ({} bytes): \"{}\"", input.header.len(), input.header.escape_ascii());
-    println!("rooms: {} {}", input.envelope_room, input.header_room);
+    println!("setting {}, rooms {} and {}", input.setting, input.envelope_room, input.header_room);
     for (name, got) in [("model", model), ("proved", other)] {
         println!("{name}: {:?}", got.answer);
         for (buffer, len) in [(&got.envelope, got.answer.envelope_len), (&got.header, got.answer.header_len)] {
@@ -551,13 +578,14 @@ fn show(label: &str, input: &Input, model: &Outcome, other: &Outcome, why: &str)
 
 /// One input with its rooms, made for what the model would write.
 fn next_input(r: &mut Random, scratch: &mut (Vec<u8>, Vec<u8>)) -> Input {
-    let (envelope, header) = generate::input(r);
-    let whole = downgrade(&envelope, &header, &mut scratch.0, &mut scratch.1);
+    let setting = generate::setting(r);
+    let (envelope, header) = generate::input(r, setting);
+    let whole = downgrade(setting, &envelope, &header, &mut scratch.0, &mut scratch.1);
     let (envelope_room, header_room) = match whole.number {
         0 => rooms(r, whole, &header),
         _ => (r.below(100), r.below(100)),
     };
-    Input { envelope, header, envelope_room, header_room }
+    Input { setting, envelope, header, envelope_room, header_room }
 }
 
 /// Both calls on one input; what the model left.
@@ -576,20 +604,23 @@ fn compare(input: &Input, salt: u8, label: &str) -> Outcome {
     if out.split(|&b| b == b'\n').any(|line| line.len() > 999) {
         show(label, input, &model, &other, "a line of more than 998 bytes");
     }
-    if let Some(why) = (other.answer.number == 0).then(|| unlike_rfc5322(&input.header, out)).flatten() {
+    if let Some(why) =
+        (other.answer.number == 0).then(|| unlike_rfc5322(Setting::new(input.setting), &input.header, out)).flatten()
+    {
         show(label, input, &model, &other, &why);
     }
     model
 }
 
 fn main() {
+    proved::check_version();
     let seed = option("--seed").unwrap_or(1);
     let seconds = option("--seconds").map(Duration::from_secs);
     let count = option("--count").unwrap_or(if seconds.is_some() { u64::MAX } else { 200_000 });
     let mut r = Random::new(seed);
     let start = Instant::now();
     let mut scratch = (vec![0; 17_000], vec![0; 700_000]);
-    let mut numbers = [0; 9];
+    let mut numbers = [0; 11];
     let mut met = Met::default();
     let mut line_faults = hennelaku_model::line_faults::LineFaults::default();
     let mut done = 0;
@@ -601,7 +632,8 @@ fn main() {
         line_faults.count(&input.envelope, &input.header, got.answer);
         done += 1;
     }
-    for (number, count) in numbers.iter().enumerate() {
+    // 9 is for batches.
+    for (number, count) in numbers.iter().enumerate().filter(|(number, _)| *number != 9) {
         println!("number {number}: {count}");
     }
     for (rule, count) in &met.counts {
