@@ -5,7 +5,8 @@ ghost use Prim.Native.Nat.{_≤_};
 ghost use lib.ListN.{length};
 ghost use Rattle.call.specs.Outcome.{observed};
 ghost use Rattle.batch.specs.Batch.{pastEnd, range, rangeOutcome, batch, afterwards};
-ghost use Rattle.batch.specs.BatchLaws.{Fits, Recorded};
+ghost use lib.Seq.{sets};
+ghost use Rattle.batch.specs.BatchLaws.{Fits, five, Recorded};
 use call::Answer;
 use rules::Rules;
 
@@ -56,39 +57,39 @@ fn downgrade_ranges(
 }
 
 // Fills the last five numbers of the record at the front.
-fn store(record: &mut [u32], answer: Answer)
-    requires { ⌜ Fits (now record) answer ⌝ }
-    ensures { λ _. ⌜ now (record .exit) ≡ stored (now (record .entry)) answer ⌝ }
+fn store(numbers: &mut [u32], answer: Answer)
+    requires { ⌜ Fits (now numbers) answer ⌝ }
+    ensures { λ _. ⌜ now (numbers .exit) ≡ sets (now (numbers .entry)) 4 (five answer) ⌝ }
 {
-    record[4] = answer.number;
-    record[5] = answer.place as u32;
-    record[6] = answer.offset as u32;
-    record[7] = answer.envelope_len as u32;
-    record[8] = answer.header_len as u32;
+    numbers[4] = answer.number;
+    numbers[5] = answer.place as u32;
+    numbers[6] = answer.offset as u32;
+    numbers[7] = answer.envelope_len as u32;
+    numbers[8] = answer.header_len as u32;
 }
 
 // Downgrades the record at the front into the room that is left, and fills its last five numbers.
 fn downgrade_record(
     rules: Rules,
     input: &[u8],
-    record: &mut [u32],
+    numbers: &mut [u32],
     envelope_buffer: &mut [u8],
     header_buffer: &mut [u8],
 ) -> Answer
-    requires { ⌜ 9 ≤ length (now record) ⌝ }
-    ensures { λ r. ⌜ Recorded rules (now (input .entry)) (now (record .entry)) (now (record .exit)) (now («envelope_buffer» .entry)) (now («envelope_buffer» .exit)) (now («header_buffer» .entry)) (now («header_buffer» .exit)) r ⌝ }
+    requires { ⌜ 9 ≤ length (now numbers) ⌝ }
+    ensures { λ r. ⌜ Recorded rules (now (input .entry)) (now (numbers .entry)) (now (numbers .exit)) (now («envelope_buffer» .entry)) (now («envelope_buffer» .exit)) (now («header_buffer» .entry)) (now («header_buffer» .exit)) r ⌝ }
 {
     let answer = downgrade_ranges(
         rules,
         input,
-        record[0],
-        record[1],
-        record[2],
-        record[3],
+        numbers[0],
+        numbers[1],
+        numbers[2],
+        numbers[3],
         envelope_buffer,
         header_buffer,
     );
-    store(record, answer);
+    store(numbers, answer);
     answer
 }
 

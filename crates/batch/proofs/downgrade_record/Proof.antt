@@ -1,0 +1,62 @@
+use borrow.Author.Needs.{needs}
+use Rattle.batch.proofs.downgrade_record.Statement.{statement}
+use Rattle.batch.proofs.downgrade_record.Tie as tie
+use Rattle.batch.proofs.downgrade_record.Reads as reads
+use Rattle.batch.proofs.downgrade_record.Lts as lts
+use Rattle.batch.proofs.downgrade_ranges.Reads as downgrade-ranges-reads
+use Rattle.batch.proofs.store.Reads as store-reads
+
+-- src/lib.rt:85:9
+slice-read-downgrade-ranges : tie.Need-slice-read-downgrade-ranges
+slice-read-downgrade-ranges c = search needs
+
+-- src/lib.rt:86:9
+slice-read-downgrade-ranges-2 : tie.Need-slice-read-downgrade-ranges-2
+slice-read-downgrade-ranges-2 c = search needs
+
+-- src/lib.rt:87:9
+slice-read-downgrade-ranges-3 : tie.Need-slice-read-downgrade-ranges-3
+slice-read-downgrade-ranges-3 c = search needs
+
+-- src/lib.rt:88:9
+slice-read-downgrade-ranges-4 : tie.Need-slice-read-downgrade-ranges-4
+slice-read-downgrade-ranges-4 c = search needs
+
+-- src/lib.rt:82:9
+downgrade-ranges-requires : tie.Need-downgrade-ranges-requires
+downgrade-ranges-requires c κs = search needs
+
+-- src/lib.rt:92:5
+store-requires : tie.Need-store-requires
+store-requires c κs = ?
+
+-- src/lib.rt:72:1
+same-length : tie.Need-same-length
+same-length c = search needs
+
+-- src/lib.rt:72:1
+same-length-2 : tie.Need-same-length-2
+same-length-2 c = search needs
+
+-- src/lib.rt:72:1
+same-length-3 : tie.Need-same-length-3
+same-length-3 c = search needs
+
+-- src/lib.rt:72:1
+returns : tie.Need-returns
+returns c = ?
+
+pub downgrade-record-spec : {M : Type 1} → statement M
+downgrade-record-spec =
+    tie.close
+    (tie.spec
+    slice-read-downgrade-ranges
+    slice-read-downgrade-ranges-2
+    slice-read-downgrade-ranges-3
+    slice-read-downgrade-ranges-4
+    downgrade-ranges-requires
+    store-requires
+    same-length
+    same-length-2
+    same-length-3
+    returns)
