@@ -20,15 +20,16 @@ pub range-part : (input : List ℕ) (start len : ℕ) {part : List ℕ} → part
 unfolding range
 range-part input start len e = let k : start + len - start ≡ len = omega arith in rw k at e
 
-module _ (rules : Rules) (input : List ℕ) (start₁ len₁ start₂ len₂ : ℕ) (b c : List ℕ) where
-  pub out-of-range : pastEnd input start₁ len₁ || pastEnd input start₂ len₂ ≡ true → rangeRefused b c ≡ rangeOutcome rules input start₁ len₁ start₂ len₂ b c
+-- the call, or 9, by what code knows of both ranges
+module _ (rules : Rules) (input : List ℕ) (start₁ len₁ start₂ len₂ : ℕ) (b c : List ℕ) {p q : Bool} (past₁ : p ≡ pastEnd input start₁ len₁) (past₂ : q ≡ pastEnd input start₂ len₂) where
+  pub out-of-range : p || q ≡ true → rangeRefused b c ≡ rangeOutcome rules input start₁ len₁ start₂ len₂ b c
   unfolding rangeOutcome
-  out-of-range t = rw t
+  out-of-range t = rw (← past₁, ← past₂, t)
 
-  pub in-range : pastEnd input start₁ len₁ || pastEnd input start₂ len₂ ≡ false
-      → outcome (range input start₁ len₁) (range input start₂ len₂) b c ≡ rangeOutcome rules input start₁ len₁ start₂ len₂ b c
+  pub in-range : p || q ≡ false → {e h : List ℕ} → e ≡ range input start₁ len₁ → h ≡ range input start₂ len₂ → {o : Outcome} → o ≡ outcome e h b c
+      → o ≡ rangeOutcome rules input start₁ len₁ start₂ len₂ b c
   unfolding rangeOutcome
-  in-range t = rw t
+  in-range t x y z = rw (← past₁, ← past₂, t, ← x, ← y) z
 
 pub range-bounded : (rules : Rules) (input : List ℕ) (start₁ len₁ start₂ len₂ : ℕ) (b c : List ℕ) → Bounded b c (rangeOutcome rules input start₁ len₁ start₂ len₂ b c)
 unfolding rangeOutcome rangeRefused

@@ -1,3 +1,5 @@
+use Rattle.batch.specs.Batch.{rangeRefused}
+use Rattle.batch.specs.BatchLaws.{out-of-range, in-range}
 use borrow.Author.Needs.{needs}
 use Rattle.batch.proofs.downgrade_ranges.Statement.{statement}
 use Rattle.batch.proofs.downgrade_ranges.Tie as tie
@@ -17,7 +19,8 @@ is-past-end-requires-2 c κs = search needs
 
 -- src/lib.rt:42:9
 returns : tie.Need-returns
-returns c = ?
+unfolding rangeRefused
+returns c = out-of-range _ _ _ _ _ _ _ _ (c .before .before .is-past-end .ensures) (c .before .is-past-end2 .ensures) (c .if1 .taken)
 
 -- src/lib.rt:52:9
 range-of-requires : tie.Need-range-of-requires
@@ -41,7 +44,7 @@ same-length-2 c = search needs
 
 -- src/lib.rt:29:1
 returns-2 : tie.Need-returns-2
-returns-2 c = ?
+returns-2 c = in-range _ _ _ _ _ _ _ _ (c .before .before .before .before .before .before .before .before .before .before .before .is-past-end .ensures) (c .before .before .before .before .before .before .before .before .before .before .is-past-end2 .ensures) (c .before .before .before .before .before .before .before .before .before .if1 .left) (c .before .before .before .before .before .before .before .before .range-of .ensures) (c .before .before .before .before .before .before .before .range-of2 .ensures) (c .before .before .before .before .downgrade .ensures)
 
 pub downgrade-ranges-spec : {M : Type 1} → statement M
 downgrade-ranges-spec =

@@ -1,3 +1,4 @@
+use Rattle.batch.specs.BatchLaws.{fits, recorded}
 use borrow.Author.Needs.{needs}
 use Rattle.batch.proofs.downgrade_record.Statement.{statement}
 use Rattle.batch.proofs.downgrade_record.Tie as tie
@@ -28,7 +29,7 @@ downgrade-ranges-requires c κs = search needs
 
 -- src/lib.rt:92:5
 store-requires : tie.Need-store-requires
-store-requires c κs = ?
+store-requires c κs = fits _ _ _ _ _ (c .before .before .before .before .before .before .before .before .before .before .before .before .before .before .before .before .pre) (c .before .before .before .before .before .downgrade-ranges .ensures)
 
 -- src/lib.rt:72:1
 same-length : tie.Need-same-length
@@ -44,7 +45,7 @@ same-length-3 c = search needs
 
 -- src/lib.rt:72:1
 returns : tie.Need-returns
-returns c = ?
+returns c = recorded _ _ _ _ _ (c .before .before .before .before .before .before .before .before .before .before .before .before .before .before .before .before .before .before .before .pre) (c .before .before .before .before .before .before .before .before .downgrade-ranges .ensures) (c .before .before .store .ensures)
 
 pub downgrade-record-spec : {M : Type 1} → statement M
 downgrade-record-spec =

@@ -1,3 +1,5 @@
+use lib.ListN.{length-set}
+use native.Mathlib.Omega.{arith}
 use borrow.Author.Needs.{needs}
 use Rattle.batch.proofs.store.Statement.{statement}
 use Rattle.batch.proofs.store.Tie as tie
@@ -14,7 +16,7 @@ cast-numbers c = search needs
 
 -- src/lib.rt:65:5
 slice-write-numbers-2 : tie.Need-slice-write-numbers-2
-slice-write-numbers-2 c = ?
+slice-write-numbers-2 c = simp length-set (omega (arith, c .before .pre .whole))
 
 -- src/lib.rt:66:18
 cast-numbers-2 : tie.Need-cast-numbers-2
@@ -22,7 +24,7 @@ cast-numbers-2 c = search needs
 
 -- src/lib.rt:66:5
 slice-write-numbers-3 : tie.Need-slice-write-numbers-3
-slice-write-numbers-3 c = ?
+slice-write-numbers-3 c = simp length-set (omega (arith, c .before .before .pre .whole))
 
 -- src/lib.rt:67:18
 cast-numbers-3 : tie.Need-cast-numbers-3
@@ -30,7 +32,7 @@ cast-numbers-3 c = search needs
 
 -- src/lib.rt:67:5
 slice-write-numbers-4 : tie.Need-slice-write-numbers-4
-slice-write-numbers-4 c = ?
+slice-write-numbers-4 c = simp length-set (omega (arith, c .before .before .before .pre .whole))
 
 -- src/lib.rt:68:18
 cast-numbers-4 : tie.Need-cast-numbers-4
