@@ -15,7 +15,7 @@ use Rattle.header_line.specs.declared.LineCheck.the-variants.{WellFormed, Malfo
 use Rattle.outgoing_field.specs.declared.HeldField.{HeldField}
 use Rattle.outgoing_field.specs.declared.HeldField.the-variants.{Absent, At as HeldAt}
 use Rattle.header_line.specs.Lines.{checkedLines}
-use Rattle.rules.specs.declared.Rules.the-variants.{Spool}
+use Rattle.rules.specs.declared.Rules.{Rules}
 use Rattle.outgoing_field.specs.Fate.{heldOf}
 use Rattle.offset.specs.Offset.{faultOffset, orcptOffset, headerLineOffset, fieldOffset}
 use Rattle.call.specs.declared.Refusal.{Refusal}
@@ -77,7 +77,7 @@ inputOf (HeaderNeeds size) = 2
 unfoldable pub over : ℕ → ℕ → Refusal → Verdict
 over limit size refusal = cond (ltb limit size) (Refuse refusal) Accept
 
--- 2, 3 and 4: "the first envelope line at fault"
+-- 2, 3, 4 and 10: "the first envelope line at fault"
 unfoldable pub ofEnvelope : List ℕ → Checked → Verdict
 ofEnvelope e (Passed count) = Accept
 ofEnvelope e (Refused fault line) = Refuse (EnvelopeLine fault line (faultOffset e fault line))
@@ -104,18 +104,18 @@ firstOf (Accept ∷ more) = firstOf more
 firstOf (Refuse refusal ∷ more) = Refuse refusal
 
 -- "Order: 1 (envelope first); then 2, 3 and 4 as the first envelope line at fault ..; then the first 5; then 6, ORCPT lines before
--- header fields ..; then 7; then 8." For an envelope, a header, and the lengths of both buffers.
-unfoldable pub verdict : List ℕ → List ℕ → ℕ → ℕ → Verdict
-verdict e h room₁ room₂ =
+-- header fields ..; then 7; then 8." 10 stands "in place of 4". For an envelope, a header, and the lengths of both buffers.
+unfoldable pub verdict : Rules → List ℕ → List ℕ → ℕ → ℕ → Verdict
+verdict rules e h room₁ room₂ =
     firstOf
     (over 16384 (length e) EnvelopeOver
     ∷ over 32768 (length h) HeaderOver
-    ∷ ofEnvelope e (checked e)
+    ∷ ofEnvelope e (checked rules e)
     ∷ ofLines h (checkedLines h)
     ∷ ofOrcpt e (orcptLine e)
-    ∷ ofHeld h (heldOf Spool h)
+    ∷ ofHeld h (heldOf rules h)
     ∷ over room₁ (length (written e)) (EnvelopeNeeds (length (written e)))
-    ∷ over room₂ (length (outgoingHeader e h)) (HeaderNeeds (length (outgoingHeader e h)))
+    ∷ over room₂ (length (outgoingHeader rules e h)) (HeaderNeeds (length (outgoingHeader rules e h)))
     ∷ [])
 
 -- ---- the call
@@ -132,8 +132,8 @@ pub record Outcome : Type 0 where
   pub headerBuffer : List ℕ
 
 -- "A refusal changes no byte of either buffer and gives both lengths as 0. After 0 the bytes past each length are as before."
-unfoldable pub outcomeOf : Verdict → List ℕ → List ℕ → List ℕ → List ℕ → Outcome
-outcomeOf (Refuse refusal) e h b c = record {
+unfoldable pub outcomeOf : Rules → Verdict → List ℕ → List ℕ → List ℕ → List ℕ → Outcome
+outcomeOf rules (Refuse refusal) e h b c = record {
   number = numberOf refusal;
   input = inputOf refusal;
   place = placeOf refusal;
@@ -143,20 +143,20 @@ outcomeOf (Refuse refusal) e h b c = record {
   envelopeBuffer = b;
   headerBuffer = c;
 }
-outcomeOf Accept e h b c = record {
+outcomeOf rules Accept e h b c = record {
   number = 0;
   input = 0;
   place = 0;
   offset = 0;
   envelopeLen = length (written e);
-  headerLen = length (outgoingHeader e h);
+  headerLen = length (outgoingHeader rules e h);
   envelopeBuffer = overlay (written e) b;
-  headerBuffer = overlay (outgoingHeader e h) c;
+  headerBuffer = overlay (outgoingHeader rules e h) c;
 }
 
--- The outcome of a call with this envelope, this header and these two buffers.
-unfoldable pub outcome : List ℕ → List ℕ → List ℕ → List ℕ → Outcome
-outcome e h b c = outcomeOf (verdict e h (length b) (length c)) e h b c
+-- The outcome of a call with these rules, this envelope, this header and these two buffers.
+unfoldable pub outcome : Rules → List ℕ → List ℕ → List ℕ → List ℕ → Outcome
+outcome rules e h b c = outcomeOf rules (verdict rules e h (length b) (length c)) e h b c
 
 -- an answer and two buffers as an outcome
 abbrev pub observed : Answer → List ℕ → List ℕ → Outcome

@@ -4,7 +4,7 @@ use Prim.Native.Nat.{ℕ}
 use Rattle.letter_case.specs.LetterCase.{bytes}
 use Rattle.encoded_word.specs.Segments.{Segment, rendered}
 use Rattle.envelope.specs.Envelope.{mailReplacement, rcptReplacement}
-use Rattle.rules.specs.declared.Rules.the-variants.{Spool}
+use Rattle.rules.specs.declared.Rules.{Rules}
 use Rattle.field.specs.Field.{labelledField}
 use Rattle.outgoing_field.specs.Fate.{headerSegments}
 
@@ -19,9 +19,9 @@ unfoldable pub newFields : List ℕ → List Segment
 newFields e = newField (bytes "Downgraded-Mail-From:") (mailReplacement e) ++ newField (bytes "Downgraded-Rcpt-To:") (rcptReplacement e)
 
 -- the new first fields, then what becomes of each field of the header
-unfoldable pub outgoingSegments : List ℕ → List ℕ → List Segment
-outgoingSegments e h = newFields e ++ headerSegments Spool h
+unfoldable pub outgoingSegments : Rules → List ℕ → List ℕ → List Segment
+outgoingSegments rules e h = newFields e ++ headerSegments rules h
 
 -- the header written
-unfoldable pub outgoingHeader : List ℕ → List ℕ → List ℕ
-outgoingHeader e h = rendered (outgoingSegments e h)
+unfoldable pub outgoingHeader : Rules → List ℕ → List ℕ → List ℕ
+outgoingHeader rules e h = rendered (outgoingSegments rules e h)

@@ -22,7 +22,7 @@ use Rattle.envelope.specs.ReplacementLaws.{mail-replacement-short, rcpt-replace
 use Rattle.header_line.specs.declared.LineCheck.{LineCheck}
 use Rattle.header_line.specs.declared.LineCheck.the-variants.{WellFormed, Malformed}
 use Rattle.header_line.specs.Lines.{checkedLines}
-use Rattle.rules.specs.declared.Rules.the-variants.{Spool}
+use Rattle.rules.specs.declared.Rules.{Rules}
 use Rattle.outgoing_field.specs.Fate.{segmentsOf, headerSegments, limited, heldOf}
 use Rattle.outgoing_field.specs.FateLaws.{limited-short}
 use Rattle.outgoing_field.specs.OwedLaws.{owed-header}
@@ -40,9 +40,9 @@ use Rattle.call.specs.NewFieldLaws.{length-new-field}
 -- ---- refusals
 
 -- where a verdict refuses, so does the call
-pub refused-observed : (e h b c : List ℕ) {refusal : Refusal} {r : Answer} → verdict e h (length b) (length c) ≡ Refuse refusal → RefusedBy refusal r → observed r b c ≡ outcome e h b c
+pub refused-observed : (rules : Rules) (e h b c : List ℕ) {refusal : Refusal} {r : Answer} → verdict rules e h (length b) (length c) ≡ Refuse refusal → RefusedBy refusal r → observed r b c ≡ outcome rules e h b c
 unfolding outcome outcomeOf
-refused-observed e h b c v a = rw (v, a .number, a .input, a .place, a .offset, a .none₁, a .none₂)
+refused-observed rules e h b c v a = rw (v, a .number, a .input, a .place, a .offset, a .none₁, a .none₂)
 
 pub over-yes : (limit size : ℕ) (refusal : Refusal) → limit < size → over limit size refusal ≡ Refuse refusal
 unfolding over
@@ -52,29 +52,29 @@ pub over-no : (limit size : ℕ) (refusal : Refusal) → size ≤ limit → over
 unfolding over
 over-no limit size refusal k = rw (le-ltb limit size k)
 
-module _ (e h : List ℕ) (room₁ room₂ : ℕ) where
-  pub envelope-over : 16384 < length e → verdict e h room₁ room₂ ≡ Refuse EnvelopeOver
+module _ (rules : Rules) (e h : List ℕ) (room₁ room₂ : ℕ) where
+  pub envelope-over : 16384 < length e → verdict rules e h room₁ room₂ ≡ Refuse EnvelopeOver
   unfolding verdict firstOf
   envelope-over k = rw (over-yes 16384 (length e) EnvelopeOver k)
 
   module _ (short₁ : length e ≤ 16384) where
-    pub header-over : 32768 < length h → verdict e h room₁ room₂ ≡ Refuse HeaderOver
+    pub header-over : 32768 < length h → verdict rules e h room₁ room₂ ≡ Refuse HeaderOver
     unfolding verdict firstOf
     header-over k = rw (over-no 16384 (length e) EnvelopeOver short₁, over-yes 32768 (length h) HeaderOver k)
 
     module _ (short₂ : length h ≤ 32768) where
-      pub envelope-line : (fault : Fault) (line offset : ℕ) → checked e ≡ Refused fault line → offset ≡ faultOffset e fault line → verdict e h room₁ room₂ ≡ Refuse (EnvelopeLine fault line offset)
+      pub envelope-line : (fault : Fault) (line offset : ℕ) → checked rules e ≡ Refused fault line → offset ≡ faultOffset e fault line → verdict rules e h room₁ room₂ ≡ Refuse (EnvelopeLine fault line offset)
       unfolding verdict firstOf ofEnvelope
       envelope-line fault line offset k q = rw (over-no 16384 (length e) EnvelopeOver short₁, over-no 32768 (length h) HeaderOver short₂, k, q)
 
-      module _ (count : ℕ) (passed : checked e ≡ Passed count) where
-        past-envelope : verdict e h room₁ room₂
+      module _ (count : ℕ) (passed : checked rules e ≡ Passed count) where
+        past-envelope : verdict rules e h room₁ room₂
             ≡ firstOf
             (ofLines h (checkedLines h)
             ∷ ofOrcpt e (orcptLine e)
-            ∷ ofHeld h (heldOf Spool h)
+            ∷ ofHeld h (heldOf rules h)
             ∷ over room₁ (length (written e)) (EnvelopeNeeds (length (written e)))
-            ∷ over room₂ (length (outgoingHeader e h)) (HeaderNeeds (length (outgoingHeader e h)))
+            ∷ over room₂ (length (outgoingHeader rules e h)) (HeaderNeeds (length (outgoingHeader rules e h)))
             ∷ [])
         unfolding verdict firstOf ofEnvelope
         past-envelope = rw (over-no 16384 (length e) EnvelopeOver short₁, over-no 32768 (length h) HeaderOver short₂, passed)
@@ -93,60 +93,60 @@ first-accepted (Accept ∷ a) b k = first-accepted a b k
 first-accepted (Refuse r ∷ a) b k = absurd (let z : _≡_ {A = ℕ} 0 1 = cc in omega arith)
 
 -- 1 to 6: the refusals that the buffers do not decide
-abbrev pub ofInput : List ℕ → List ℕ → List Verdict
-ofInput e h =
+abbrev pub ofInput : Rules → List ℕ → List ℕ → List Verdict
+ofInput rules e h =
     over 16384 (length e) EnvelopeOver
     ∷ over 32768 (length h) HeaderOver
-    ∷ ofEnvelope e (checked e)
+    ∷ ofEnvelope e (checked rules e)
     ∷ ofLines h (checkedLines h)
     ∷ ofOrcpt e (orcptLine e)
-    ∷ ofHeld h (heldOf Spool h)
+    ∷ ofHeld h (heldOf rules h)
     ∷ []
 
 -- an input that none of them refuses is decided by the buffers
-module _ (e h : List ℕ) (room₁ room₂ : ℕ) (q : firstOf (ofInput e h) ≡ Accept) where
-  by-rooms : verdict e h room₁ room₂
+module _ (rules : Rules) (e h : List ℕ) (room₁ room₂ : ℕ) (q : firstOf (ofInput rules e h) ≡ Accept) where
+  by-rooms : verdict rules e h room₁ room₂
       ≡ firstOf
       (over room₁ (length (written e)) (EnvelopeNeeds (length (written e)))
-      ∷ over room₂ (length (outgoingHeader e h)) (HeaderNeeds (length (outgoingHeader e h)))
+      ∷ over room₂ (length (outgoingHeader rules e h)) (HeaderNeeds (length (outgoingHeader rules e h)))
       ∷ [])
   unfolding verdict
-  by-rooms = first-accepted (ofInput e h) _ q
+  by-rooms = first-accepted (ofInput rules e h) _ q
 
   module _ (k : length (written e) ≤ room₁) where
-    pub both-fit : length (outgoingHeader e h) ≤ room₂ → verdict e h room₁ room₂ ≡ Accept
+    pub both-fit : length (outgoingHeader rules e h) ≤ room₂ → verdict rules e h room₁ room₂ ≡ Accept
     unfolding firstOf
     both-fit l =
         by-rooms
-        ∙ rw (over-no room₁ (length (written e)) (EnvelopeNeeds (length (written e))) k, over-no room₂ (length (outgoingHeader e h)) (HeaderNeeds (length (outgoingHeader e h))) l)
+        ∙ rw (over-no room₁ (length (written e)) (EnvelopeNeeds (length (written e))) k, over-no room₂ (length (outgoingHeader rules e h)) (HeaderNeeds (length (outgoingHeader rules e h))) l)
 
-    pub header-short : room₂ < length (outgoingHeader e h) → verdict e h room₁ room₂ ≡ Refuse (HeaderNeeds (length (outgoingHeader e h)))
+    pub header-short : room₂ < length (outgoingHeader rules e h) → verdict rules e h room₁ room₂ ≡ Refuse (HeaderNeeds (length (outgoingHeader rules e h)))
     unfolding firstOf
     header-short l =
         by-rooms
-        ∙ rw (over-no room₁ (length (written e)) (EnvelopeNeeds (length (written e))) k, over-yes room₂ (length (outgoingHeader e h)) (HeaderNeeds (length (outgoingHeader e h))) l)
+        ∙ rw (over-no room₁ (length (written e)) (EnvelopeNeeds (length (written e))) k, over-yes room₂ (length (outgoingHeader rules e h)) (HeaderNeeds (length (outgoingHeader rules e h))) l)
 
 -- no header line is malformed, and no ORCPT and no held field carries non-ASCII
-pub record Accepted (e h : List ℕ) : Type 0 where
-  pub content : firstOf (ofLines h (checkedLines h) ∷ ofOrcpt e (orcptLine e) ∷ ofHeld h (heldOf Spool h) ∷ []) ≡ Accept
+pub record Accepted (rules : Rules) (e h : List ℕ) : Type 0 where
+  pub content : firstOf (ofLines h (checkedLines h) ∷ ofOrcpt e (orcptLine e) ∷ ofHeld h (heldOf rules h) ∷ []) ≡ Accept
 
-pub accepted-lines : {e h : List ℕ} → Accepted e h → checkedLines h ≡ WellFormed
+pub accepted-lines : {rules : Rules} {e h : List ℕ} → Accepted rules e h → checkedLines h ≡ WellFormed
 unfolding firstOf ofLines
-accepted-lines {e} {h} ok = go (checkedLines h) refl (ok .content)
+accepted-lines {rules} {e} {h} ok = go (checkedLines h) refl (ok .content)
   where
-    go : (l : LineCheck) → checkedLines h ≡ l → firstOf (ofLines h l ∷ ofOrcpt e (orcptLine e) ∷ ofHeld h (heldOf Spool h) ∷ []) ≡ Accept → checkedLines h ≡ WellFormed
+    go : (l : LineCheck) → checkedLines h ≡ l → firstOf (ofLines h l ∷ ofOrcpt e (orcptLine e) ∷ ofHeld h (heldOf rules h) ∷ []) ≡ Accept → checkedLines h ≡ WellFormed
     go WellFormed q k = q
     go (Malformed line at) q k = absurd (let z : _≡_ {A = ℕ} 0 1 = cc in omega arith)
 
 -- ---- the header, by the texts of its new first fields
 
-unfoldable pub headerOf : List ℕ → List ℕ → List ℕ → List ℕ
-headerOf mail rcpt h =
-    rendered ((newField (bytes "Downgraded-Mail-From:") mail ++ newField (bytes "Downgraded-Rcpt-To:") rcpt) ++ headerSegments Spool h)
+unfoldable pub headerOf : Rules → List ℕ → List ℕ → List ℕ → List ℕ
+headerOf rules mail rcpt h =
+    rendered ((newField (bytes "Downgraded-Mail-From:") mail ++ newField (bytes "Downgraded-Rcpt-To:") rcpt) ++ headerSegments rules h)
 
-header-le : (h : List ℕ) → checkedLines h ≡ WellFormed → length (rendered (headerSegments Spool h)) ≤ 30 * length h
+header-le : (rules : Rules) (h : List ℕ) → checkedLines h ≡ WellFormed → length (rendered (headerSegments rules h)) ≤ 30 * length h
 unfolding segmentsOf
-header-le h w = owed-header Spool h w .short
+header-le rules h w = owed-header rules h w .short
 
 -- texts of new first fields, and a header, within their limits
 pub record Short (mail rcpt h : List ℕ) : Type 0 where
@@ -154,37 +154,37 @@ pub record Short (mail rcpt h : List ℕ) : Type 0 where
   pub of-rcpt : length rcpt ≤ 2048
   pub of-header : length h ≤ 32768
 
-header-of-le : {mail rcpt h : List ℕ} → Short mail rcpt h → checkedLines h ≡ WellFormed → length (headerOf mail rcpt h) ≤ 30 * length h + 20600
+header-of-le : (rules : Rules) {mail rcpt h : List ℕ} → Short mail rcpt h → checkedLines h ≡ WellFormed → length (headerOf rules mail rcpt h) ≤ 30 * length h + 20600
 unfolding headerOf bytes
-header-of-le {mail} {rcpt} {h} s w =
+header-of-le rules {mail} {rcpt} {h} s w =
     let first = newField (bytes "Downgraded-Mail-From:") mail in
     let second = newField (bytes "Downgraded-Rcpt-To:") rcpt in
     omega (
       arith,
-      ap length (rendered-append (first ++ second) (headerSegments Spool h)),
-      length-append (rendered (first ++ second)) (rendered (headerSegments Spool h)),
+      ap length (rendered-append (first ++ second) (headerSegments rules h)),
+      length-append (rendered (first ++ second)) (rendered (headerSegments rules h)),
       ap length (rendered-append first second),
       length-append (rendered first) (rendered second),
       length-new-field (bytes "Downgraded-Mail-From:") mail,
       length-new-field (bytes "Downgraded-Rcpt-To:") rcpt,
-      header-le h w,
+      header-le rules h w,
       s .of-mail,
       s .of-rcpt,
     )
 
-pub header-wrote : {mail rcpt h before mid rest after : List ℕ} {n m k : ℕ} → Short mail rcpt h → checkedLines h ≡ WellFormed → length before ≤ greatest
+pub header-wrote : (rules : Rules) {mail rcpt h before mid rest after : List ℕ} {n m k : ℕ} → Short mail rcpt h → checkedLines h ≡ WellFormed → length before ≤ greatest
     → AppendedCapped (rendered (newField (bytes "Downgraded-Mail-From:") mail)) 0 before mid n
     → AppendedCapped (rendered (newField (bytes "Downgraded-Rcpt-To:") rcpt)) n mid rest m
-    → AppendedCapped (rendered (headerSegments Spool (limited h))) m rest after k
-    → Wrote (headerOf mail rcpt h) before after k
+    → AppendedCapped (rendered (headerSegments rules (limited h))) m rest after k
+    → Wrote (headerOf rules mail rcpt h) before after k
 unfolding headerOf
-header-wrote {mail} {rcpt} {h} s w room a b d =
+header-wrote rules {mail} {rcpt} {h} s w room a b d =
     let first = newField (bytes "Downgraded-Mail-From:") mail in
     let second = newField (bytes "Downgraded-Rcpt-To:") rcpt in
-    let last = headerSegments Spool h in
+    let last = headerSegments rules h in
     let whole = capped-then (capped-then a b room) (rw (limited-short h (s .of-header)) at d) room in
     let same : (rendered first ++ rendered second) ++ rendered last ≡ rendered ((first ++ second) ++ last) = rw (rendered-append (first ++ second) last, rendered-append first second) in
-    wrote-of (capped-same same whole) (omega (arith, header-of-le s w, s .of-header))
+    wrote-of (capped-same same whole) (omega (arith, header-of-le rules s w, s .of-header))
 
 -- ---- room
 
@@ -197,108 +197,117 @@ pub needed-size : {size room r : ℕ} → r ≡ size → Needed size room r
 needed-size e = record { enough = λ k. rw e at k; exact = λ k. e }
 
 -- a room that holds every outgoing header of a well-formed header of this length
-pub ample : {mail rcpt h : List ℕ} {room : ℕ} → Short mail rcpt h → checkedLines h ≡ WellFormed → 30 * length h + 20600 ≤ room → Needed (length (headerOf mail rcpt h)) room 0
-ample {mail} {rcpt} {h} {room} s w k = record { enough = λ z. fits; exact = λ z. absurd (not-suc-le-zero z) }
+pub ample : (rules : Rules) {mail rcpt h : List ℕ} {room : ℕ} → Short mail rcpt h → checkedLines h ≡ WellFormed → 30 * length h + 20600 ≤ room → Needed (length (headerOf rules mail rcpt h)) room 0
+ample rules {mail} {rcpt} {h} {room} s w k = record { enough = λ z. fits; exact = λ z. absurd (not-suc-le-zero z) }
   where
-    fits : length (headerOf mail rcpt h) ≤ room
-    fits = omega (arith, header-of-le s w)
+    fits : length (headerOf rules mail rcpt h) ≤ room
+    fits = omega (arith, header-of-le rules s w)
 
 -- these are the texts of the new first fields
 pub record Texts (e mail rcpt : List ℕ) : Type 0 where
   pub of-mail : mail ≡ mailReplacement e
   pub of-rcpt : rcpt ≡ rcptReplacement e
 
-pub header-of : {e mail rcpt : List ℕ} → Texts e mail rcpt → (h : List ℕ) → headerOf mail rcpt h ≡ outgoingHeader e h
+pub header-of : (rules : Rules) {e mail rcpt : List ℕ} → Texts e mail rcpt → (h : List ℕ) → headerOf rules mail rcpt h ≡ outgoingHeader rules e h
 unfolding headerOf outgoingHeader outgoingSegments newFields
-header-of t h = rw (t .of-mail, t .of-rcpt)
+header-of rules t h = rw (t .of-mail, t .of-rcpt)
 
 -- the outgoing header has at most 30 bytes for each byte of a well-formed header, and 20,600 for the new first fields
-pub outgoing-le : (e h : List ℕ) (count : ℕ) → checked e ≡ Passed count → length h ≤ 32768 → checkedLines h ≡ WellFormed
-    → length (outgoingHeader e h) ≤ 30 * length h + 20600
-outgoing-le e h count p k w =
+pub outgoing-le : (rules : Rules) (e h : List ℕ) (count : ℕ) → checked rules e ≡ Passed count → length h ≤ 32768 → checkedLines h ≡ WellFormed
+    → length (outgoingHeader rules e h) ≤ 30 * length h + 20600
+outgoing-le rules e h count p k w =
     let t : Texts e (mailReplacement e) (rcptReplacement e) = record { of-mail = refl; of-rcpt = refl } in
     let s : Short (mailReplacement e) (rcptReplacement e) h =
-    record { of-mail = omega (arith, mail-replacement-short e count p); of-rcpt = omega (arith, rcpt-replacement-short e count p); of-header = k } in
-    rw (header-of t h) at (header-of-le s w)
+    record { of-mail = omega (arith, mail-replacement-short rules e count p); of-rcpt = omega (arith, rcpt-replacement-short rules e count p); of-header = k } in
+    rw (header-of rules t h) at (header-of-le rules s w)
 
 -- ---- what the writers need
 
 -- An envelope and a header within their limits; the envelope passes the check, with so many RCPT lines whose starts are the first
 -- of an array.
-pub record Ready (e h array : List ℕ) (count : ℕ) : Type 0 where
+pub record Ready (rules : Rules) (e h array : List ℕ) (count : ℕ) : Type 0 where
   pub short₁ : length e ≤ 16384
   pub short₂ : length h ≤ 32768
-  pub passed : checked e ≡ Passed count
+  pub passed : checked rules e ≡ Passed count
   pub starts : textsAt count array e ≡ texts e
 
-pub to-ready : {e h before after : List ℕ} {count : ℕ} {r : Checked} → length e ≤ 16384 → length h ≤ 32768 → EnvelopeChecked e before after r → r ≡ Passed count → length before ≡ 100
-    → Ready e h after count
+pub to-ready : {rules : Rules} {e h before after : List ℕ} {count : ℕ} {r : Checked} → length e ≤ 16384 → length h ≤ 32768 → EnvelopeChecked rules e before after r → r ≡ Passed count → length before ≡ 100
+    → Ready rules e h after count
 to-ready s t c k l = let d = rw k at c in record { short₁ = s; short₂ = t; passed = sym (d .answer); starts = stored d l }
 
-module _ {e h array : List ℕ} {count : ℕ} (r : Ready e h array count) where
-  pub content-refused : (room₁ room₂ : ℕ) {refusal : Refusal} → firstOf (ofLines h (checkedLines h) ∷ ofOrcpt e (orcptLine e) ∷ ofHeld h (heldOf Spool h) ∷ []) ≡ Refuse refusal
-      → verdict e h room₁ room₂ ≡ Refuse refusal
+-- The first `count` entries of an array are the starts of the RCPT lines of an envelope, and what is written for it is short.
+pub record StartsOf (e array : List ℕ) (count : ℕ) : Type 0 where
+  pub starts : textsAt count array e ≡ texts e
+  pub size : length (written e) ≤ 16384
+
+pub starts-written : {e array before after : List ℕ} {count n : ℕ} → StartsOf e array count
+    → AppendedCapped (writtenOf (textsAt count array e)) 0 before after n → Wrote (written e) before after n
+unfolding written
+starts-written s a = wrote-of (rw (s .starts) at a) (omega (arith, s .size))
+
+module _ {rules : Rules} {e h array : List ℕ} {count : ℕ} (r : Ready rules e h array count) where
+  pub content-refused : (room₁ room₂ : ℕ) {refusal : Refusal} → firstOf (ofLines h (checkedLines h) ∷ ofOrcpt e (orcptLine e) ∷ ofHeld h (heldOf rules h) ∷ []) ≡ Refuse refusal
+      → verdict rules e h room₁ room₂ ≡ Refuse refusal
   content-refused room₁ room₂ {refusal} k =
-      past-envelope e h room₁ room₂ (r .short₁) (r .short₂) count (r .passed)
-      ∙ first-refused (ofLines h (checkedLines h) ∷ ofOrcpt e (orcptLine e) ∷ ofHeld h (heldOf Spool h) ∷ []) _ refusal k
+      past-envelope rules e h room₁ room₂ (r .short₁) (r .short₂) count (r .passed)
+      ∙ first-refused (ofLines h (checkedLines h) ∷ ofOrcpt e (orcptLine e) ∷ ofHeld h (heldOf rules h) ∷ []) _ refusal k
 
   pub mail-short : length (mailReplacement e) ≤ 2048
-  mail-short = omega (arith, mail-replacement-short e count (r .passed))
+  mail-short = omega (arith, mail-replacement-short rules e count (r .passed))
 
   rcpt-is : onlyRcptOf (textsAt count array e) ≡ rcptReplacement e
   unfolding rcptReplacement
   rcpt-is = rw (r .starts)
 
   pub rcpt-short : length (onlyRcptOf (textsAt count array e)) ≤ 2048
-  rcpt-short = rw rcpt-is (omega (arith, rcpt-replacement-short e count (r .passed)))
+  rcpt-short = rw rcpt-is (omega (arith, rcpt-replacement-short rules e count (r .passed)))
 
   -- the envelope
-  pub ready-written : {before after : List ℕ} {n : ℕ} → AppendedCapped (writtenOf (textsAt count array e)) 0 before after n → Wrote (written e) before after n
-  unfolding written
-  ready-written a = wrote-of (rw (r .starts) at a) (omega (arith, written-le e count (r .passed), r .short₁))
+  pub ready-starts : StartsOf e array count
+  ready-starts = record { starts = r .starts; size = omega (arith, written-le rules e count (r .passed), r .short₁) }
 
   pub ready-texts : {mail rcpt : List ℕ} → mail ≡ mailReplacement e → rcpt ≡ onlyRcptOf (textsAt count array e) → Texts e mail rcpt
   ready-texts p q = record { of-mail = p; of-rcpt = q ∙ rcpt-is }
 
   pub ready-short : {mail rcpt : List ℕ} → Texts e mail rcpt → Short mail rcpt h
-  ready-short t = record { of-mail = rw (t .of-mail) mail-short; of-rcpt = rw (t .of-rcpt) (omega (arith, rcpt-replacement-short e count (r .passed))); of-header = r .short₂ }
+  ready-short t = record { of-mail = rw (t .of-mail) mail-short; of-rcpt = rw (t .of-rcpt) (omega (arith, rcpt-replacement-short rules e count (r .passed))); of-header = r .short₂ }
 
   -- ---- room
 
-  module _ (ok : Accepted e h) (b c : List ℕ) where
-    past-content : verdict e h (length b) (length c)
+  module _ (ok : Accepted rules e h) (b c : List ℕ) where
+    past-content : verdict rules e h (length b) (length c)
         ≡ firstOf
         (over (length b) (length (written e)) (EnvelopeNeeds (length (written e)))
-        ∷ over (length c) (length (outgoingHeader e h)) (HeaderNeeds (length (outgoingHeader e h)))
+        ∷ over (length c) (length (outgoingHeader rules e h)) (HeaderNeeds (length (outgoingHeader rules e h)))
         ∷ [])
     past-content =
-        past-envelope e h (length b) (length c) (r .short₁) (r .short₂) count (r .passed)
-        ∙ first-accepted (ofLines h (checkedLines h) ∷ ofOrcpt e (orcptLine e) ∷ ofHeld h (heldOf Spool h) ∷ []) _ (ok .content)
+        past-envelope rules e h (length b) (length c) (r .short₁) (r .short₂) count (r .passed)
+        ∙ first-accepted (ofLines h (checkedLines h) ∷ ofOrcpt e (orcptLine e) ∷ ofHeld h (heldOf rules h) ∷ []) _ (ok .content)
 
-    pub envelope-needs : {n : ℕ} {a : Answer} → n ≡ length (written e) → length b < n → RefusedBy (EnvelopeNeeds n) a → observed a b c ≡ outcome e h b c
+    pub envelope-needs : {n : ℕ} {a : Answer} → n ≡ length (written e) → length b < n → RefusedBy (EnvelopeNeeds n) a → observed a b c ≡ outcome rules e h b c
     unfolding firstOf
     envelope-needs {n} {a} q k f =
-        refused-observed e h b c (past-content ∙ rw (over-yes (length b) (length (written e)) (EnvelopeNeeds (length (written e))) (rw q at k))) (rw q at f)
+        refused-observed rules e h b c (past-content ∙ rw (over-yes (length b) (length (written e)) (EnvelopeNeeds (length (written e))) (rw q at k))) (rw q at f)
 
-    pub header-needs : {mail rcpt : List ℕ} {n m : ℕ} {a : Answer} → Texts e mail rcpt → n ≡ length (written e) → n ≤ length b → Needed (length (headerOf mail rcpt h)) (length c) m → length c < m
-        → RefusedBy (HeaderNeeds m) a → observed a b c ≡ outcome e h b c
+    pub header-needs : {mail rcpt : List ℕ} {n m : ℕ} {a : Answer} → Texts e mail rcpt → n ≡ length (written e) → n ≤ length b → Needed (length (headerOf rules mail rcpt h)) (length c) m → length c < m
+        → RefusedBy (HeaderNeeds m) a → observed a b c ≡ outcome rules e h b c
     unfolding firstOf
     header-needs {mail} {rcpt} {n} {m} {a} t q k d l f =
-        let p : m ≡ length (outgoingHeader e h) = d .exact l ∙ ap length (header-of t h) in
-        refused-observed e h b c
+        let p : m ≡ length (outgoingHeader rules e h) = d .exact l ∙ ap length (header-of rules t h) in
+        refused-observed rules e h b c
         (past-content
-        ∙ rw (over-no (length b) (length (written e)) (EnvelopeNeeds (length (written e))) (rw q at k), over-yes (length c) (length (outgoingHeader e h)) (HeaderNeeds (length (outgoingHeader e h))) (rw p at l)))
+        ∙ rw (over-no (length b) (length (written e)) (EnvelopeNeeds (length (written e))) (rw q at k), over-yes (length c) (length (outgoingHeader rules e h)) (HeaderNeeds (length (outgoingHeader rules e h))) (rw p at l)))
         (rw p at f)
 
     -- both fit
-    pub downgraded : {mail rcpt : List ℕ} {n m : ℕ} {b′ c′ : List ℕ} {a : Answer} → Texts e mail rcpt → n ≡ length (written e) → n ≤ length b → Needed (length (headerOf mail rcpt h)) (length c) m → m ≤ length c
-        → a .number ≡ 0 → a .input ≡ 0 → a .place ≡ 0 → a .offset ≡ 0 → Wrote (written e) b b′ (a .«envelope_len») → Wrote (headerOf mail rcpt h) c c′ (a .«header_len»)
-        → observed a b′ c′ ≡ outcome e h b c
+    pub downgraded : {mail rcpt : List ℕ} {n m : ℕ} {b′ c′ : List ℕ} {a : Answer} → Texts e mail rcpt → n ≡ length (written e) → n ≤ length b → Needed (length (headerOf rules mail rcpt h)) (length c) m → m ≤ length c
+        → a .number ≡ 0 → a .input ≡ 0 → a .place ≡ 0 → a .offset ≡ 0 → Wrote (written e) b b′ (a .«envelope_len») → Wrote (headerOf rules mail rcpt h) c c′ (a .«header_len»)
+        → observed a b′ c′ ≡ outcome rules e h b c
     unfolding firstOf outcome outcomeOf
     downgraded {mail} {rcpt} {n} {m} {b′} {c′} {a} t q k d l x i y z v u =
-        let p : length (outgoingHeader e h) ≤ length c = rw (header-of t h) at (d .enough l) in
-        let w : Wrote (outgoingHeader e h) c c′ (a .«header_len») = rw (header-of t h) at u in
-        let fine : verdict e h (length b) (length c) ≡ Accept =
+        let p : length (outgoingHeader rules e h) ≤ length c = rw (header-of rules t h) at (d .enough l) in
+        let w : Wrote (outgoingHeader rules e h) c c′ (a .«header_len») = rw (header-of rules t h) at u in
+        let fine : verdict rules e h (length b) (length c) ≡ Accept =
         past-content
-        ∙ rw (over-no (length b) (length (written e)) (EnvelopeNeeds (length (written e))) (rw q at k), over-no (length c) (length (outgoingHeader e h)) (HeaderNeeds (length (outgoingHeader e h))) p) in
+        ∙ rw (over-no (length b) (length (written e)) (EnvelopeNeeds (length (written e))) (rw q at k), over-no (length c) (length (outgoingHeader rules e h)) (HeaderNeeds (length (outgoingHeader rules e h))) p) in
         rw (fine, x, i, y, z, v .size, w .size, v .bytes, w .bytes)

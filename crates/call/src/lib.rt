@@ -9,6 +9,7 @@ ghost use Rattle.call.specs.OutputLaws.{Ready};
 use envelope::Checked;
 use envelope_line::Fault;
 use refusals::refused;
+use rules::Rules;
 
 // Why a call is refused, with the paper's place: a line, and the byte in it that tells why, or the length needed.
 pub enum Refusal {
@@ -41,6 +42,7 @@ pub struct Answer {
 
 // An envelope that passes the check, its RCPT lines at `starts`.
 fn downgrade_checked(
+    rules: Rules,
     envelope: &[u8],
     header: &[u8],
     starts: &[usize; 100],
@@ -48,13 +50,14 @@ fn downgrade_checked(
     envelope_buffer: &mut [u8],
     header_buffer: &mut [u8],
 ) -> Answer
-    requires { ⌜ Ready (now envelope) (now header) (now starts) count ⌝ }
-    ensures { λ r. ⌜ observed r (now («envelope_buffer» .exit)) (now («header_buffer» .exit)) ≡ outcome (now (envelope .entry)) (now (header .entry)) (now («envelope_buffer» .entry)) (now («header_buffer» .entry)) ⌝ }
+    requires { ⌜ Ready rules (now envelope) (now header) (now starts) count ⌝ }
+    ensures { λ r. ⌜ observed r (now («envelope_buffer» .exit)) (now («header_buffer» .exit)) ≡ outcome rules (now (envelope .entry)) (now (header .entry)) (now («envelope_buffer» .entry)) (now («header_buffer» .entry)) ⌝ }
 {
-    match refusals::of_content(envelope, header) {
+    match refusals::of_content(rules, envelope, header) {
         Verdict::Refuse(refusal) => refused(refusal),
         Verdict::Accept => {
             output::fill(
+                rules,
                 envelope,
                 header,
                 starts,
@@ -66,14 +69,15 @@ fn downgrade_checked(
     }
 }
 
-// Downgrades an envelope and a header into two buffers, or refuses them by number, place and offset.
+// Downgrades an envelope and a header by these rules into two buffers, or refuses them by number, place and offset.
 pub fn downgrade(
+    rules: Rules,
     envelope: &[u8],
     header: &[u8],
     envelope_buffer: &mut [u8],
     header_buffer: &mut [u8],
 ) -> Answer
-    ensures { λ r. ⌜ observed r (now («envelope_buffer» .exit)) (now («header_buffer» .exit)) ≡ outcome (now (envelope .entry)) (now (header .entry)) (now («envelope_buffer» .entry)) (now («header_buffer» .entry)) ⌝ }
+    ensures { λ r. ⌜ observed r (now («envelope_buffer» .exit)) (now («header_buffer» .exit)) ≡ outcome rules (now (envelope .entry)) (now (header .entry)) (now («envelope_buffer» .entry)) (now («header_buffer» .entry)) ⌝ }
 {
     if 16384 < envelope.len() {
         return refused(Refusal::EnvelopeOver);
@@ -82,13 +86,14 @@ pub fn downgrade(
         return refused(Refusal::HeaderOver);
     }
     let mut starts = [0usize; 100];
-    match envelope::check(envelope, &mut starts) {
+    match envelope::check(rules, envelope, &mut starts) {
         Checked::Refused(fault, line) => {
             let offset = offset::of_fault(envelope, fault, line);
             refused(Refusal::EnvelopeLine(fault, line, offset))
         }
         Checked::Passed(count) => {
             downgrade_checked(
+                rules,
                 envelope,
                 header,
                 &starts,

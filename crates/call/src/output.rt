@@ -6,7 +6,7 @@ ghost use Rattle.envelope.specs.Envelope.{written};
 ghost use Rattle.call.specs.Outcome.{observed, outcome};
 ghost use Rattle.header_line.specs.declared.LineCheck.the-variants.{WellFormed};
 ghost use Rattle.header_line.specs.Lines.{checkedLines};
-ghost use Rattle.call.specs.OutputLaws.{Short, headerOf, Needed, Ready, Accepted, Texts};
+ghost use Rattle.call.specs.OutputLaws.{Short, headerOf, Needed, Ready, StartsOf, Accepted, Texts};
 use crate::Answer;
 use crate::Refusal;
 use crate::new_fields::add_new_field;
@@ -18,37 +18,37 @@ const ROOM: usize = 2048;
 
 // Writes the outgoing header to the front of out, as far as it fits; answers its whole length. `mail` and `rcpt` are the texts of
 // the new first fields.
-fn put_header(out: &mut [u8], mail: &[u8], rcpt: &[u8], header: &[u8]) -> usize
+fn put_header(out: &mut [u8], rules: Rules, mail: &[u8], rcpt: &[u8], header: &[u8]) -> usize
     requires { ⌜ Short (now mail) (now rcpt) (now header) × (checkedLines (now header) ≡ WellFormed) ⌝ }
-    ensures { λ r. ⌜ Wrote (headerOf (now (mail .entry)) (now (rcpt .entry)) (now (header .entry))) (now (out .entry)) (now (out .exit)) r ⌝ }
+    ensures { λ r. ⌜ Wrote (headerOf rules (now (mail .entry)) (now (rcpt .entry)) (now (header .entry))) (now (out .entry)) (now (out .exit)) r ⌝ }
 {
     let mail_end = add_new_field(out, 0, b"Downgraded-Mail-From:", mail);
     let rcpt_end = add_new_field(out, mail_end, b"Downgraded-Rcpt-To:", rcpt);
-    outgoing_field::add_fields(out, rcpt_end, Rules::Spool, header)
+    outgoing_field::add_fields(out, rcpt_end, rules, header)
 }
 
-fn header_len(mail: &[u8], rcpt: &[u8], header: &[u8]) -> usize
+fn header_len(rules: Rules, mail: &[u8], rcpt: &[u8], header: &[u8]) -> usize
     requires { ⌜ Short (now mail) (now rcpt) (now header) × (checkedLines (now header) ≡ WellFormed) ⌝ }
-    ensures { λ r. ⌜ r ≡ length (headerOf (now (mail .entry)) (now (rcpt .entry)) (now (header .entry))) ⌝ }
+    ensures { λ r. ⌜ r ≡ length (headerOf rules (now (mail .entry)) (now (rcpt .entry)) (now (header .entry))) ⌝ }
 {
     let mut none = [0u8; 0];
-    put_header(&mut none, mail, rcpt, header)
+    put_header(&mut none, rules, mail, rcpt, header)
 }
 
 // The length of the outgoing header; or 0 where the room holds every outgoing header of a header of this length, which then need
 // not be measured.
-fn header_needs(mail: &[u8], rcpt: &[u8], header: &[u8], room: usize) -> usize
+fn header_needs(rules: Rules, mail: &[u8], rcpt: &[u8], header: &[u8], room: usize) -> usize
     requires { ⌜ Short (now mail) (now rcpt) (now header) × (checkedLines (now header) ≡ WellFormed) ⌝ }
-    ensures { λ r. ⌜ Needed (length (headerOf (now (mail .entry)) (now (rcpt .entry)) (now (header .entry)))) room r ⌝ }
+    ensures { λ r. ⌜ Needed (length (headerOf rules (now (mail .entry)) (now (rcpt .entry)) (now (header .entry)))) room r ⌝ }
 {
     if 30 * header.len() + 20600 <= room {
         return 0;
     }
-    header_len(mail, rcpt, header)
+    header_len(rules, mail, rcpt, header)
 }
 
-fn envelope_len(envelope: &[u8], header: &[u8], starts: &[usize; 100], count: usize) -> usize
-    requires { ⌜ Ready (now envelope) (now header) (now starts) count ⌝ }
+fn envelope_len(envelope: &[u8], starts: &[usize; 100], count: usize) -> usize
+    requires { ⌜ StartsOf (now envelope) (now starts) count ⌝ }
     ensures { λ r. ⌜ r ≡ length (written (now (envelope .entry))) ⌝ }
 {
     let mut none = [0u8; 0];
@@ -57,6 +57,7 @@ fn envelope_len(envelope: &[u8], header: &[u8], starts: &[usize; 100], count: us
 
 // Writes both, or refuses where one does not fit. Nothing is written before both are known to fit.
 fn fill_with(
+    rules: Rules,
     envelope: &[u8],
     header: &[u8],
     starts: &[usize; 100],
@@ -66,14 +67,14 @@ fn fill_with(
     envelope_buffer: &mut [u8],
     header_buffer: &mut [u8],
 ) -> Answer
-    requires { ⌜ Ready (now envelope) (now header) (now starts) count × Accepted (now envelope) (now header) × Texts (now envelope) (now mail) (now rcpt) ⌝ }
-    ensures { λ r. ⌜ observed r (now («envelope_buffer» .exit)) (now («header_buffer» .exit)) ≡ outcome (now (envelope .entry)) (now (header .entry)) (now («envelope_buffer» .entry)) (now («header_buffer» .entry)) ⌝ }
+    requires { ⌜ Ready rules (now envelope) (now header) (now starts) count × Accepted rules (now envelope) (now header) × Texts (now envelope) (now mail) (now rcpt) ⌝ }
+    ensures { λ r. ⌜ observed r (now («envelope_buffer» .exit)) (now («header_buffer» .exit)) ≡ outcome rules (now (envelope .entry)) (now (header .entry)) (now («envelope_buffer» .entry)) (now («header_buffer» .entry)) ⌝ }
 {
-    let n = envelope_len(envelope, header, starts, count);
+    let n = envelope_len(envelope, starts, count);
     if envelope_buffer.len() < n {
         return refused(Refusal::EnvelopeNeeds(n));
     }
-    let m = header_needs(mail, rcpt, header, header_buffer.len());
+    let m = header_needs(rules, mail, rcpt, header, header_buffer.len());
     if header_buffer.len() < m {
         return refused(Refusal::HeaderNeeds(m));
     }
@@ -83,12 +84,13 @@ fn fill_with(
         place: 0,
         offset: 0,
         envelope_len: envelope::put(envelope_buffer, envelope, starts, count),
-        header_len: put_header(header_buffer, mail, rcpt, header),
+        header_len: put_header(header_buffer, rules, mail, rcpt, header),
     }
 }
 
 // The same, with the texts of the new first fields still to be made.
 pub(crate) fn fill(
+    rules: Rules,
     envelope: &[u8],
     header: &[u8],
     starts: &[usize; 100],
@@ -96,14 +98,15 @@ pub(crate) fn fill(
     envelope_buffer: &mut [u8],
     header_buffer: &mut [u8],
 ) -> Answer
-    requires { ⌜ Ready (now envelope) (now header) (now starts) count × Accepted (now envelope) (now header) ⌝ }
-    ensures { λ r. ⌜ observed r (now («envelope_buffer» .exit)) (now («header_buffer» .exit)) ≡ outcome (now (envelope .entry)) (now (header .entry)) (now («envelope_buffer» .entry)) (now («header_buffer» .entry)) ⌝ }
+    requires { ⌜ Ready rules (now envelope) (now header) (now starts) count × Accepted rules (now envelope) (now header) ⌝ }
+    ensures { λ r. ⌜ observed r (now («envelope_buffer» .exit)) (now («header_buffer» .exit)) ≡ outcome rules (now (envelope .entry)) (now (header .entry)) (now («envelope_buffer» .entry)) (now («header_buffer» .entry)) ⌝ }
 {
     let mut mail = [0u8; ROOM];
     let n = envelope::put_mail_replacement(&mut mail, envelope);
     let mut rcpt = [0u8; ROOM];
     let m = envelope::put_rcpt_replacement(&mut rcpt, envelope, starts, count);
     fill_with(
+        rules,
         envelope,
         header,
         starts,

@@ -4,7 +4,6 @@ ghost use mathlib.Core.List.{[], _∷_};
 ghost use Rattle.envelope.specs.Envelope.{faultNumber, orcptLine};
 ghost use Rattle.header_line.specs.Lines.{checkedLines};
 ghost use Rattle.outgoing_field.specs.Fate.{heldOf};
-ghost use Rattle.rules.specs.declared.Rules.the-variants.{Spool};
 ghost use Rattle.call.specs.Outcome.{numberOf, placeOf, offsetOf, inputOf, firstOf, ofLines, ofOrcpt, ofHeld};
 ghost use Rattle.call.specs.OutcomeLaws.{RefusedBy};
 use crate::Answer;
@@ -24,6 +23,7 @@ fn fault_number(fault: Fault) -> u32
         Fault::Malformed => 2,
         Fault::NoAlternative => 3,
         Fault::BadAlternative => 4,
+        Fault::RetiredAlternative => 10,
     }
 }
 
@@ -104,10 +104,10 @@ pub(crate) fn refused(refusal: Refusal) -> Answer
 }
 
 // A held field with non-ASCII.
-fn held(header: &[u8]) -> Verdict
-    ensures { λ r. ⌜ r ≡ firstOf (ofHeld (now (header .entry)) (heldOf Spool (now (header .entry))) ∷ []) ⌝ }
+fn held(rules: Rules, header: &[u8]) -> Verdict
+    ensures { λ r. ⌜ r ≡ firstOf (ofHeld (now (header .entry)) (heldOf rules (now (header .entry))) ∷ []) ⌝ }
 {
-    match outgoing_field::first_held(Rules::Spool, header) {
+    match outgoing_field::first_held(rules, header) {
         HeldField::Absent => Verdict::Accept,
         HeldField::At(line, at) => {
             Verdict::Refuse(Refusal::HeldLine(line, offset::of_field(header, at)))
@@ -116,11 +116,11 @@ fn held(header: &[u8]) -> Verdict
 }
 
 // Non-ASCII in an ORCPT, or else in a held field.
-fn non_ascii(envelope: &[u8], header: &[u8]) -> Verdict
-    ensures { λ r. ⌜ r ≡ firstOf (ofOrcpt (now (envelope .entry)) (orcptLine (now (envelope .entry))) ∷ ofHeld (now (header .entry)) (heldOf Spool (now (header .entry))) ∷ []) ⌝ }
+fn non_ascii(rules: Rules, envelope: &[u8], header: &[u8]) -> Verdict
+    ensures { λ r. ⌜ r ≡ firstOf (ofOrcpt (now (envelope .entry)) (orcptLine (now (envelope .entry))) ∷ ofHeld (now (header .entry)) (heldOf rules (now (header .entry))) ∷ []) ⌝ }
 {
     match envelope::orcpt_line(envelope) {
-        Orcpt::Clean => held(header),
+        Orcpt::Clean => held(rules, header),
         Orcpt::At(line) => {
             Verdict::Refuse(Refusal::OrcptLine(line, offset::of_orcpt(envelope, line)))
         }
@@ -128,11 +128,11 @@ fn non_ascii(envelope: &[u8], header: &[u8]) -> Verdict
 }
 
 // A malformed header line, or else non-ASCII that cannot be passed on.
-pub(crate) fn of_content(envelope: &[u8], header: &[u8]) -> Verdict
-    ensures { λ r. ⌜ r ≡ firstOf (ofLines (now (header .entry)) (checkedLines (now (header .entry))) ∷ ofOrcpt (now (envelope .entry)) (orcptLine (now (envelope .entry))) ∷ ofHeld (now (header .entry)) (heldOf Spool (now (header .entry))) ∷ []) ⌝ }
+pub(crate) fn of_content(rules: Rules, envelope: &[u8], header: &[u8]) -> Verdict
+    ensures { λ r. ⌜ r ≡ firstOf (ofLines (now (header .entry)) (checkedLines (now (header .entry))) ∷ ofOrcpt (now (envelope .entry)) (orcptLine (now (envelope .entry))) ∷ ofHeld (now (header .entry)) (heldOf rules (now (header .entry))) ∷ []) ⌝ }
 {
     match header_line::check(header) {
-        LineCheck::WellFormed => non_ascii(envelope, header),
+        LineCheck::WellFormed => non_ascii(rules, envelope, header),
         LineCheck::Malformed(line, at) => {
             let offset = offset::of_header_line(header, line, at);
             Verdict::Refuse(Refusal::HeaderLine(line, offset))

@@ -7,8 +7,9 @@ use lib.ListN.{take, drop}
 use Rattle.lists.specs.Lists.{joined}
 use Rattle.lists.specs.CutBy.{cutBy}
 use Rattle.line.specs.Line.{crlf, lineLen}
+use Rattle.rules.specs.declared.Rules.{Rules}
 use Rattle.envelope_line.specs.declared.Fault.{Fault}
-use Rattle.envelope_line.specs.declared.Fault.the-variants.{Fine, Malformed, NoAlternative, BadAlternative}
+use Rattle.envelope_line.specs.declared.Fault.the-variants.{Fine, Malformed, NoAlternative, BadAlternative, RetiredAlternative}
 use Rattle.envelope_line.specs.EnvelopeLine.{lineFault, orcptFault, writtenLine, replacement}
 use Rattle.envelope.specs.declared.Checked.{Checked}
 use Rattle.envelope.specs.declared.Checked.the-variants.{Passed, Refused}
@@ -28,31 +29,36 @@ lineText line = take (lineLen line) line
 -- ---- the check
 
 -- "each ended by CRLF"
-unfoldable pub endedFault : Bool → List ℕ → Fault
-endedFault mail line = cond (crlf (drop (lineLen line) line)) (lineFault mail (lineText line)) Malformed
+unfoldable pub endedFault : Rules → Bool → List ℕ → Fault
+endedFault rules mail line = cond (crlf (drop (lineLen line) line)) (lineFault rules mail (lineText line)) Malformed
 
 -- The fault of line n: "Lines count from 0." "One MAIL line, then 1 to 100 RCPT lines", "the 101st RCPT is malformed".
-unfoldable pub faultOf : ℕ → List ℕ → Fault
-faultOf n line = cond (leb n 100) (endedFault (eqb n 0) line) Malformed
+unfoldable pub faultOf : Rules → ℕ → List ℕ → Fault
+faultOf rules n line = cond (leb n 100) (endedFault rules (eqb n 0) line) Malformed
 
--- the number of the answer: 2 a malformed line, 3 a path that is not ASCII with no ALT-ADDRESS, 4 an ALT-ADDRESS that does not fit
+-- the number of the answer: 2 a malformed line, 3 a path that is not ASCII with no ALT-ADDRESS, 4 an ALT-ADDRESS that does not fit, 10 one in a
+-- current message
 unfoldable pub faultNumber : Fault → ℕ
 faultNumber Fine = 0
 faultNumber Malformed = 2
 faultNumber NoAlternative = 3
 faultNumber BadAlternative = 4
+faultNumber RetiredAlternative = 10
 
 unfoldable pub isFine : Fault → Bool
 isFine fault = eqb (faultNumber fault) 0
 
--- The lines from line n on: the first at fault, with its fault, or the number of RCPT lines. "A missing line is malformed at its
--- number, so an empty envelope is 2 at line 0".
-unfoldable pub checkedFrom : ℕ → List (List ℕ) → Checked
-checkedFrom n [] = cond (ltb n 2) (Refused Malformed n) (Passed (pred n))
-checkedFrom n (line ∷ more) = let next = checkedFrom (suc n) more in cond (isFine (faultOf n line)) next (Refused (faultOf n line) n)
+-- The number of RCPT lines where line n is missing. "A missing line is malformed at its number, so an empty envelope is 2 at line 0".
+unfoldable pub counted : ℕ → Checked
+counted n = cond (ltb n 2) (Refused Malformed n) (Passed (pred n))
 
-unfoldable pub checked : List ℕ → Checked
-checked e = checkedFrom 0 (lines e)
+-- the lines from line n on: the first at fault, with its fault, or the number of RCPT lines
+unfoldable pub checkedFrom : Rules → ℕ → List (List ℕ) → Checked
+checkedFrom rules n [] = counted n
+checkedFrom rules n (line ∷ more) = let next = checkedFrom rules (suc n) more in cond (isFine (faultOf rules n line)) next (Refused (faultOf rules n line) n)
+
+unfoldable pub checked : Rules → List ℕ → Checked
+checked rules e = checkedFrom rules 0 (lines e)
 
 -- ---- ORCPT
 

@@ -1,6 +1,6 @@
 -- What is written for an envelope without fault is what demand 2 asks for. Assumes nothing.
 use mathlib.Core.Path.{_≡_, refl, ap, sym, _∙_}
-use mathlib.Core.Bool.{Bool, true, false, _&&_, and-false}
+use mathlib.Core.Bool.{Bool, true, false, not, _&&_, and-false}
 use mathlib.Core.List.{List, [], _∷_, _++_, map, append-assoc}
 use Prim.Native.Nat.{ℕ, suc, pred, _+_, _≤_, _<_}
 use native.Mathlib.Omega.{arith}
@@ -14,11 +14,13 @@ use Rattle.lists.specs.ListsLaws.{true-yes, yes-true}
 use Rattle.lists.specs.CutByLaws.{cut-all}
 use Rattle.line.specs.Line.{crlf, lineLen, notCr}
 use Rattle.line.specs.LineLaws.{line-front}
+use Rattle.rules.specs.declared.Rules.{Rules}
+use Rattle.rules.specs.Rules.{allowsAlternative}
 use Rattle.envelope_line.specs.EnvelopeLine.{writtenLine}
-use Rattle.envelope_line.specs.LineGrammarLaws.{line-written, written-exact}
+use Rattle.envelope_line.specs.LineGrammarLaws.{line-written, written-exact, written-kept}
 use Rattle.envelope_line.specs.LineBytesLaws.{written-no-cr}
 use Rattle.envelope.specs.declared.Checked.the-variants.{Passed}
-use Rattle.envelope.specs.Envelope.{lines, lineText, endedFault, isFine, checkedFrom, checked, texts, writtenEnded, writtenOf, written}
+use Rattle.envelope.specs.Envelope.{lines, lineText, endedFault, isFine, counted, checkedFrom, checked, texts, writtenEnded, writtenOf, written}
 use Rattle.envelope.specs.LinesLaws.{lines-joined, texts-end, texts-at}
 use Rattle.envelope.specs.CheckLaws.{ended, ended-fine}
 use Rattle.envelope.specs.PassedLaws.{passed-line, passed-count, RcptsFine, LinesFine, passed-fine}
@@ -48,22 +50,22 @@ crlf-only (a ∷ b ∷ []) c h =
     rw (eqb→eq a 13 (p .0), eqb→eq b 10 (p .1))
 crlf-only (a ∷ b ∷ d ∷ s) c h = absurd (omega arith)
 
-text-ended : (mail : Bool) (line : List ℕ) → isFine (endedFault mail line) ≡ true → T (atEnd line) → lineText line ++ (13 ∷ 10 ∷ []) ≡ line
+text-ended : (rules : Rules) (mail : Bool) (line : List ℕ) → isFine (endedFault rules mail line) ≡ true → T (atEnd line) → lineText line ++ (13 ∷ 10 ∷ []) ≡ line
 unfolding lineText
-text-ended mail line f k =
+text-ended rules mail line f k =
     let n = lineLen line in
-    let last = crlf-only (drop n line) (ended mail line f) (rw length-drop (omega (arith, leb-yes {a = length line} {b = n + 2} k))) in
+    let last = crlf-only (drop n line) (ended rules mail line f) (rw length-drop (omega (arith, leb-yes {a = length line} {b = n + 2} k))) in
     rw last (take-append-drop n line)
 
 -- a line in front of others
 line-before : (text line rest : List ℕ) → text ++ (13 ∷ 10 ∷ []) ≡ line → line ++ rest ≡ text ++ (13 ∷ 10 ∷ rest)
 line-before text line rest e = rw (← e) (append-assoc text (13 ∷ 10 ∷ []) rest)
 
-rcpts-ended : (rcpts : List (List ℕ)) → RcptsFine rcpts → T (all atEnd rcpts) → joined rcpts ≡ eachEnded (map lineText rcpts)
-rcpts-ended [] f k = refl
-rcpts-ended (line ∷ more) f k =
+rcpts-ended : (rules : Rules) (rcpts : List (List ℕ)) → RcptsFine rules rcpts → T (all atEnd rcpts) → joined rcpts ≡ eachEnded (map lineText rcpts)
+rcpts-ended rules [] f k = refl
+rcpts-ended rules (line ∷ more) f k =
     let b = and-yes (atEnd line) (all atEnd more) k in
-    rw (rcpts-ended more (f .1) (b .1)) (line-before (lineText line) line (eachEnded (map lineText more)) (text-ended false line (f .0) (b .0)))
+    rw (rcpts-ended rules more (f .1) (b .1)) (line-before (lineText line) line (eachEnded (map lineText more)) (text-ended rules false line (f .0) (b .0)))
 
 -- ---- what is written
 
@@ -72,34 +74,34 @@ unfolding writtenEnded
 rcpts-out [] = refl
 rcpts-out (text ∷ more) = rw (rcpts-out more) (line-before (writtenLine false text) (writtenLine false text ++ (13 ∷ 10 ∷ [])) (eachEnded (map (writtenLine false) more)) refl)
 
-rcpts-written : (rcpts : List (List ℕ)) → RcptsFine rcpts → RcptsWritten (map lineText rcpts) (map (writtenLine false) (map lineText rcpts))
-rcpts-written [] f = RcptsWritten.end
-rcpts-written (line ∷ more) f = RcptsWritten.then (line-written false (lineText line) (ended-fine false line (f .0))) (rcpts-written more (f .1))
+rcpts-written : (rules : Rules) (rcpts : List (List ℕ)) → RcptsFine rules rcpts → RcptsWritten rules (map lineText rcpts) (map (writtenLine false) (map lineText rcpts))
+rcpts-written rules [] f = RcptsWritten.end
+rcpts-written rules (line ∷ more) f = RcptsWritten.then (line-written rules false (lineText line) (ended-fine rules false line (f .0))) (rcpts-written rules more (f .1))
 
-lines-written : (m : ℕ) (ls : List (List ℕ)) → checkedFrom 0 ls ≡ Passed m → LinesFine ls → T (all atEnd ls) → EnvelopeWritten (joined ls) (writtenOf (map lineText ls))
-unfolding writtenOf writtenEnded checkedFrom
-lines-written m [] p f k = absurd (let z : _≡_ {A = ℕ} 0 1 = cc in omega arith)
-lines-written m (mail ∷ rcpts) p f k =
+lines-written : (rules : Rules) (m : ℕ) (ls : List (List ℕ)) → checkedFrom rules 0 ls ≡ Passed m → LinesFine rules ls → T (all atEnd ls) → EnvelopeWritten rules (joined ls) (writtenOf (map lineText ls))
+unfolding writtenOf writtenEnded counted checkedFrom
+lines-written rules m [] p f k = absurd (let z : _≡_ {A = ℕ} 0 1 = cc in omega arith)
+lines-written rules m (mail ∷ rcpts) p f k =
     let b = and-yes (atEnd mail) (all atEnd rcpts) k in
-    let count = passed-count 0 0 m rcpts (omega arith) (passed-line 0 m mail rcpts p .1) in
+    let count = passed-count rules 0 0 m rcpts (omega arith) (passed-line rules 0 m mail rcpts p .1) in
     let text = lineText mail in
     record {
       mail = text;
       rcpts = map lineText rcpts;
       new-mail = writtenLine true text;
       new-rcpts = map (writtenLine false) (map lineText rcpts);
-      incoming = rw (rcpts-ended rcpts (f .1) (b .1)) (line-before text mail (eachEnded (map lineText rcpts)) (text-ended true mail (f .0) (b .0)));
+      incoming = rw (rcpts-ended rules rcpts (f .1) (b .1)) (line-before text mail (eachEnded (map lineText rcpts)) (text-ended rules true mail (f .0) (b .0)));
       outgoing = rw (rcpts-out (map lineText rcpts)) (line-before (writtenLine true text) (writtenLine true text ++ (13 ∷ 10 ∷ [])) (eachEnded (map (writtenLine false) (map lineText rcpts))) refl);
-      first = line-written true text (ended-fine true mail (f .0));
-      others = rcpts-written rcpts (f .1);
+      first = line-written rules true text (ended-fine rules true mail (f .0));
+      others = rcpts-written rules rcpts (f .1);
       some = rw length-map (omega (arith, count .2, count .3));
       few = rw length-map (omega (arith, count .1, count .2));
     }
 
 -- "A non-ASCII path is replaced by the decoded ALT-ADDRESS, and that parameter goes with the space before it. .. Nothing else changes."
-pub envelope-written : (e : List ℕ) (m : ℕ) → checked e ≡ Passed m → EnvelopeWritten e (written e)
+pub envelope-written : (rules : Rules) (e : List ℕ) (m : ℕ) → checked rules e ≡ Passed m → EnvelopeWritten rules e (written e)
 unfolding checked written texts
-envelope-written e m p = rw (lines-joined e) at (lines-written m (lines e) p (passed-fine e m p) (lines-end e))
+envelope-written rules e m p = rw (lines-joined e) at (lines-written rules m (lines e) p (passed-fine rules e m p) (lines-end e))
 
 -- ---- nothing else is written
 
@@ -121,17 +123,17 @@ texts-found (l ∷ ls) h =
     texts-at s 0 (lineLen s) (omega arith) some
     ∙ rw (no-crlf l (eachEnded ls) (p .0), take-append-seam l (13 ∷ 10 ∷ eachEnded ls), drop-append-add l (13 ∷ 10 ∷ eachEnded ls) 2, texts-found ls (p .1))
 
-rcpts-no-cr : {rcpts outs : List (List ℕ)} → RcptsWritten rcpts outs → T (all (all notCr) rcpts)
+rcpts-no-cr : {rules : Rules} {rcpts outs : List (List ℕ)} → RcptsWritten rules rcpts outs → T (all (all notCr) rcpts)
 rcpts-no-cr RcptsWritten.end = tt
 rcpts-no-cr (RcptsWritten.then {line} {more} w ws) = yes-and (all notCr line) (all (all notCr) more) (written-no-cr w) (rcpts-no-cr ws)
 
-rcpts-exact : {rcpts outs : List (List ℕ)} → RcptsWritten rcpts outs → outs ≡ map (writtenLine false) rcpts
+rcpts-exact : {rules : Rules} {rcpts outs : List (List ℕ)} → RcptsWritten rules rcpts outs → outs ≡ map (writtenLine false) rcpts
 rcpts-exact RcptsWritten.end = refl
 rcpts-exact (RcptsWritten.then {out} w ws) = rw (rcpts-exact ws, written-exact w)
 
-pub envelope-exact : {e out : List ℕ} → EnvelopeWritten e out → out ≡ written e
+pub envelope-exact : {rules : Rules} {e out : List ℕ} → EnvelopeWritten rules e out → out ≡ written e
 unfolding written writtenOf writtenEnded
-envelope-exact {e} {out} w =
+envelope-exact {e = e} {out} w =
     let mail = w .mail in
     let rcpts = w .rcpts in
     let new = writtenLine true mail in
@@ -140,3 +142,12 @@ envelope-exact {e} {out} w =
     let same : new ++ (13 ∷ 10 ∷ []) ++ joined (map (writtenEnded false) rcpts) ≡ eachEnded (w .new-mail ∷ w .new-rcpts) =
     rw (written-exact (w .first), rcpts-exact (w .others), rcpts-out rcpts) (line-before new (new ++ (13 ∷ 10 ∷ [])) (eachEnded (map (writtenLine false) rcpts)) refl) in
     w .outgoing ∙ sym (rw found same)
+
+-- ---- where an ALT-ADDRESS is refused the envelope goes as it came
+
+rcpts-kept : {rules : Rules} {rcpts outs : List (List ℕ)} → T (not (allowsAlternative rules)) → RcptsWritten rules rcpts outs → outs ≡ rcpts
+rcpts-kept n RcptsWritten.end = refl
+rcpts-kept n (RcptsWritten.then w ws) = rw (rcpts-kept n ws, written-kept n w)
+
+pub envelope-kept : {rules : Rules} {e out : List ℕ} → T (not (allowsAlternative rules)) → EnvelopeWritten rules e out → out ≡ e
+envelope-kept n w = w .outgoing ∙ rw (written-kept n (w .first), rcpts-kept n (w .others)) (sym (w .incoming))

@@ -7,6 +7,7 @@ use native.Mathlib.Omega.{arith}
 use lib.ListN.{length, length-append, length-take}
 use Rattle.lists.specs.Lists.{joined}
 use Rattle.line.specs.Line.{lineLen}
+use Rattle.rules.specs.declared.Rules.{Rules}
 use Rattle.envelope_line.specs.ReplacementLaws.{written-short}
 use Rattle.envelope.specs.declared.Checked.the-variants.{Passed}
 use Rattle.envelope.specs.Envelope.{lines, lineText, endedFault, isFine, checked, texts, writtenEnded, writtenOf, written}
@@ -14,20 +15,20 @@ use Rattle.envelope.specs.LinesLaws.{lines-joined}
 use Rattle.envelope.specs.CheckLaws.{ended-inside, ended-fine}
 use Rattle.envelope.specs.PassedLaws.{RcptsFine, LinesFine, passed-fine}
 
-ended-le : (mail : Bool) (line : List ℕ) → isFine (endedFault mail line) ≡ true → length (writtenEnded mail (lineText line)) ≤ length line
+ended-le : (rules : Rules) (mail : Bool) (line : List ℕ) → isFine (endedFault rules mail line) ≡ true → length (writtenEnded mail (lineText line)) ≤ length line
 unfolding writtenEnded lineText
-ended-le mail line f =
-    rw length-append (omega (arith, written-short mail (lineText line) (ended-fine mail line f), length-take (lineLen line) line, ended-inside mail line f))
+ended-le rules mail line f =
+    rw length-append (omega (arith, written-short rules mail (lineText line) (ended-fine rules mail line f), length-take (lineLen line) line, ended-inside rules mail line f))
 
-rcpts-le : (rcpts : List (List ℕ)) → RcptsFine rcpts → length (joined (map (writtenEnded false) (map lineText rcpts))) ≤ length (joined rcpts)
-rcpts-le [] f = omega arith
-rcpts-le (line ∷ more) f = rw (length-append, length-append) (omega (arith, ended-le false line (f .0), rcpts-le more (f .1)))
+rcpts-le : (rules : Rules) (rcpts : List (List ℕ)) → RcptsFine rules rcpts → length (joined (map (writtenEnded false) (map lineText rcpts))) ≤ length (joined rcpts)
+rcpts-le rules [] f = omega arith
+rcpts-le rules (line ∷ more) f = rw (length-append, length-append) (omega (arith, ended-le rules false line (f .0), rcpts-le rules more (f .1)))
 
-lines-le : (ls : List (List ℕ)) → LinesFine ls → length (writtenOf (map lineText ls)) ≤ length (joined ls)
+lines-le : (rules : Rules) (ls : List (List ℕ)) → LinesFine rules ls → length (writtenOf (map lineText ls)) ≤ length (joined ls)
 unfolding writtenOf
-lines-le [] f = omega arith
-lines-le (mail ∷ rcpts) f = rw (length-append, length-append) (omega (arith, ended-le true mail (f .0), rcpts-le rcpts (f .1)))
+lines-le rules [] f = omega arith
+lines-le rules (mail ∷ rcpts) f = rw (length-append, length-append) (omega (arith, ended-le rules true mail (f .0), rcpts-le rules rcpts (f .1)))
 
-pub written-le : (e : List ℕ) (m : ℕ) → checked e ≡ Passed m → length (written e) ≤ length e
+pub written-le : (rules : Rules) (e : List ℕ) (m : ℕ) → checked rules e ≡ Passed m → length (written e) ≤ length e
 unfolding written texts
-written-le e m p = rw (lines-joined e) at (lines-le (lines e) (passed-fine e m p))
+written-le rules e m p = rw (lines-joined e) at (lines-le rules (lines e) (passed-fine rules e m p))

@@ -6,22 +6,23 @@ use mathlib.Core.List.{List, [], _∷_, map}
 use Prim.Native.Nat.{ℕ, zero, suc, _+_, min}
 use lib.ListN.{length, drop, getD}
 use Rattle.buffer.specs.Buffer.{overlay}
+use Rattle.rules.specs.declared.Rules.{Rules}
 use Rattle.envelope.specs.declared.Checked.{Checked}
 use Rattle.envelope.specs.Envelope.{lines, lineText, faultOf, isFine, checked}
 
 -- where the lines from line n on start, up to the first at fault; line n starts at `at`
-unfoldable pub startsFrom : ℕ → ℕ → List (List ℕ) → List ℕ
-startsFrom n at [] = []
-startsFrom n at (line ∷ more) = let next = startsFrom (suc n) (at + length line) more in cond (isFine (faultOf n line)) (at ∷ next) []
+unfoldable pub startsFrom : Rules → ℕ → ℕ → List (List ℕ) → List ℕ
+startsFrom rules n at [] = []
+startsFrom rules n at (line ∷ more) = let next = startsFrom rules (suc n) (at + length line) more in cond (isFine (faultOf rules n line)) (at ∷ next) []
 
 -- where the RCPT lines start: all but the first line
-unfoldable pub rcptStarts : List ℕ → List ℕ
-rcptStarts e = drop 1 (startsFrom 0 0 (lines e))
+unfoldable pub rcptStarts : Rules → List ℕ → List ℕ
+rcptStarts rules e = drop 1 (startsFrom rules 0 0 (lines e))
 
 -- What the check answers; and the array afterwards, in which the starts of the RCPT lines are stored from the front.
-pub record EnvelopeChecked (e before after : List ℕ) (r : Checked) : Type 0 where
-  pub answer : r ≡ checked e
-  pub starts : after ≡ overlay (rcptStarts e) before
+pub record EnvelopeChecked (rules : Rules) (e before after : List ℕ) (r : Checked) : Type 0 where
+  pub answer : r ≡ checked rules e
+  pub starts : after ≡ overlay (rcptStarts rules e) before
 
 -- the first n entries of an array
 unfoldable pub entries : ℕ → List ℕ → List ℕ

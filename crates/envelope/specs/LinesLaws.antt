@@ -11,6 +11,7 @@ use Rattle.lists.specs.Lists.{joined}
 use Rattle.lists.specs.CutByLaws.{cut-nil, cut-next, cut-joined}
 use Rattle.line.specs.Line.{lineLen}
 use Rattle.line.specs.LineLaws.{line-front, crlf-front}
+use Rattle.rules.specs.declared.Rules.{Rules}
 use Rattle.envelope.specs.Envelope.{lines, lineText, endedFault, faultOf, texts}
 
 -- the lines joined are the envelope
@@ -25,13 +26,13 @@ module _ (s : List ℕ) where
   unfolding lineText
   text-front = rw (line-front s) (take-take (lineLen s) (lineLen s + 2) s (omega arith))
 
-  ended-front : (mail : Bool) → endedFault mail (take (lineLen s + 2) s) ≡ endedFault mail s
+  ended-front : (rules : Rules) (mail : Bool) → endedFault rules mail (take (lineLen s + 2) s) ≡ endedFault rules mail s
   unfolding endedFault
-  ended-front mail = rw (line-front s, crlf-front s, text-front)
+  ended-front rules mail = rw (line-front s, crlf-front s, text-front)
 
-  pub fault-front : (n : ℕ) → faultOf n (take (lineLen s + 2) s) ≡ faultOf n s
+  pub fault-front : (rules : Rules) (n : ℕ) → faultOf rules n (take (lineLen s + 2) s) ≡ faultOf rules n s
   unfolding faultOf
-  fault-front n = rw (ended-front (eqb n 0))
+  fault-front rules n = rw (ended-front rules (eqb n 0))
 
 -- ---- the line at a place; `end` is where its CRLF is due
 

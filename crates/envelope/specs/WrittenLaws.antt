@@ -15,9 +15,10 @@ use Rattle.lists.specs.CutBy.{cutBy, cutAfter}
 use Rattle.buffer.specs.Buffer.{overlay, AppendedCapped, ReachedCapped, greatest}
 use Rattle.buffer.specs.BufferLaws.{length-overlay, overlay-front, capped-start, capped-turn, capped-end, capped-then}
 use Rattle.line.specs.Line.{lineLen}
+use Rattle.rules.specs.declared.Rules.{Rules}
 use Rattle.envelope_line.specs.EnvelopeLine.{path, writtenLine, replacement}
 use Rattle.envelope.specs.declared.Checked.the-variants.{Passed}
-use Rattle.envelope.specs.Envelope.{lines, lineText, faultOf, isFine, checkedFrom, checked, texts, writtenEnded, writtenOf, mailOf, mailReplacement, onlyRcptOf}
+use Rattle.envelope.specs.Envelope.{lines, lineText, faultOf, isFine, counted, checkedFrom, checked, texts, writtenEnded, writtenOf, mailOf, mailReplacement, onlyRcptOf}
 use Rattle.envelope.specs.LineStarts.{startsFrom, rcptStarts, EnvelopeChecked, entries, textsAt}
 use Rattle.envelope.specs.LinesLaws.{text-front, fault-front, lines-end, lines-at, texts-at}
 use Rattle.envelope.specs.CheckLaws.{fine-end}
@@ -112,33 +113,33 @@ replaced-mail e f = rw f (go e)
 -- ---- the starts that the check stored
 
 -- the lines that start there
-starts-texts : (e : List ℕ) (n at m : ℕ) (ls : List (List ℕ)) → ls ≡ lines (drop at e) → checkedFrom n ls ≡ Passed m
-    → map (λ start. lineText (drop start e)) (startsFrom n at ls) ≡ map lineText ls
+starts-texts : (rules : Rules) (e : List ℕ) (n at m : ℕ) (ls : List (List ℕ)) → ls ≡ lines (drop at e) → checkedFrom rules n ls ≡ Passed m
+    → map (λ start. lineText (drop start e)) (startsFrom rules n at ls) ≡ map lineText ls
 unfolding startsFrom
-starts-texts e n at m [] q p = refl
-starts-texts e n at m (line ∷ more) q p =
-    let f = passed-line n m line more p in
+starts-texts rules e n at m [] q p = refl
+starts-texts rules e n at m (line ∷ more) q p =
+    let f = passed-line rules n m line more p in
     by-test (ltb at (length e))
     (λ t. let s = drop at e in
     let cut = q ∙ lines-at e at (at + lineLen s) refl (ltb-yes {a = at} {b = length e} t) in
     let a : line ≡ take (lineLen s + 2) s = cc in
     let b : more ≡ lines (drop (at + lineLen s + 2) e) = cc in
     let text : lineText s ≡ lineText line = rw a (sym (text-front s)) in
-    let g : isFine (faultOf n s) ≡ true = rw (← fault-front s n, ← a) (f .0) in
-    let to : at + lineLen s + 2 ≡ at + length line = rw a (omega (arith, length-take (lineLen s + 2) s, length-drop at e, fine-end e at (at + lineLen s) n refl g)) in
-    let rest = starts-texts e (suc n) (at + length line) m more (rw (← to) b) (f .1) in
+    let g : isFine (faultOf rules n s) ≡ true = rw (← fault-front s rules n, ← a) (f .0) in
+    let to : at + lineLen s + 2 ≡ at + length line = rw a (omega (arith, length-take (lineLen s + 2) s, length-drop at e, fine-end rules e at (at + lineLen s) n refl g)) in
+    let rest = starts-texts rules e (suc n) (at + length line) m more (rw (← to) b) (f .1) in
     rw (f .0, text, rest))
     (λ t. absurd (let z = q ∙ lines-end e at (ltb-no {a = at} {b = length e} t) in let y : _≡_ {A = ℕ} 0 1 = cc in omega arith))
 
 -- the first line and the RCPT lines; as many starts as RCPT lines, at most 100
-rcpts-texts : (e : List ℕ) (m : ℕ) (ls : List (List ℕ)) → ls ≡ lines e → checkedFrom 0 ls ≡ Passed m
-    → (lineText e ∷ map (λ at. lineText (drop at e)) (drop 1 (startsFrom 0 0 ls)) ≡ map lineText ls) × (length (drop 1 (startsFrom 0 0 ls)) ≡ m) × (m ≤ 100)
-unfolding startsFrom checkedFrom
-rcpts-texts e m [] q p = absurd (let z : _≡_ {A = ℕ} 0 1 = cc in omega arith)
-rcpts-texts e m (mail ∷ rcpts) q p =
-    let f = passed-line 0 m mail rcpts p in
-    let k = passed-count 0 (0 + length mail) m rcpts (omega arith) (f .1) in
-    (rw (f .0) (rw (f .0) at (starts-texts e 0 0 m (mail ∷ rcpts) q p)), rw (f .0) (omega (arith, k .0)), k .1)
+rcpts-texts : (rules : Rules) (e : List ℕ) (m : ℕ) (ls : List (List ℕ)) → ls ≡ lines e → checkedFrom rules 0 ls ≡ Passed m
+    → (lineText e ∷ map (λ at. lineText (drop at e)) (drop 1 (startsFrom rules 0 0 ls)) ≡ map lineText ls) × (length (drop 1 (startsFrom rules 0 0 ls)) ≡ m) × (m ≤ 100)
+unfolding startsFrom counted checkedFrom
+rcpts-texts rules e m [] q p = absurd (let z : _≡_ {A = ℕ} 0 1 = cc in omega arith)
+rcpts-texts rules e m (mail ∷ rcpts) q p =
+    let f = passed-line rules 0 m mail rcpts p in
+    let k = passed-count rules 0 (0 + length mail) m rcpts (omega arith) (f .1) in
+    (rw (f .0) (rw (f .0) at (starts-texts rules e 0 0 m (mail ∷ rcpts) q p)), rw (f .0) (omega (arith, k .0)), k .1)
 
 entries-take : (n : ℕ) (array : List ℕ) → n ≤ length array → entries n array ≡ take n array
 unfolding entries
@@ -147,11 +148,11 @@ entries-take (suc n) [] h = absurd (not-suc-le-zero h)
 entries-take (suc n) (x ∷ array) h = ap (λ (xs : List ℕ). x ∷ xs) (entries-take n array (le-of-suc-le-suc h))
 
 -- the lines that are found by the starts that the check stored in an array of 100 are the lines of the envelope
-pub stored : {e before after : List ℕ} {m : ℕ} → EnvelopeChecked e before after (Passed m) → length before ≡ 100 → textsAt m after e ≡ texts e
+pub stored : {rules : Rules} {e before after : List ℕ} {m : ℕ} → EnvelopeChecked rules e before after (Passed m) → length before ≡ 100 → textsAt m after e ≡ texts e
 unfolding textsAt texts checked rcptStarts
-stored {e} {before} {after} {m} c h =
-    let starts = drop 1 (startsFrom 0 0 (lines e)) in
-    let k = rcpts-texts e m (lines e) refl (sym (c .answer)) in
+stored {rules} {e} {before} {after} {m} c h =
+    let starts = drop 1 (startsFrom rules 0 0 (lines e)) in
+    let k = rcpts-texts rules e m (lines e) refl (sym (c .answer)) in
     let q : min m 100 ≡ length starts = omega (arith, k .1, k .2) in
     let fits : length starts ≤ length (overlay starts before) = rw length-overlay (omega (arith, k .1, k .2)) in
     rw (q, c .starts, entries-take (length starts) (overlay starts before) fits, overlay-front starts before (omega (arith, k .1, k .2))) (k .0)

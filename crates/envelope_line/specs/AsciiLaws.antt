@@ -15,13 +15,14 @@ use Rattle.lists.specs.Lists.{all}
 use Rattle.lists.specs.Byte.{within, isAscii}
 use Rattle.lists.specs.ByteLaws.{within-high}
 use Rattle.letter_case.specs.LetterCase.{bytes, lower, sameAnyCase}
+use Rattle.rules.specs.declared.Rules.{Rules}
 use Rattle.address.specs.Address.{isAddress, isAsciiAddress}
 use Rattle.xtext.specs.Xtext.{decoded, isXtext, isAltAddress}
-use Rattle.envelope_line.specs.declared.Fault.the-variants.{Fine, BadAlternative}
+use Rattle.envelope_line.specs.declared.Fault.the-variants.{Fine}
 use Rattle.envelope_line.specs.EnvelopeLine.{verb, verbLen, hasVerb, pathLen, path, tail, altFault, lineFault, orcptFault, newPath, withoutAlt, writtenLine}
 use Rattle.parameter.specs.Parameter.{params, value, alts, alt, altPlace, orcptClean}
 use Rattle.parameter.specs.AsciiLaws.{tail-ascii}
-use Rattle.envelope_line.specs.FaultLaws.{formed, closed, alt-fine}
+use Rattle.envelope_line.specs.FaultLaws.{alt-taken, formed, closed, alt-fine}
 
 module _ (f : ℕ → Bool) (n : ℕ) (s : List ℕ) (h : T (all f s)) where
   all-take : T (all f (take n s))
@@ -48,8 +49,8 @@ same-ascii (x ∷ xs) (y ∷ ys) t h =
 
 -- ---- the new path
 
-module _ (ps : List (List ℕ)) where
-  pub new-ascii : altFault false (alts ps) ≡ Fine → T (all isAscii (decoded (value (alt ps))))
+module _ (rules : Rules) (ps : List (List ℕ)) where
+  pub new-ascii : altFault rules false (alts ps) ≡ Fine → T (all isAscii (decoded (value (alt ps))))
   unfolding altFault alt isAltAddress isAsciiAddress
   new-ascii f = go (alts ps) refl
     where
@@ -57,10 +58,8 @@ module _ (ps : List (List ℕ)) where
       go [] e = absurd (let g = rw e at f in let z : _≡_ {A = ℕ} 0 1 = cc in omega arith)
       go (p ∷ more) e =
           let v = value p in
-          let g : cond (isAltAddress v) Fine BadAlternative ≡ Fine = rw e at f in
-          rw e (by-test (isAltAddress v)
-          (λ t. and-yes (isAddress (decoded v)) (all isAscii (decoded v)) (and-yes (leb (length v) 998 && isXtext v) (isAsciiAddress (decoded v)) t .1) .1)
-          (λ t. absurd (let q = rw (no-false (isAltAddress v) t) at g in let z : _≡_ {A = ℕ} 0 1 = cc in omega arith)))
+          let t = alt-taken rules false v (rw e at f) .is-address in
+          rw e (and-yes (isAddress (decoded v)) (all isAscii (decoded v)) (and-yes (leb (length v) 998 && isXtext v) (isAsciiAddress (decoded v)) t .1) .1)
 
 -- ---- the line
 
@@ -74,21 +73,21 @@ unfolding verb bytes
 verb-ascii true = tt
 verb-ascii false = tt
 
-module _ (mail : Bool) (line : List ℕ) (f : lineFault mail line ≡ Fine) where
+module _ (rules : Rules) (mail : Bool) (line : List ℕ) (f : lineFault rules mail line ≡ Fine) where
   pub front-ascii : T (all isAscii (take (verbLen mail) line))
   unfolding hasVerb
-  front-ascii = same-ascii (verb mail) (take (verbLen mail) line) (formed mail line f .has-verb) (verb-ascii mail)
+  front-ascii = same-ascii (verb mail) (take (verbLen mail) line) (formed rules mail line f .has-verb) (verb-ascii mail)
 
   module _ (o : orcptFault mail line ≡ false) where
     rest-ascii : T (all isAscii (tail mail line))
     unfolding orcptFault
-    rest-ascii = tail-ascii (tail mail line) (formed mail line f .is-spaced) (formed mail line f .are-params) (true-yes (all orcptClean (params (tail mail line))) (not-false (all orcptClean (params (tail mail line))) o))
+    rest-ascii = tail-ascii (tail mail line) (formed rules mail line f .is-spaced) (formed rules mail line f .are-params) (true-yes (all orcptClean (params (tail mail line))) (not-false (all orcptClean (params (tail mail line))) o))
 
     closed-ascii : T (all isAscii (drop (verbLen mail + pathLen mail line) line))
     unfolding tail
     closed-ascii =
         let n = verbLen mail + pathLen mail line in
-        ascii-from line n (rw (closed mail line f) tt) rest-ascii
+        ascii-from line n (rw (closed rules mail line f) tt) rest-ascii
 
     -- "Out: an ASCII envelope": of a line
     pub line-ascii : T (all isAscii (writtenLine mail line))
@@ -100,7 +99,7 @@ module _ (mail : Bool) (line : List ℕ) (f : lineFault mail line ≡ Fine) wher
         let from : T (all isAscii (drop v line)) = rw (take-append-drop n (drop v line)) at (all-append isAscii (take n (drop v line)) (drop n (drop v line)) t after) in
         rw (take-append-drop v line) at (all-append isAscii (take v line) (drop v line) front-ascii from))
         (λ t. let ps = params (tail mail line) in
-        let new = new-ascii ps (rw (no-false (all isAscii (path mail line)) t) at (alt-fine mail line f)) in
+        let new = new-ascii rules ps (rw (no-false (all isAscii (path mail line)) t) at (alt-fine rules mail line f)) in
         let n = altPlace ps in
         let m = altPlace ps + suc (length (alt ps)) in
         let others = all-append isAscii (take n (tail mail line)) (drop m (tail mail line)) (all-take isAscii n (tail mail line) rest-ascii) (all-drop isAscii m (tail mail line) rest-ascii) in

@@ -11,13 +11,15 @@ use Rattle.lists.specs.Lists.{all}
 use Rattle.lists.specs.Byte.{isAscii}
 use Rattle.utf8.specs.Utf8.{utf8}
 use Rattle.letter_case.specs.LetterCase.{bytes, sameAnyCase}
+use Rattle.rules.specs.declared.Rules.{Rules}
+use Rattle.rules.specs.Rules.{allowsAlternative}
 use Rattle.address.specs.declared.Scan.{Scan}
 use Rattle.address.specs.declared.Scan.the-variants.{To, Stop}
 use Rattle.address.specs.Address.{addressScan}
 use Rattle.xtext.specs.Xtext.{decoded, isAltAddress}
 use Rattle.parameter.specs.Parameter.{params, spaced, value, isParam, alts, altsOk, alt, altPlace, orcptClean}
 use Rattle.envelope_line.specs.declared.Fault.{Fault}
-use Rattle.envelope_line.specs.declared.Fault.the-variants.{Fine, Malformed, NoAlternative, BadAlternative}
+use Rattle.envelope_line.specs.declared.Fault.the-variants.{Fine, Malformed, NoAlternative, BadAlternative, RetiredAlternative}
 
 -- ---- verb
 
@@ -77,17 +79,19 @@ wellFormed mail line =
     && all isParam (params (tail mail line))
     && altsOk (alts (params (tail mail line)))
 
--- 3: "path not ASCII, no ALT-ADDRESS". 4: "ALT-ADDRESS beside an ASCII path, or not xtext of an ASCII address". Given whether the
--- path is ASCII, and the ALT-ADDRESS parameters. The empty path and Postmaster are ASCII.
-unfoldable pub altFault : Bool → List (List ℕ) → Fault
-altFault true [] = Fine
-altFault true (p ∷ ps) = BadAlternative
-altFault false [] = NoAlternative
-altFault false (p ∷ ps) = cond (isAltAddress (value p)) Fine BadAlternative
+-- 4: "ALT-ADDRESS beside an ASCII path, or not xtext of an ASCII address". 10: "ALT-ADDRESS in a current message, .. in place of 4". Given
+-- whether the path is ASCII, and the value of ALT-ADDRESS. The empty path and Postmaster are ASCII.
+unfoldable pub valueFault : Rules → Bool → List ℕ → Fault
+valueFault rules ascii v = cond (allowsAlternative rules) (cond (not ascii && isAltAddress v) Fine BadAlternative) RetiredAlternative
 
--- "the lowest number within one line"
-unfoldable pub lineFault : Bool → List ℕ → Fault
-lineFault mail line = cond (wellFormed mail line) (altFault (all isAscii (path mail line)) (alts (params (tail mail line)))) Malformed
+-- 3: "path not ASCII, no ALT-ADDRESS". Given the ALT-ADDRESS parameters.
+unfoldable pub altFault : Rules → Bool → List (List ℕ) → Fault
+altFault rules ascii [] = cond ascii Fine NoAlternative
+altFault rules ascii (p ∷ ps) = valueFault rules ascii (value p)
+
+-- "the lowest number within one line"; 10 "on its line after 2"
+unfoldable pub lineFault : Rules → Bool → List ℕ → Fault
+lineFault rules mail line = cond (wellFormed mail line) (altFault rules (all isAscii (path mail line)) (alts (params (tail mail line)))) Malformed
 
 -- "an ORCPT carries non-ASCII"
 unfoldable pub orcptFault : Bool → List ℕ → Bool

@@ -20,6 +20,7 @@ use Rattle.address.specs.GrammarLaws.{address-visible}
 use Rattle.parameter.specs.Parameter.{spacedLen, params, isKeywordByte, isValueByte, keywordLen, value, isOrcpt, orcptClean}
 use Rattle.parameter.specs.AsciiLaws.{tail-ascii}
 use Rattle.envelope_line.specs.EnvelopeLine.{verb, tail, orcptFault}
+use Rattle.rules.specs.declared.Rules.{Rules}
 use Rattle.envelope_line.specs.LineGrammar.{Verb, Path, Keyword, Value, Parameter, Others, Alt, Tail, Line, Written}
 use Rattle.envelope_line.specs.LineGrammarLaws.{lower-mark, line-tail}
 use Rattle.envelope_line.specs.TailGrammarLaws.{tail-reads}
@@ -83,9 +84,9 @@ parts-no-cr {mail} {front} {p} f q t h = all-append notCr front (p ++ (62 ∷ t)
 plain-no-cr : {t : List ℕ} → Tail none t → T (all notCr t)
 plain-no-cr (Tail.plain o) = others-no-cr o
 
-pub written-no-cr : {mail : Bool} {line out : List ℕ} → Written mail line out → T (all notCr line)
+pub written-no-cr : {rules : Rules} {mail : Bool} {line out : List ℕ} → Written rules mail line out → T (all notCr line)
 written-no-cr (Written.copied l h) = rw (l .is) (parts-no-cr (l .is-front) (l .is-path) (l .tail) (plain-no-cr (l .is-tail)))
-written-no-cr (Written.replaced {before} {p} {after} f q h o x a y) = parts-no-cr f q (before ++ (32 ∷ (p ++ after))) (with-alt-no-cr o x y)
+written-no-cr (Written.replaced {before} {p} {after} u f q h o x a y) = parts-no-cr f q (before ++ (32 ∷ (p ++ after))) (with-alt-no-cr o x y)
 
 -- ---- ORCPT
 

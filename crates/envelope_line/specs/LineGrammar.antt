@@ -14,11 +14,13 @@ use Rattle.lists.specs.Lists.{all, nonempty}
 use Rattle.lists.specs.Byte.{isAscii}
 use Rattle.utf8.specs.Utf8.{utf8}
 use Rattle.letter_case.specs.LetterCase.{bytes, sameAnyCase}
+use Rattle.rules.specs.declared.Rules.{Rules}
+use Rattle.rules.specs.Rules.{allowsAlternative}
 use Rattle.address.specs.Grammar.{Address}
 use Rattle.xtext.specs.Grammar.{AltAddress}
 use Rattle.parameter.specs.Parameter.{isKeywordByte, isValueByte}
 use Rattle.envelope_line.specs.declared.Fault.{Fault}
-use Rattle.envelope_line.specs.declared.Fault.the-variants.{Fine, Malformed, NoAlternative, BadAlternative}
+use Rattle.envelope_line.specs.declared.Fault.the-variants.{Fine, Malformed, NoAlternative, BadAlternative, RetiredAlternative}
 use Rattle.envelope_line.specs.EnvelopeLine.{verb}
 
 -- "`MAIL FROM:<path>` or `RCPT TO:<path>`, verbs in any case": what stands before the path
@@ -75,20 +77,21 @@ pub record Line (mail : Bool) (path : List ℕ) (alternative : Option (List ℕ)
   pub is-tail : Tail alternative tail
 
 -- The answers to a line: 2 "envelope line malformed", 3 "path not ASCII, no ALT-ADDRESS", 4 "ALT-ADDRESS beside an ASCII path, or not
--- xtext of an ASCII address".
-pub data Answer (mail : Bool) (line : List ℕ) : Fault → Type 0 where
-  malformed : ((path : List ℕ) (alternative : Option (List ℕ)) → Line mail path alternative line → ⊥) → Answer mail line Malformed
-  no-alternative : {path : List ℕ} → Line mail path none line → T (not (all isAscii path)) → Answer mail line NoAlternative
-  beside-ascii : {path v : List ℕ} → Line mail path (some v) line → T (all isAscii path) → Answer mail line BadAlternative
-  no-address : {path v : List ℕ} → Line mail path (some v) line → T (not (all isAscii path)) → ((address : List ℕ) → AltAddress v address → ⊥)
-      → Answer mail line BadAlternative
-  as-it-is : {path : List ℕ} → Line mail path none line → T (all isAscii path) → Answer mail line Fine
-  to-replace : {path v new : List ℕ} → Line mail path (some v) line → T (not (all isAscii path)) → AltAddress v new → Answer mail line Fine
+-- xtext of an ASCII address", 10 "ALT-ADDRESS in a current message".
+pub data Answer (rules : Rules) (mail : Bool) (line : List ℕ) : Fault → Type 0 where
+  malformed : ((path : List ℕ) (alternative : Option (List ℕ)) → Line mail path alternative line → ⊥) → Answer rules mail line Malformed
+  no-alternative : {path : List ℕ} → Line mail path none line → T (not (all isAscii path)) → Answer rules mail line NoAlternative
+  beside-ascii : {path v : List ℕ} → T (allowsAlternative rules) → Line mail path (some v) line → T (all isAscii path) → Answer rules mail line BadAlternative
+  no-address : {path v : List ℕ} → T (allowsAlternative rules) → Line mail path (some v) line → T (not (all isAscii path)) → ((address : List ℕ) → AltAddress v address → ⊥)
+      → Answer rules mail line BadAlternative
+  retired : {path v : List ℕ} → T (not (allowsAlternative rules)) → Line mail path (some v) line → Answer rules mail line RetiredAlternative
+  as-it-is : {path : List ℕ} → Line mail path none line → T (all isAscii path) → Answer rules mail line Fine
+  to-replace : {path v new : List ℕ} → T (allowsAlternative rules) → Line mail path (some v) line → T (not (all isAscii path)) → AltAddress v new → Answer rules mail line Fine
 
 -- A line and what is written for it: "A non-ASCII path is replaced by the decoded ALT-ADDRESS, and that parameter goes with the space
 -- before it. .. Nothing else changes." A line that is written has passed the check; what is said of it here is what fixes the output.
-pub data Written (mail : Bool) : List ℕ → List ℕ → Type 0 where
-  copied : {line path : List ℕ} → Line mail path none line → T (all isAscii path) → Written mail line line
-  replaced : {front path before p v new after : List ℕ} → Verb mail front → Path mail path → T (not (all isAscii path))
+pub data Written (rules : Rules) (mail : Bool) : List ℕ → List ℕ → Type 0 where
+  copied : {line path : List ℕ} → Line mail path none line → T (all isAscii path) → Written rules mail line line
+  replaced : {front path before p v new after : List ℕ} → T (allowsAlternative rules) → Verb mail front → Path mail path → T (not (all isAscii path))
       → Others before → Alt v p → AltAddress v new → Others after
-      → Written mail (front ++ (path ++ (62 ∷ (before ++ (32 ∷ (p ++ after)))))) (front ++ (new ++ (62 ∷ (before ++ after))))
+      → Written rules mail (front ++ (path ++ (62 ∷ (before ++ (32 ∷ (p ++ after)))))) (front ++ (new ++ (62 ∷ (before ++ after))))

@@ -17,6 +17,8 @@ use Rattle.lists.specs.Lists.{all, nonempty}
 use Rattle.lists.specs.Byte.{within, isAscii}
 use Rattle.utf8.specs.Utf8.{utf8}
 use Rattle.letter_case.specs.LetterCase.{bytes, lower, sameAnyCase}
+use Rattle.rules.specs.declared.Rules.{Rules}
+use Rattle.rules.specs.Rules.{allowsAlternative}
 use Rattle.address.specs.declared.Scan.{Scan}
 use Rattle.address.specs.declared.Scan.the-variants.{To, Stop}
 use Rattle.address.specs.Address.{isAtext, isAtomByte, scanThen, dotAtomFrom, dotAtomScan, localScan, addressScan}
@@ -27,9 +29,9 @@ use Rattle.xtext.specs.Xtext.{decoded, isAltAddress}
 use Rattle.xtext.specs.GrammarLaws.{xtext-read, read-alt-address, alt-address-read}
 use Rattle.parameter.specs.Parameter.{params, spaced, isParam, alts, altsOk}
 use Rattle.envelope_line.specs.declared.Fault.{Fault}
-use Rattle.envelope_line.specs.declared.Fault.the-variants.{Fine, Malformed, NoAlternative, BadAlternative}
-use Rattle.envelope_line.specs.EnvelopeLine.{verb, verbLen, hasVerb, pathScan, scanEnd, isTo, pathLen, path, hasPath, tail, wellFormed, altFault, lineFault, newPath, writtenLine}
-use Rattle.envelope_line.specs.FaultLaws.{Formed, formed-of, closed-of, well-formed}
+use Rattle.envelope_line.specs.declared.Fault.the-variants.{Fine, Malformed, NoAlternative, BadAlternative, RetiredAlternative}
+use Rattle.envelope_line.specs.EnvelopeLine.{verb, verbLen, hasVerb, pathScan, scanEnd, isTo, pathLen, path, hasPath, tail, wellFormed, valueFault, altFault, lineFault, newPath, writtenLine}
+use Rattle.envelope_line.specs.FaultLaws.{alt-taken, Formed, formed-of, closed-of, well-formed}
 use Rattle.envelope_line.specs.LineGrammar.{Verb, Path, Others, Alt, Tail, Line, Answer, Written}
 use Rattle.envelope_line.specs.TailGrammarLaws.{altValue, read-tail, tail-reads, alt-value, alt-gone, value-le}
 
@@ -290,18 +292,14 @@ module _ {mail : Bool} {front p : List ℕ} (f : Verb mail front) (q : Path mail
       (yes-and a b (yes-leb {a = length made} {b = 998} l) u) front-same) marked) (r .is-spaced)) (r .each)) (r .alts-ok))
 
 -- the fault by the path and the value of ALT-ADDRESS
-abbrev faultBy : Bool → Option (List ℕ) → Fault
-faultBy true none = Fine
-faultBy true (some v) = BadAlternative
-faultBy false none = NoAlternative
-faultBy false (some v) = cond (isAltAddress v) Fine BadAlternative
+abbrev faultBy : Rules → Bool → Option (List ℕ) → Fault
+faultBy rules ascii none = cond ascii Fine NoAlternative
+faultBy rules ascii (some v) = valueFault rules ascii v
 
-alt-fault-by : (ascii : Bool) (found : List (List ℕ)) → altFault ascii found ≡ faultBy ascii (altValue found)
+alt-fault-by : (rules : Rules) (ascii : Bool) (found : List (List ℕ)) → altFault rules ascii found ≡ faultBy rules ascii (altValue found)
 unfolding altFault
-alt-fault-by true [] = refl
-alt-fault-by true (p ∷ found) = refl
-alt-fault-by false [] = refl
-alt-fault-by false (p ∷ found) = refl
+alt-fault-by rules ascii [] = refl
+alt-fault-by rules ascii (p ∷ found) = refl
 
 record LineRead (mail : Bool) (p : List ℕ) (v : Option (List ℕ)) (line : List ℕ) : Type 0 where
   well : T (wellFormed mail line)
@@ -316,11 +314,11 @@ line-read {mail} {p} {v} {line} l =
       value-is = rw (made-tail (l .is-front) (l .is-path) (l .tail)) (tail-reads (l .is-tail) .alternative);
     })
 
-line-fault : {mail : Bool} {p : List ℕ} {v : Option (List ℕ)} {line : List ℕ} → Line mail p v line → lineFault mail line ≡ faultBy (all isAscii p) v
+line-fault : (rules : Rules) {mail : Bool} {p : List ℕ} {v : Option (List ℕ)} {line : List ℕ} → Line mail p v line → lineFault rules mail line ≡ faultBy rules (all isAscii p) v
 unfolding lineFault
-line-fault {mail} {p} {v} {line} l =
+line-fault rules {mail} {p} {v} {line} l =
     let r = line-read l in
-    rw (yes-true (wellFormed mail line) (r .well), r .path-is) (alt-fault-by (all isAscii p) (alts (params (tail mail line))) ∙ ap (faultBy (all isAscii p)) (r .value-is))
+    rw (yes-true (wellFormed mail line) (r .well), r .path-is) (alt-fault-by rules (all isAscii p) (alts (params (tail mail line))) ∙ ap (faultBy rules (all isAscii p)) (r .value-is))
 
 pub line-tail : {mail : Bool} {p : List ℕ} {v : Option (List ℕ)} {line : List ℕ} (l : Line mail p v line) → tail mail line ≡ l .tail
 line-tail {mail} l = ap (tail mail) (l .is) ∙ made-tail (l .is-front) (l .is-path) (l .tail)
@@ -333,37 +331,51 @@ value-short {mail} {p} {v} {line} l =
     let size = simp length-append at (ap length (l .is)) in
     omega (arith, value-le (l .is-tail), l .short, size)
 
-answer-by : {mail : Bool} {p : List ℕ} {v : Option (List ℕ)} {line : List ℕ} (ascii : Bool) → ascii ≡ all isAscii p → Line mail p v line → Answer mail line (faultBy ascii v)
+-- with an ALT-ADDRESS that the rules allow
+alt-answer-by : {rules : Rules} {mail : Bool} {p v line : List ℕ} (ascii : Bool) → ascii ≡ all isAscii p → T (allowsAlternative rules) → Line mail p (some v) line
+    → Answer rules mail line (cond (not ascii && isAltAddress v) Fine BadAlternative)
+alt-answer-by true e a l = Answer.beside-ascii a l (rw (← e) tt)
+alt-answer-by {rules} {mail} {p} {v} {line} false e a l =
+    cond-has (λ f. Answer rules mail line f) (isAltAddress v) Fine BadAlternative
+    (λ t. Answer.to-replace a l (rw (← e) tt) (read-alt-address v t))
+    (λ t. Answer.no-address a l (rw (← e) tt) (λ new k. T-not (isAltAddress v) (alt-address-read (value-short l) k .0) t))
+
+answer-by : {rules : Rules} {mail : Bool} {p : List ℕ} {v : Option (List ℕ)} {line : List ℕ} (ascii : Bool) → ascii ≡ all isAscii p → Line mail p v line
+    → Answer rules mail line (faultBy rules ascii v)
+unfolding valueFault
 answer-by {v = none} true e l = Answer.as-it-is l (rw (← e) tt)
 answer-by {v = none} false e l = Answer.no-alternative l (rw (← e) tt)
-answer-by {v = some w} true e l = Answer.beside-ascii l (rw (← e) tt)
-answer-by {mail} {p} {v = some w} {line} false e l =
-    cond-has (λ f. Answer mail line f) (isAltAddress w) Fine BadAlternative
-    (λ t. Answer.to-replace l (rw (← e) tt) (read-alt-address w t))
-    (λ t. Answer.no-address l (rw (← e) tt) (λ new a. T-not (isAltAddress w) (alt-address-read (value-short l) a .0) t))
+answer-by {rules} {mail} {p} {v = some w} {line} ascii e l =
+    cond-has (λ f. Answer rules mail line f) (allowsAlternative rules) (cond (not ascii && isAltAddress w) Fine BadAlternative) RetiredAlternative
+    (λ t. alt-answer-by ascii e t l)
+    (λ t. Answer.retired t l)
 
-unformed : (mail : Bool) (line : List ℕ) → T (not (wellFormed mail line)) → lineFault mail line ≡ Malformed
+unformed : (rules : Rules) (mail : Bool) (line : List ℕ) → T (not (wellFormed mail line)) → lineFault rules mail line ≡ Malformed
 unfolding lineFault
-unformed mail line t = rw (no-false (wellFormed mail line) t)
+unformed rules mail line t = rw (no-false (wellFormed mail line) t)
 
 -- every line has its answer,
-pub answers : (mail : Bool) (line : List ℕ) → Answer mail line (lineFault mail line)
-answers mail line =
+pub answers : (rules : Rules) (mail : Bool) (line : List ℕ) → Answer rules mail line (lineFault rules mail line)
+answers rules mail line =
     by-test (wellFormed mail line)
-    (λ t. let l = read-line mail line t in rw (line-fault l) (answer-by (all isAscii (path mail line)) refl l))
-    (λ t. rw (unformed mail line t) (Answer.malformed (λ p v l. T-not (wellFormed mail line) (line-read l .well) t)))
+    (λ t. let l = read-line mail line t in rw (line-fault rules l) (answer-by (all isAscii (path mail line)) refl l))
+    (λ t. rw (unformed rules mail line t) (Answer.malformed (λ p v l. T-not (wellFormed mail line) (line-read l .well) t)))
 
 -- and no other
-pub answer-exact : {mail : Bool} {line : List ℕ} {f : Fault} → Answer mail line f → f ≡ lineFault mail line
-answer-exact {mail} {line} (Answer.malformed none-makes) =
+pub answer-exact : {rules : Rules} {mail : Bool} {line : List ℕ} {f : Fault} → Answer rules mail line f → f ≡ lineFault rules mail line
+unfolding valueFault
+answer-exact {rules} {mail} {line} (Answer.malformed none-makes) =
     by-test (wellFormed mail line)
     (λ t. absurd (none-makes (path mail line) (alternativeOf mail line) (read-line mail line t)))
-    (λ t. sym (unformed mail line t))
-answer-exact (Answer.no-alternative {path = p} l h) = sym (line-fault l ∙ rw (no-false (all isAscii p) h))
-answer-exact (Answer.beside-ascii {path = p} l h) = sym (line-fault l ∙ rw (yes-true (all isAscii p) h))
-answer-exact (Answer.no-address {path = p} {v} l h k) = sym (line-fault l ∙ rw (no-false (all isAscii p) h, no-false (isAltAddress v) (not-T (isAltAddress v) (λ t. k (decoded v) (read-alt-address v t)))))
-answer-exact (Answer.as-it-is {path = p} l h) = sym (line-fault l ∙ rw (yes-true (all isAscii p) h))
-answer-exact (Answer.to-replace {path = p} {v} l h a) = sym (line-fault l ∙ rw (no-false (all isAscii p) h, yes-true (isAltAddress v) (alt-address-read (value-short l) a .0)))
+    (λ t. sym (unformed rules mail line t))
+answer-exact {rules} (Answer.no-alternative {path = p} l h) = sym (line-fault rules l ∙ rw (no-false (all isAscii p) h))
+answer-exact {rules} (Answer.beside-ascii {path = p} a l h) = sym (line-fault rules l ∙ rw (yes-true (allowsAlternative rules) a, yes-true (all isAscii p) h))
+answer-exact {rules} (Answer.no-address {path = p} {v} a l h k) =
+    sym (line-fault rules l ∙ rw (yes-true (allowsAlternative rules) a, no-false (all isAscii p) h, no-false (isAltAddress v) (not-T (isAltAddress v) (λ t. k (decoded v) (read-alt-address v t)))))
+answer-exact {rules} (Answer.retired n l) = sym (line-fault rules l ∙ rw (no-false (allowsAlternative rules) n))
+answer-exact {rules} (Answer.as-it-is {path = p} l h) = sym (line-fault rules l ∙ rw (yes-true (all isAscii p) h))
+answer-exact {rules} (Answer.to-replace {path = p} {v} a l h k) =
+    sym (line-fault rules l ∙ rw (yes-true (allowsAlternative rules) a, no-false (all isAscii p) h, yes-true (isAltAddress v) (alt-address-read (value-short l) k .0)))
 
 -- ---- what is written
 
@@ -375,30 +387,33 @@ replaced-by {mail} {front} {p} {before} {a} {v} {after} f q h o x y =
     let t : List ℕ = before ++ (32 ∷ (a ++ after)) in
     rw (made-path f q t, no-false (all isAscii p) h, made-front f q t, made-tail f q t, alt-value o x y, alt-gone o x y)
 
-replaced-line : {mail : Bool} {front p v t : List ℕ} → Verb mail front → Path mail p → T (not (all isAscii p)) → Tail (some v) t → T (isAltAddress v)
-    → Written mail (front ++ (p ++ (62 ∷ t))) (writtenLine mail (front ++ (p ++ (62 ∷ t))))
-replaced-line {v = v} f q h (Tail.with-alt o x y) k = rw (replaced-by f q h o x y) (Written.replaced f q h o x (read-alt-address v k) y)
+replaced-line : {rules : Rules} {mail : Bool} {front p v t : List ℕ} → T (allowsAlternative rules) → Verb mail front → Path mail p → T (not (all isAscii p)) → Tail (some v) t
+    → T (isAltAddress v) → Written rules mail (front ++ (p ++ (62 ∷ t))) (writtenLine mail (front ++ (p ++ (62 ∷ t))))
+replaced-line {v = v} a f q h (Tail.with-alt o x y) k = rw (replaced-by f q h o x y) (Written.replaced a f q h o x (read-alt-address v k) y)
 
-written-by : {mail : Bool} {p : List ℕ} {v : Option (List ℕ)} {line : List ℕ} (ascii : Bool) → ascii ≡ all isAscii p → Line mail p v line → faultBy ascii v ≡ Fine
-    → Written mail line (writtenLine mail line)
+written-by : (rules : Rules) {mail : Bool} {p : List ℕ} {v : Option (List ℕ)} {line : List ℕ} (ascii : Bool) → ascii ≡ all isAscii p → Line mail p v line → faultBy rules ascii v ≡ Fine
+    → Written rules mail line (writtenLine mail line)
 unfolding writtenLine
-written-by {v = none} true e l k = rw (line-read l .path-is, ← e) (Written.copied l (rw (← e) tt))
-written-by {v = none} false e l k = absurd (let z : _≡_ {A = ℕ} 0 1 = cc in omega arith)
-written-by {v = some w} true e l k = absurd (let z : _≡_ {A = ℕ} 0 1 = cc in omega arith)
-written-by {v = some w} false e l k =
-    by-test (isAltAddress w)
-    (λ t. rw (l .is) (replaced-line (l .is-front) (l .is-path) (rw (← e) tt) (l .is-tail) t))
-    (λ t. absurd (let q = rw (no-false (isAltAddress w) t) at k in let z : _≡_ {A = ℕ} 0 1 = cc in omega arith))
+written-by rules {v = none} true e l k = rw (line-read l .path-is, ← e) (Written.copied l (rw (← e) tt))
+written-by rules {v = none} false e l k = absurd (let z : _≡_ {A = ℕ} 0 1 = cc in omega arith)
+written-by rules {v = some w} ascii e l k =
+    let t = alt-taken rules ascii w k in
+    rw (l .is) (replaced-line (t .allowed) (l .is-front) (l .is-path) (rw (← e) (t .not-ascii)) (l .is-tail) (t .is-address))
 
 -- what is written for a line without fault
-pub line-written : (mail : Bool) (line : List ℕ) → lineFault mail line ≡ Fine → Written mail line (writtenLine mail line)
-line-written mail line f =
-    let l = read-line mail line (well-formed mail line f) in
-    written-by (all isAscii (path mail line)) refl l (sym (line-fault l) ∙ f)
+pub line-written : (rules : Rules) (mail : Bool) (line : List ℕ) → lineFault rules mail line ≡ Fine → Written rules mail line (writtenLine mail line)
+line-written rules mail line f =
+    let l = read-line mail line (well-formed rules mail line f) in
+    written-by rules (all isAscii (path mail line)) refl l (sym (line-fault rules l) ∙ f)
 
 -- and nothing else
-pub written-exact : {mail : Bool} {line out : List ℕ} → Written mail line out → out ≡ writtenLine mail line
+pub written-exact : {rules : Rules} {mail : Bool} {line out : List ℕ} → Written rules mail line out → out ≡ writtenLine mail line
 unfolding writtenLine
 written-exact (Written.copied {path = p} l h) = rw (line-read l .path-is, yes-true (all isAscii p) h)
-written-exact (Written.replaced {front} {before} {v} {after} f q h o x a y) =
+written-exact (Written.replaced {front} {before} {v} {after} u f q h o x a y) =
     rw (xtext-read (a .xtext) .1) at (sym (replaced-by f q h o x y))
+
+-- where an ALT-ADDRESS is refused every line is written as it came
+pub written-kept : {rules : Rules} {mail : Bool} {line out : List ℕ} → T (not (allowsAlternative rules)) → Written rules mail line out → out ≡ line
+written-kept n (Written.copied l h) = refl
+written-kept {rules} n (Written.replaced u f q h o x a y) = absurd (T-not (allowsAlternative rules) u n)

@@ -12,25 +12,27 @@ use Rattle.lists.specs.Lists.{all}
 use Rattle.lists.specs.Byte.{isAscii}
 use Rattle.utf8.specs.Utf8.{utf8}
 use Rattle.utf8.specs.Utf8Laws.{utf8-right, utf8-append, utf8-ascii, utf8-cut}
+use Rattle.rules.specs.declared.Rules.{Rules}
+use Rattle.rules.specs.Rules.{allowsAlternative}
 use Rattle.address.specs.AddressLaws.{byte-within}
 use Rattle.xtext.specs.XtextLaws.{decoded-le}
 use Rattle.envelope_line.specs.declared.Fault.the-variants.{Fine}
 use Rattle.envelope_line.specs.EnvelopeLine.{verbLen, pathLen, path, tail, altFault, lineFault, newPath, withoutAlt, writtenLine, replacement}
 use Rattle.parameter.specs.Parameter.{params, keywordLen, value, alts, alt, altPlace}
-use Rattle.envelope_line.specs.FaultLaws.{formed, closed, alt-fine}
+use Rattle.envelope_line.specs.FaultLaws.{formed, closed, alt-fine, retired-ascii}
 use Rattle.envelope_line.specs.AsciiLaws.{front-ascii, new-ascii}
 use Rattle.envelope_line.specs.LengthLaws.{replacement-le}
 use Rattle.parameter.specs.LengthLaws.{alt-inside}
 
-module _ (mail : Bool) (line : List ℕ) (f : lineFault mail line ≡ Fine) where
+module _ (rules : Rules) (mail : Bool) (line : List ℕ) (f : lineFault rules mail line ≡ Fine) where
   pub replacement-short : length (replacement mail line) ≤ 2001
-  replacement-short = omega (arith, formed mail line f .short, replacement-le mail line)
+  replacement-short = omega (arith, formed rules mail line f .short, replacement-le mail line)
 
   -- the `>` after the path
   close-inside : verbLen mail + pathLen mail line < length line
-  close-inside = byte-within line (verbLen mail + pathLen mail line) 61 (closed mail line f)
+  close-inside = byte-within line (verbLen mail + pathLen mail line) 61 (closed rules mail line f)
 
-  new-short : (found : List (List ℕ)) → alts (params (tail mail line)) ≡ found → altFault false found ≡ Fine
+  new-short : (found : List (List ℕ)) → alts (params (tail mail line)) ≡ found → altFault rules false found ≡ Fine
       → length (take (verbLen mail) line ++ (newPath mail line ++ (62 ∷ withoutAlt (tail mail line)))) ≤ length line
   unfolding altFault newPath withoutAlt value alt tail
   new-short [] e g = absurd (let z : _≡_ {A = ℕ} 0 1 = cc in omega arith)
@@ -57,7 +59,7 @@ module _ (mail : Bool) (line : List ℕ) (f : lineFault mail line ≡ Fine) wher
   written-short =
       cond-has (λ out. length out ≤ length line) (all isAscii (path mail line)) line (take (verbLen mail) line ++ (newPath mail line ++ (62 ∷ withoutAlt (tail mail line))))
       (λ t. omega arith)
-      (λ t. new-short (alts (params (tail mail line))) refl (rw (no-false (all isAscii (path mail line)) t) at (alt-fine mail line f)))
+      (λ t. new-short (alts (params (tail mail line))) refl (rw (no-false (all isAscii (path mail line)) t) at (alt-fine rules mail line f)))
 
   -- the path stands between ASCII bytes
   path-utf8 : T (utf8 (path mail line))
@@ -66,15 +68,15 @@ module _ (mail : Bool) (line : List ℕ) (f : lineFault mail line ≡ Fine) wher
       let v = verbLen mail in
       let n = pathLen mail line in
       let rest = drop v line in
-      let all-utf8 : T (utf8 (take v line ++ rest)) = rw take-append-drop (formed mail line f .is-utf8) in
-      let from : T (utf8 rest) = rw (utf8-right (take v line) rest (utf8-ascii (take v line) (front-ascii mail line f))) at all-utf8 in
-      let after : drop n rest ≡ 62 ∷ drop (suc (v + n)) line = rw (drop-drop, drop-cons line (v + n) 0 close-inside, closed mail line f) in
+      let all-utf8 : T (utf8 (take v line ++ rest)) = rw take-append-drop (formed rules mail line f .is-utf8) in
+      let from : T (utf8 rest) = rw (utf8-right (take v line) rest (utf8-ascii (take v line) (front-ascii rules mail line f))) at all-utf8 in
+      let after : drop n rest ≡ 62 ∷ drop (suc (v + n)) line = rw (drop-drop, drop-cons line (v + n) 0 close-inside, closed rules mail line f) in
       let cut : T (utf8 (take n rest ++ (62 ∷ drop (suc (v + n)) line))) = rw (← after, take-append-drop) from in
       utf8-cut (take n rest) 62 (drop (suc (v + n)) line) (omega arith) cut .0
 
   new-utf8 : T (not (all isAscii (path mail line))) → T (utf8 (newPath mail line))
   unfolding newPath
-  new-utf8 t = utf8-ascii (newPath mail line) (new-ascii (params (tail mail line)) (rw (no-false (all isAscii (path mail line)) t) at (alt-fine mail line f)))
+  new-utf8 t = utf8-ascii (newPath mail line) (new-ascii rules (params (tail mail line)) (rw (no-false (all isAscii (path mail line)) t) at (alt-fine rules mail line f)))
 
   pub replacement-utf8 : T (utf8 (replacement mail line))
   unfolding replacement
@@ -86,3 +88,8 @@ module _ (mail : Bool) (line : List ℕ) (f : lineFault mail line ≡ Fine) wher
       (utf8-append p (32 ∷ 60 ∷ (newPath mail line ++ (62 ∷ 62 ∷ []))) path-utf8
       (utf8-append (32 ∷ 60 ∷ []) (newPath mail line ++ (62 ∷ 62 ∷ [])) (utf8-ascii (32 ∷ 60 ∷ []) tt)
       (utf8-append (newPath mail line) (62 ∷ 62 ∷ []) (new-utf8 t) (utf8-ascii (62 ∷ 62 ∷ []) tt)))))
+
+  -- where an ALT-ADDRESS is refused no path is replaced
+  pub retired-none : T (not (allowsAlternative rules)) → replacement mail line ≡ []
+  unfolding replacement
+  retired-none n = rw (retired-ascii rules mail line f n)

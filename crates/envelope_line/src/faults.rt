@@ -15,13 +15,18 @@ use parameter::is_spaced;
 use parameter::keyword_len;
 use parameter::param_end;
 use parameter::value_start;
+use rules::Rules;
+use rules::allows_alternative;
 
 // The fault of a line whose parameters are well-formed and of which p is the only ALT-ADDRESS.
-fn only_alt_fault(p: &[u8], ascii: bool) -> Fault
-    ensures { λ r. ⌜ r ≡ onlyAltFault ascii (now (p .entry)) ⌝ }
+fn only_alt_fault(rules: Rules, p: &[u8], ascii: bool) -> Fault
+    ensures { λ r. ⌜ r ≡ onlyAltFault rules ascii (now (p .entry)) ⌝ }
 {
     if p.len() <= keyword_len(p) {
         return Fault::Malformed;
+    }
+    if !allows_alternative(rules) {
+        return Fault::RetiredAlternative;
     }
     if ascii {
         return Fault::BadAlternative;
@@ -33,8 +38,8 @@ fn only_alt_fault(p: &[u8], ascii: bool) -> Fault
 }
 
 // The fault of a line whose verb and path are well-formed, by what follows the path's `>` from a place on.
-fn tail_fault(line: &[u8], at: usize, ascii: bool) -> Fault
-    ensures { λ r. ⌜ r ≡ tailFault ascii (drop at (now (line .entry))) ⌝ }
+fn tail_fault(rules: Rules, line: &[u8], at: usize, ascii: bool) -> Fault
+    ensures { λ r. ⌜ r ≡ tailFault rules ascii (drop at (now (line .entry))) ⌝ }
 {
     if !is_spaced(line, at) {
         return Fault::Malformed;
@@ -54,12 +59,12 @@ fn tail_fault(line: &[u8], at: usize, ascii: bool) -> Fault
     if alt_place(line, end) < line.len() {
         return Fault::Malformed;
     }
-    only_alt_fault(part(line, start, end), ascii)
+    only_alt_fault(rules, part(line, start, end), ascii)
 }
 
 // The fault of a line.
-pub fn line_fault(line: &[u8], mail: bool) -> Fault
-    ensures { λ r. ⌜ r ≡ lineFault mail (now (line .entry)) ⌝ }
+pub fn line_fault(rules: Rules, line: &[u8], mail: bool) -> Fault
+    ensures { λ r. ⌜ r ≡ lineFault rules mail (now (line .entry)) ⌝ }
 {
     if 998 < line.len() {
         return Fault::Malformed;
@@ -77,6 +82,7 @@ pub fn line_fault(line: &[u8], mail: bool) -> Fault
         return Fault::Malformed;
     }
     tail_fault(
+        rules,
         line,
         end + 1,
         utf8::is_ascii(part(line, path_start(mail), end)),

@@ -10,7 +10,7 @@ use Rattle.line.specs.Line.{lineLen}
 use Rattle.parameter.specs.Parameter.{params, keywordLen, alt, altPlace}
 use Rattle.envelope_line.specs.EnvelopeLine.{verbLen, tail}
 use Rattle.envelope_line.specs.declared.Fault.{Fault}
-use Rattle.envelope_line.specs.declared.Fault.the-variants.{Fine, Malformed, NoAlternative, BadAlternative}
+use Rattle.envelope_line.specs.declared.Fault.the-variants.{Fine, Malformed, NoAlternative, BadAlternative, RetiredAlternative}
 use Rattle.envelope.specs.Envelope.{lineText}
 use Rattle.header_stop.specs.HeaderStop.{lineStop as headerStop}
 use Rattle.envelope_stop.specs.EnvelopeStop.{lineStop as envelopeStop}
@@ -36,7 +36,7 @@ before line rest = length line - length rest
 unfoldable pub pathByte : Bool → List ℕ → ℕ
 pathByte mail line = before line (drop (verbLen mail) line)
 
--- "for 4 the start of the ALT-ADDRESS value": past the space, the keyword and `=`
+-- "for 4 the start of the ALT-ADDRESS value": past the space, the keyword and `=`; for 10 "4's offset"
 unfoldable pub altValueByte : Bool → List ℕ → ℕ
 altValueByte mail line =
     let t = tail mail line in
@@ -60,8 +60,9 @@ faultByte Fine n line = 0
 faultByte Malformed n line = envelopeStop n line
 faultByte NoAlternative n line = pathByte (eqb n 0) (lineText line)
 faultByte BadAlternative n line = altValueByte (eqb n 0) (lineText line)
+faultByte RetiredAlternative n line = altValueByte (eqb n 0) (lineText line)
 
--- 2, 3 and 4 at line n of an envelope
+-- 2, 3, 4 and 10 at line n of an envelope
 unfoldable pub faultOffset : List ℕ → Fault → ℕ → ℕ
 faultOffset e fault n = lineStart n e + faultByte fault n (lineAt n e)
 

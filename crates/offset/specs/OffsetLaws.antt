@@ -18,7 +18,7 @@ use Rattle.parameter.specs.Parameter.{notSpace, params, keywordLen, alt, altPla
 use Rattle.parameter.specs.ParameterLaws.{param-part, alt-from, alt-there}
 use Rattle.envelope_line.specs.EnvelopeLine.{verbLen, tail}
 use Rattle.envelope_line.specs.declared.Fault.{Fault}
-use Rattle.envelope_line.specs.declared.Fault.the-variants.{Fine, Malformed, NoAlternative, BadAlternative}
+use Rattle.envelope_line.specs.declared.Fault.the-variants.{Fine, Malformed, NoAlternative, BadAlternative, RetiredAlternative}
 use Rattle.envelope.specs.Envelope.{lineText}
 use Rattle.header_stop.specs.HeaderStop.{lineStop as headerStop}
 use Rattle.header_stop.specs.HeaderStopLaws.{line-stop}
@@ -124,6 +124,7 @@ fault-within Fine n line = omega arith
 fault-within Malformed n line = envelope-line-stop n line .inside
 fault-within NoAlternative n line = omega (arith, text-within line)
 fault-within BadAlternative n line = omega (arith, text-within line)
+fault-within RetiredAlternative n line = omega (arith, text-within line)
 
 orcpt-within : (mail : Bool) (line : List ℕ) → orcptByte mail (lineText line) ≤ length line
 unfolding orcptByte

@@ -78,10 +78,11 @@ fn fault_byte(line: &[u8], fault: Fault, n: usize) -> usize
         Fault::Malformed => envelope_stop::stop(line, 0, n),
         Fault::NoAlternative => path_byte(line_text(line), n == 0),
         Fault::BadAlternative => alt_value_byte(line_text(line), n == 0),
+        Fault::RetiredAlternative => alt_value_byte(line_text(line), n == 0),
     }
 }
 
-// The byte that 2, 3 and 4 point to, at line n of an envelope.
+// The byte that 2, 3, 4 and 10 point to, at line n of an envelope.
 pub fn of_fault(envelope: &[u8], fault: Fault, n: usize) -> usize
     ensures { λ r. ⌜ r ≡ faultOffset (now (envelope .entry)) fault n ⌝ }
 {

@@ -16,7 +16,7 @@ refused-requires c κs = search needs
 
 -- src/lib.rt:79:9
 returns : tie.Need-returns
-returns c = refused-observed _ _ _ _ (envelope-over _ _ _ _ (c .before .if1 .taken)) (c .refused .ensures)
+returns c = refused-observed _ _ _ _ _ (envelope-over _ _ _ _ _ (c .before .if1 .taken)) (c .refused .ensures)
 
 -- src/lib.rt:82:9
 refused-requires-2 : tie.Need-refused-requires-2
@@ -24,7 +24,7 @@ refused-requires-2 c κs = search needs
 
 -- src/lib.rt:82:9
 returns-2 : tie.Need-returns-2
-returns-2 c = refused-observed _ _ _ _ (header-over _ _ _ _ (c .before .before .if1 .left) (c .before .if2 .taken)) (c .refused2 .ensures)
+returns-2 c = refused-observed _ _ _ _ _ (header-over _ _ _ _ _ (c .before .before .if1 .left) (c .before .if2 .taken)) (c .refused2 .ensures)
 
 -- src/lib.rt:85:11
 check-requires : tie.Need-check-requires
@@ -52,7 +52,7 @@ downgrade-checked-requires c κs = to-ready (c .before .before .before .before .
 
 -- src/lib.rt:70:1
 returns-3 : tie.Need-returns-3
-returns-3 c = refused-observed _ _ _ _ (envelope-line _ _ _ _ (c .before .before .before .before .before .before .before .before .if1 .left) (c .before .before .before .before .before .before .before .if2 .left) _ _ _ (sym (c .before .before .before .before .before .check .ensures .answer) ∙ c .before .before .before .fault .given .1) (c .before .of-fault .ensures)) (c .refused3 .ensures)
+returns-3 c = refused-observed _ _ _ _ _ (envelope-line _ _ _ _ _ (c .before .before .before .before .before .before .before .before .if1 .left) (c .before .before .before .before .before .before .before .if2 .left) _ _ _ (sym (c .before .before .before .before .before .check .ensures .answer) ∙ c .before .before .before .fault .given .1) (c .before .of-fault .ensures)) (c .refused3 .ensures)
 
 -- src/lib.rt:70:1
 same-length : tie.Need-same-length

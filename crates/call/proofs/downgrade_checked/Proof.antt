@@ -20,7 +20,7 @@ fill-requires : tie.Need-fill-requires
 fill-requires c κs = (c .before .before .before .before .before .before .before .before .before .pre, record { content = sym (c .before .before .before .before .of-content .ensures) ∙ c .before .before .enum-told .given .1 })
 
 returns : tie.Need-returns
-returns c = refused-observed _ _ _ _ (content-refused (c .before .before .before .before .before .before .before .before .before .pre) _ _ (sym (c .before .before .before .before .of-content .ensures) ∙ c .before .before .refusal .given .1)) (c .refused .ensures)
+returns c = refused-observed _ _ _ _ _ (content-refused (c .before .before .before .before .before .before .before .before .before .pre) _ _ (sym (c .before .before .before .before .of-content .ensures) ∙ c .before .before .refusal .given .1)) (c .refused .ensures)
 
 same-length : tie.Need-same-length
 same-length c = search needs

@@ -47,6 +47,18 @@ line-text-requires-2 c κs = search needs
 alt-value-byte-requires : tie.Need-alt-value-byte-requires
 alt-value-byte-requires c κs = search needs
 
+-- src/lib.rt:81:53
+enum-told-5 : tie.Need-enum-told-5
+enum-told-5 c = search needs
+
+-- src/lib.rt:81:53
+line-text-requires-3 : tie.Need-line-text-requires-3
+line-text-requires-3 c κs = search needs
+
+-- src/lib.rt:81:38
+alt-value-byte-requires-2 : tie.Need-alt-value-byte-requires-2
+alt-value-byte-requires-2 c κs = search needs
+
 -- src/lib.rt:73:1
 returns : tie.Need-returns
 unfolding faultByte
@@ -67,6 +79,11 @@ returns-4 : tie.Need-returns-4
 unfolding faultByte
 returns-4 c = rw (c .before .before .enum-told4 .given .1, ← c .before .line-text2 .ensures) (c .alt-value-byte .ensures)
 
+-- src/lib.rt:73:1
+returns-5 : tie.Need-returns-5
+unfolding faultByte
+returns-5 c = rw (c .before .before .enum-told5 .given .1, ← c .before .line-text3 .ensures) (c .alt-value-byte2 .ensures)
+
 pub fault-byte-spec : {M : Type 1} → statement M
 fault-byte-spec =
     tie.close
@@ -80,7 +97,11 @@ fault-byte-spec =
     enum-told-4
     line-text-requires-2
     alt-value-byte-requires
+    enum-told-5
+    line-text-requires-3
+    alt-value-byte-requires-2
     returns
     returns-2
     returns-3
-    returns-4)
+    returns-4
+    returns-5)

@@ -1,11 +1,11 @@
-use Rattle.call.specs.OutputLaws.{envelope-needs, header-needs, downgraded, ready-written, ready-short, accepted-lines}
+use Rattle.call.specs.OutputLaws.{envelope-needs, header-needs, downgraded, starts-written, ready-starts, ready-short, accepted-lines}
 use mathlib.Core.Path.{refl}
 use borrow.Author.Needs.{needs}
 use Rattle.call.proofs.output.fill_with.Statement.{statement}
 use Rattle.call.proofs.output.fill_with.Tie as tie
 
 envelope-len-requires : tie.Need-envelope-len-requires
-envelope-len-requires c κs = search needs
+envelope-len-requires c κs = ready-starts (c .before .before .before .before .before .before .pre .0)
 
 refused-requires : tie.Need-refused-requires
 refused-requires c κs = search needs
@@ -35,7 +35,7 @@ same-length-2 : tie.Need-same-length-2
 same-length-2 c = search needs
 
 returns-3 : tie.Need-returns-3
-returns-3 c = downgraded (c .before .before .before .before .before .before .before .before .before .before .before .before .before .before .before .before .before .before .pre .0) (c .before .before .before .before .before .before .before .before .before .before .before .before .before .before .before .before .before .before .pre .1) _ _ (c .before .before .before .before .before .before .before .before .before .before .before .before .before .before .before .before .before .before .pre .2) (c .before .before .before .before .before .before .before .before .before .before .before .envelope-len .ensures) (c .before .before .before .before .before .before .before .before .before .before .if1 .left) (c .before .before .before .before .before .before .before .before .before .header-needs .ensures) (c .before .before .before .before .before .before .before .before .if2 .left) refl refl refl refl (ready-written (c .before .before .before .before .before .before .before .before .before .before .before .before .before .before .before .before .before .before .pre .0) (c .before .before .before .before .before .before .put .ensures)) (c .before .before .put-header .ensures)
+returns-3 c = downgraded (c .before .before .before .before .before .before .before .before .before .before .before .before .before .before .before .before .before .before .pre .0) (c .before .before .before .before .before .before .before .before .before .before .before .before .before .before .before .before .before .before .pre .1) _ _ (c .before .before .before .before .before .before .before .before .before .before .before .before .before .before .before .before .before .before .pre .2) (c .before .before .before .before .before .before .before .before .before .before .before .envelope-len .ensures) (c .before .before .before .before .before .before .before .before .before .before .if1 .left) (c .before .before .before .before .before .before .before .before .before .header-needs .ensures) (c .before .before .before .before .before .before .before .before .if2 .left) refl refl refl refl (starts-written (ready-starts (c .before .before .before .before .before .before .before .before .before .before .before .before .before .before .before .before .before .before .pre .0)) (c .before .before .before .before .before .before .put .ensures)) (c .before .before .put-header .ensures)
 
 pub fill-with-spec : {M : Type 1} → statement M
 fill-with-spec =

@@ -11,7 +11,7 @@ add-if1 : tie.Need-add-if1
 add-if1 c = omega (arith, c .before .before .before .pre .0 .of-header)
 
 returns : tie.Need-returns
-returns c = ample (c .before .before .before .before .pre .0) (c .before .before .before .before .pre .1) (c .if1 .taken)
+returns c = ample _ (c .before .before .before .before .pre .0) (c .before .before .before .before .pre .1) (c .if1 .taken)
 
 header-len-requires : tie.Need-header-len-requires
 header-len-requires c κs = c .before .before .before .before .pre

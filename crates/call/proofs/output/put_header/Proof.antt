@@ -36,7 +36,7 @@ same-length c = search needs
 -- src/output.rt:21:1
 returns : tie.Need-returns
 unfolding bytes
-returns c = header-wrote (c .before .before .before .before .before .before .before .before .before .before .before .before .before .before .before .before .before .before .pre .0) (c .before .before .before .before .before .before .before .before .before .before .before .before .before .before .before .before .before .before .pre .1) (omega arith) (c .before .before .before .before .before .before .before .before .before .before .before .add-new-field .ensures) (c .before .before .before .before .before .before .add-new-field2 .ensures) (c .before .before .add-fields .ensures)
+returns c = header-wrote _ (c .before .before .before .before .before .before .before .before .before .before .before .before .before .before .before .before .before .before .pre .0) (c .before .before .before .before .before .before .before .before .before .before .before .before .before .before .before .before .before .before .pre .1) (omega arith) (c .before .before .before .before .before .before .before .before .before .before .before .add-new-field .ensures) (c .before .before .before .before .before .before .add-new-field2 .ensures) (c .before .before .add-fields .ensures)
 
 pub put-header-spec : {M : Type 1} → statement M
 put-header-spec =

@@ -20,7 +20,7 @@ returns : tie.Need-returns
 returns c = mail-refused (c .before .before .front-fault .ensures) (sym (c .before .is-fine .ensures) ∙ not-true _ (c .if1 .taken))
 
 add-check-rcpts : tie.Need-add-check-rcpts
-add-check-rcpts c = omega (arith, c .before .before .before .line-end .ensures, ended-inside true (c .before .before .before .before .before .args .envelope .now) (rw (c .before .before .front-fault .ensures) at (sym (c .before .is-fine .ensures) ∙ not-false _ (c .if1 .left))))
+add-check-rcpts c = omega (arith, c .before .before .before .line-end .ensures, ended-inside _ true (c .before .before .before .before .before .args .envelope .now) (rw (c .before .before .front-fault .ensures) at (sym (c .before .is-fine .ensures) ∙ not-false _ (c .if1 .left))))
 
 check-rcpts-requires : tie.Need-check-rcpts-requires
 check-rcpts-requires c κs = search needs

@@ -9,13 +9,13 @@ use Rattle.envelope.proofs.faults.check_rcpts.Statement.{statement}
 use Rattle.envelope.proofs.faults.check_rcpts.Tie as tie
 
 abbrev Inv-loop : tie.InvT-loop
-Inv-loop envelope at starts₀ n₀ i₀ starts n i = RcptsReached envelope at starts₀ starts n i
+Inv-loop rules envelope at starts₀ n₀ i₀ starts n i = RcptsReached rules envelope at starts₀ starts n i
 
 abbrev μ-loop : tie.MeasureT-loop
-μ-loop envelope at starts₀ n₀ i₀ starts n i = length envelope - i
+μ-loop rules envelope at starts₀ n₀ i₀ starts n i = length envelope - i
 
 loop-holds : tie.Need-loop-holds Inv-loop μ-loop
-loop-holds c = rcpts-start _ _ _
+loop-holds c = rcpts-start _ _ _ _
 
 line-end-requires : tie.Need-line-end-requires Inv-loop μ-loop
 line-end-requires c κs = search needs
@@ -26,8 +26,8 @@ rcpt-fault-requires c κs = c .line-end .ensures
 is-fine-requires : tie.Need-is-fine-requires Inv-loop μ-loop
 is-fine-requires c κs = search needs
 
-add-t11 : tie.Need-add-t11 Inv-loop μ-loop
-add-t11 c = omega (arith, c .before .before .before .before .before .loop .inv .few)
+add-t12 : tie.Need-add-t12 Inv-loop μ-loop
+add-t12 c = omega (arith, c .before .before .before .before .before .loop .inv .few)
 
 returns : tie.Need-returns Inv-loop μ-loop
 returns c = rcpts-refused (c .before .before .before .before .before .loop .inv) _ (c .before .before .before .before .loop-test .taken) (c .before .before .before .line-end .ensures) (c .before .before .rcpt-fault .ensures) (sym (c .before .is-fine .ensures) ∙ not-true _ (c .if1 .taken))
@@ -36,13 +36,13 @@ mul-starts : tie.Need-mul-starts Inv-loop μ-loop
 mul-starts c = omega (arith, c .before .before .before .before .before .loop .inv .few)
 
 element-write-starts : tie.Need-element-write-starts Inv-loop μ-loop
-element-write-starts c = omega (arith, fine-few (c .before .before .before .before .before .loop .n + 1) (drop (c .before .before .before .before .before .loop .i) (c .before .before .before .before .before .before .before .args .envelope .now)) (rw (c .before .before .rcpt-fault .ensures) at (sym (c .before .is-fine .ensures) ∙ not-false _ (c .if1 .left))))
+element-write-starts c = omega (arith, fine-few _ (c .before .before .before .before .before .loop .n + 1) (drop (c .before .before .before .before .before .loop .i) (c .before .before .before .before .before .before .before .args .envelope .now)) (rw (c .before .before .rcpt-fault .ensures) at (sym (c .before .is-fine .ensures) ∙ not-false _ (c .if1 .left))))
 
 add-n : tie.Need-add-n Inv-loop μ-loop
 add-n c = omega (arith, c .before .before .before .before .before .loop .inv .few)
 
 add-i : tie.Need-add-i Inv-loop μ-loop
-add-i c = omega (arith, fine-end (c .before .before .before .before .before .before .before .args .envelope .now) (c .before .before .before .before .before .loop .i) (c .before .before .before .line-end .result) (c .before .before .before .before .before .loop .n + 1) (c .before .before .before .line-end .ensures) (rw (c .before .before .rcpt-fault .ensures) at (sym (c .before .is-fine .ensures) ∙ not-false _ (c .if1 .left))))
+add-i c = omega (arith, fine-end _ (c .before .before .before .before .before .before .before .args .envelope .now) (c .before .before .before .before .before .loop .i) (c .before .before .before .line-end .result) (c .before .before .before .before .before .loop .n + 1) (c .before .before .before .line-end .ensures) (rw (c .before .before .rcpt-fault .ensures) at (sym (c .before .is-fine .ensures) ∙ not-false _ (c .if1 .left))))
 
 loop-less : tie.Need-loop-less Inv-loop μ-loop
 loop-less c = omega (arith, c .before .before .before .line-end .ensures)
@@ -66,7 +66,7 @@ check-rcpts-spec =
     line-end-requires
     rcpt-fault-requires
     is-fine-requires
-    add-t11
+    add-t12
     returns
     mul-starts
     element-write-starts
