@@ -36,7 +36,7 @@ unfoldable pub rangeOutcome : Rules → List ℕ → ℕ → ℕ → ℕ → ℕ
 rangeOutcome rules input start₁ len₁ start₂ len₂ b c =
     cond (pastEnd input start₁ len₁ || pastEnd input start₂ len₂)
     (rangeRefused b c)
-    (outcome (range input start₁ len₁) (range input start₂ len₂) b c)
+    (outcome rules (range input start₁ len₁) (range input start₂ len₂) b c)
 
 -- the same of the record at the front of these numbers
 unfoldable pub recordOutcome : Rules → List ℕ → List ℕ → List ℕ → List ℕ → Outcome

@@ -26,7 +26,7 @@ module _ (rules : Rules) (input : List ℕ) (start₁ len₁ start₂ len₂ : �
   unfolding rangeOutcome
   out-of-range t = rw (← past₁, ← past₂, t)
 
-  pub in-range : p || q ≡ false → {e h : List ℕ} → e ≡ range input start₁ len₁ → h ≡ range input start₂ len₂ → {o : Outcome} → o ≡ outcome e h b c
+  pub in-range : p || q ≡ false → {e h : List ℕ} → e ≡ range input start₁ len₁ → h ≡ range input start₂ len₂ → {o : Outcome} → o ≡ outcome rules e h b c
       → o ≡ rangeOutcome rules input start₁ len₁ start₂ len₂ b c
   unfolding rangeOutcome
   in-range t x y z = rw (← past₁, ← past₂, t, ← x, ← y) z
@@ -34,7 +34,7 @@ module _ (rules : Rules) (input : List ℕ) (start₁ len₁ start₂ len₂ : �
 pub range-bounded : (rules : Rules) (input : List ℕ) (start₁ len₁ start₂ len₂ : ℕ) (b c : List ℕ) → Bounded b c (rangeOutcome rules input start₁ len₁ start₂ len₂ b c)
 unfolding rangeOutcome rangeRefused
 range-bounded rules input start₁ len₁ start₂ len₂ b c =
-    cond-has (Bounded b c) (pastEnd input start₁ len₁ || pastEnd input start₂ len₂) (rangeRefused b c) (outcome (range input start₁ len₁) (range input start₂ len₂) b c)
+    cond-has (Bounded b c) (pastEnd input start₁ len₁ || pastEnd input start₂ len₂) (rangeRefused b c) (outcome rules (range input start₁ len₁) (range input start₂ len₂) b c)
     (λ t. record {
       number = omega arith;
       place = omega arith;
@@ -46,7 +46,7 @@ range-bounded rules input start₁ len₁ start₂ len₂ b c =
       size₁ = refl;
       size₂ = refl;
     })
-    (λ t. outcome-bounded (range input start₁ len₁) (range input start₂ len₂) b c)
+    (λ t. outcome-bounded rules (range input start₁ len₁) (range input start₂ len₂) b c)
 
 pub record-bounded : (rules : Rules) (input records b c : List ℕ) → Bounded b c (recordOutcome rules input records b c)
 unfolding recordOutcome

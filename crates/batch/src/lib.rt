@@ -49,6 +49,7 @@ fn downgrade_ranges(
         };
     }
     call::downgrade(
+        rules,
         range_of(input, envelope_start, envelope_len),
         range_of(input, header_start, header_len),
         envelope_buffer,

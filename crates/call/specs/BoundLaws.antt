@@ -17,12 +17,12 @@ use Rattle.buffer.specs.BufferLaws.{length-overlay}
 use Rattle.line.specs.Line.{crlf, lineLen}
 use Rattle.envelope_line.specs.EnvelopeLine.{orcptFault}
 use Rattle.envelope_line.specs.declared.Fault.{Fault}
-use Rattle.envelope_line.specs.declared.Fault.the-variants.{Fine, Malformed, NoAlternative, BadAlternative}
+use Rattle.envelope_line.specs.declared.Fault.the-variants.{Fine, Malformed, NoAlternative, BadAlternative, RetiredAlternative}
 use Rattle.envelope.specs.declared.Checked.{Checked}
 use Rattle.envelope.specs.declared.Checked.the-variants.{Passed, Refused}
 use Rattle.envelope.specs.declared.Orcpt.{Orcpt}
 use Rattle.envelope.specs.declared.Orcpt.the-variants.{Clean, At}
-use Rattle.envelope.specs.Envelope.{lines, lineText, faultOf, faultNumber, isFine, checkedFrom, checked, texts, orcptFrom, orcptLine, written}
+use Rattle.envelope.specs.Envelope.{lines, lineText, faultOf, faultNumber, isFine, counted, checkedFrom, checked, texts, orcptFrom, orcptLine, written}
 use Rattle.envelope.specs.CheckLaws.{fine-few}
 use Rattle.envelope.specs.LengthLaws.{written-le}
 use Rattle.header_line.specs.declared.LineCheck.{LineCheck}
@@ -30,7 +30,6 @@ use Rattle.header_line.specs.declared.LineCheck.the-variants.{WellFormed, Malfo
 use Rattle.header_line.specs.Lines.{lineOk, linesOf, linesFrom, checkedLines}
 use Rattle.header.specs.Fields.{fieldLen, fieldsOf, lineCount}
 use Rattle.rules.specs.declared.Rules.{Rules}
-use Rattle.rules.specs.declared.Rules.the-variants.{Spool}
 use Rattle.outgoing_field.specs.declared.HeldField.{HeldField}
 use Rattle.outgoing_field.specs.declared.HeldField.the-variants.{Absent, At as HeldAt}
 use Rattle.outgoing_field.specs.Fate.{fateOf, isHeld, heldFrom, heldOf}
@@ -53,19 +52,20 @@ data FaultWithin (n : ℕ) : Checked → Type 0 where
   passed : {count : ℕ} → FaultWithin n (Passed count)
   refused : {fault : Fault} {line : ℕ} → line ≤ n → FaultWithin n (Refused fault line)
 
-checked-within : (n : ℕ) (ls : List (List ℕ)) → n ≤ 101 → FaultWithin 101 (checkedFrom n ls)
-unfolding checkedFrom
-checked-within n [] k = cond-has (FaultWithin 101) (ltb n 2) _ _ (λ t. refused k) (λ t. passed)
-checked-within n (line ∷ more) k =
-    let rest : isFine (faultOf n line) ≡ _ → FaultWithin 101 (checkedFrom (suc n) more) = λ t. checked-within (suc n) more (omega (arith, fine-few n line t)) in
-    cond-has (FaultWithin 101) (isFine (faultOf n line)) _ _ (λ t. rest (yes-true (isFine (faultOf n line)) t)) (λ t. refused k)
+checked-within : (rules : Rules) (n : ℕ) (ls : List (List ℕ)) → n ≤ 101 → FaultWithin 101 (checkedFrom rules n ls)
+unfolding checkedFrom counted
+checked-within rules n [] k = cond-has (FaultWithin 101) (ltb n 2) _ _ (λ t. refused k) (λ t. passed)
+checked-within rules n (line ∷ more) k =
+    cond-has (FaultWithin 101) (isFine (faultOf rules n line)) _ _
+    (λ t. checked-within rules (suc n) more (omega (arith, fine-few rules n line (yes-true (isFine (faultOf rules n line)) t))))
+    (λ t. refused k)
 
 fault-line : {n line : ℕ} {fault : Fault} → FaultWithin n (Refused fault line) → line ≤ n
 fault-line (refused k) = k
 
-fault-line-le : (e : List ℕ) (fault : Fault) (line : ℕ) → checked e ≡ Refused fault line → line ≤ 101
+fault-line-le : (rules : Rules) (e : List ℕ) (fault : Fault) (line : ℕ) → checked rules e ≡ Refused fault line → line ≤ 101
 unfolding checked
-fault-line-le e fault line q = fault-line (rw q at (checked-within 0 (lines e) (omega arith)))
+fault-line-le rules e fault line q = fault-line (rw q at (checked-within rules 0 (lines e) (omega arith)))
 
 fault-offset-le : (e : List ℕ) (fault : Fault) (n : ℕ) → faultOffset e fault n ≤ length e
 unfolding faultOffset lineAt
@@ -155,7 +155,7 @@ field-offset-le h at k = omega (arith, run-le isAscii (drop at h), length-drop a
 -- ---- by verdict
 
 -- a first verdict either accepts, and the next ones decide, or is the answer
-module _ (P : Verdict → Type 0) (more : List Verdict) where
+module _ (rules : Rules) (P : Verdict → Type 0) (more : List Verdict) where
   first-over : (limit size : ℕ) (refusal : Refusal) → (size ≤ limit → P (firstOf more)) → (limit < size → P (Refuse refusal)) → P (firstOf (over limit size refusal ∷ more))
   unfolding firstOf
   first-over limit size refusal f g =
@@ -163,13 +163,13 @@ module _ (P : Verdict → Type 0) (more : List Verdict) where
       (λ t. let k = ltb-yes {a = limit} {b = size} t in rw (over-yes limit size refusal k) (g k))
       (λ t. let k = ltb-no {a = limit} {b = size} t in rw (over-no limit size refusal k) (f k))
 
-  first-envelope : (e : List ℕ) → ((count : ℕ) → checked e ≡ Passed count → P (firstOf more))
-      → ((fault : Fault) (line : ℕ) → checked e ≡ Refused fault line → P (Refuse (EnvelopeLine fault line (faultOffset e fault line))))
-      → P (firstOf (ofEnvelope e (checked e) ∷ more))
+  first-envelope : (e : List ℕ) → ((count : ℕ) → checked rules e ≡ Passed count → P (firstOf more))
+      → ((fault : Fault) (line : ℕ) → checked rules e ≡ Refused fault line → P (Refuse (EnvelopeLine fault line (faultOffset e fault line))))
+      → P (firstOf (ofEnvelope e (checked rules e) ∷ more))
   unfolding firstOf ofEnvelope
-  first-envelope e f g = go (checked e) refl
+  first-envelope e f g = go (checked rules e) refl
     where
-      go : (r : Checked) → checked e ≡ r → P (firstOf (ofEnvelope e r ∷ more))
+      go : (r : Checked) → checked rules e ≡ r → P (firstOf (ofEnvelope e r ∷ more))
       go (Passed count) q = f count q
       go (Refused fault line) q = g fault line q
 
@@ -191,11 +191,11 @@ module _ (P : Verdict → Type 0) (more : List Verdict) where
       go Clean q = f
       go (At line) q = g line q
 
-  first-held : (h : List ℕ) → P (firstOf more) → ((line at : ℕ) → heldOf Spool h ≡ HeldAt line at → P (Refuse (HeldLine line (fieldOffset h at)))) → P (firstOf (ofHeld h (heldOf Spool h) ∷ more))
+  first-held : (h : List ℕ) → P (firstOf more) → ((line at : ℕ) → heldOf rules h ≡ HeldAt line at → P (Refuse (HeldLine line (fieldOffset h at)))) → P (firstOf (ofHeld h (heldOf rules h) ∷ more))
   unfolding firstOf ofHeld
-  first-held h f g = go (heldOf Spool h) refl
+  first-held h f g = go (heldOf rules h) refl
     where
-      go : (r : HeldField) → heldOf Spool h ≡ r → P (firstOf (ofHeld h r ∷ more))
+      go : (r : HeldField) → heldOf rules h ≡ r → P (firstOf (ofHeld h r ∷ more))
       go Absent q = f
       go (HeldAt line at) q = g line at q
 
@@ -208,15 +208,15 @@ record SmallRefusal (refusal : Refusal) : Type 0 where
   place : placeOf refusal ≤ greatest32
   offset : offsetOf refusal ≤ greatest32
 
-record Fitting (e h : List ℕ) (room₁ room₂ : ℕ) : Type 0 where
+record Fitting (rules : Rules) (e h : List ℕ) (room₁ room₂ : ℕ) : Type 0 where
   fits₁ : length (written e) ≤ room₁
-  fits₂ : length (outgoingHeader e h) ≤ room₂
+  fits₂ : length (outgoingHeader rules e h) ≤ room₂
   small₁ : length (written e) ≤ greatest32
-  small₂ : length (outgoingHeader e h) ≤ greatest32
+  small₂ : length (outgoingHeader rules e h) ≤ greatest32
 
-data Bound (e h : List ℕ) (room₁ room₂ : ℕ) : Verdict → Type 0 where
-  fitting : Fitting e h room₁ room₂ → Bound e h room₁ room₂ Accept
-  small : {refusal : Refusal} → SmallRefusal refusal → Bound e h room₁ room₂ (Refuse refusal)
+data Bound (rules : Rules) (e h : List ℕ) (room₁ room₂ : ℕ) : Verdict → Type 0 where
+  fitting : Fitting rules e h room₁ room₂ → Bound rules e h room₁ room₂ Accept
+  small : {refusal : Refusal} → SmallRefusal refusal → Bound rules e h room₁ room₂ (Refuse refusal)
 
 fault-number-le : (fault : Fault) → faultNumber fault ≤ 10
 unfolding faultNumber
@@ -224,44 +224,45 @@ fault-number-le Fine = omega arith
 fault-number-le Malformed = omega arith
 fault-number-le NoAlternative = omega arith
 fault-number-le BadAlternative = omega arith
+fault-number-le RetiredAlternative = omega arith
 
-module _ (e h : List ℕ) (room₁ room₂ : ℕ) where
+module _ (rules : Rules) (e h : List ℕ) (room₁ room₂ : ℕ) where
   abbrev Bounds : Verdict → Type 0
-  Bounds v = Bound e h room₁ room₂ v
+  Bounds v = Bound rules e h room₁ room₂ v
 
   -- where the envelope and the header pass
-  rooms-bound : length e ≤ 16384 → length h ≤ 32768 → (count : ℕ) → checked e ≡ Passed count → checkedLines h ≡ WellFormed
-      → Bounds (firstOf (over room₁ (length (written e)) (EnvelopeNeeds (length (written e))) ∷ over room₂ (length (outgoingHeader e h)) (HeaderNeeds (length (outgoingHeader e h))) ∷ []))
+  rooms-bound : length e ≤ 16384 → length h ≤ 32768 → (count : ℕ) → checked rules e ≡ Passed count → checkedLines h ≡ WellFormed
+      → Bounds (firstOf (over room₁ (length (written e)) (EnvelopeNeeds (length (written e))) ∷ over room₂ (length (outgoingHeader rules e h)) (HeaderNeeds (length (outgoingHeader rules e h))) ∷ []))
   unfolding firstOf numberOf placeOf offsetOf
   rooms-bound k l count p w =
-      let n : length (written e) ≤ greatest32 = omega (arith, written-le e count p) in
-      let m : length (outgoingHeader e h) ≤ greatest32 = omega (arith, outgoing-le e h count p l w) in
-      let last : Verdict = over room₂ (length (outgoingHeader e h)) (HeaderNeeds (length (outgoingHeader e h))) in
-      first-over Bounds (last ∷ []) room₁ (length (written e)) (EnvelopeNeeds (length (written e)))
+      let n : length (written e) ≤ greatest32 = omega (arith, written-le rules e count p) in
+      let m : length (outgoingHeader rules e h) ≤ greatest32 = omega (arith, outgoing-le rules e h count p l w) in
+      let last : Verdict = over room₂ (length (outgoingHeader rules e h)) (HeaderNeeds (length (outgoingHeader rules e h))) in
+      first-over rules Bounds (last ∷ []) room₁ (length (written e)) (EnvelopeNeeds (length (written e)))
       (λ f.
-      first-over Bounds [] room₂ (length (outgoingHeader e h)) (HeaderNeeds (length (outgoingHeader e h)))
+      first-over rules Bounds [] room₂ (length (outgoingHeader rules e h)) (HeaderNeeds (length (outgoingHeader rules e h)))
       (λ g. fitting (record { fits₁ = f; fits₂ = g; small₁ = n; small₂ = m }))
       (λ g. small (record { number = omega arith; place = m; offset = omega arith })))
       (λ f. small (record { number = omega arith; place = n; offset = omega arith }))
 
-  verdict-bound : Bounds (verdict e h room₁ room₂)
+  verdict-bound : Bounds (verdict rules e h room₁ room₂)
   unfolding verdict numberOf placeOf offsetOf
   verdict-bound =
-      first-over Bounds _ 16384 (length e) EnvelopeOver
+      first-over rules Bounds _ 16384 (length e) EnvelopeOver
       (λ k.
-      first-over Bounds _ 32768 (length h) HeaderOver
+      first-over rules Bounds _ 32768 (length h) HeaderOver
       (λ l.
-      first-envelope Bounds _ e
+      first-envelope rules Bounds _ e
       (λ count p.
-      first-lines Bounds _ h
+      first-lines rules Bounds _ h
       (λ w.
-      first-orcpt Bounds _ e
-      (first-held Bounds _ h (rooms-bound k l count p w)
-      (λ line at q. let z = held-le Spool h line at q in small (record { number = omega arith; place = omega arith; offset = omega (arith, field-offset-le h at (z .1)) })))
+      first-orcpt rules Bounds _ e
+      (first-held rules Bounds _ h (rooms-bound k l count p w)
+      (λ line at q. let z = held-le rules h line at q in small (record { number = omega arith; place = omega arith; offset = omega (arith, field-offset-le h at (z .1)) })))
       (λ line q. small (record { number = omega arith; place = omega (arith, orcpt-line-le e line q); offset = omega (arith, orcpt-offset-le e line) })))
       (λ line at q. let z = malformed-le h line at q in small (record { number = omega arith; place = omega arith; offset = omega (arith, header-line-le h line at (z .1)) })))
       (λ fault line q.
-      small (record { number = fault-number-le fault; place = omega (arith, fault-line-le e fault line q); offset = omega (arith, fault-offset-le e fault line) })))
+      small (record { number = fault-number-le fault; place = omega (arith, fault-line-le rules e fault line q); offset = omega (arith, fault-offset-le e fault line) })))
       (λ l. small (record { number = omega arith; place = omega arith; offset = omega arith })))
       (λ k. small (record { number = omega arith; place = omega arith; offset = omega arith }))
 
@@ -279,11 +280,11 @@ pub record Bounded (b c : List ℕ) (o : Outcome) : Type 0 where
   pub size₁ : length (o .envelopeBuffer) ≡ length b
   pub size₂ : length (o .headerBuffer) ≡ length c
 
-pub outcome-bounded : (e h b c : List ℕ) → Bounded b c (outcome e h b c)
+pub outcome-bounded : (rules : Rules) (e h b c : List ℕ) → Bounded b c (outcome rules e h b c)
 unfolding outcome outcomeOf
-outcome-bounded e h b c = go (verdict e h (length b) (length c)) (verdict-bound e h (length b) (length c))
+outcome-bounded rules e h b c = go (verdict rules e h (length b) (length c)) (verdict-bound rules e h (length b) (length c))
   where
-    go : (v : Verdict) → Bound e h (length b) (length c) v → Bounded b c (outcomeOf v e h b c)
+    go : (v : Verdict) → Bound rules e h (length b) (length c) v → Bounded b c (outcomeOf rules v e h b c)
     go v (fitting f) = record {
       number = omega arith;
       place = omega arith;
@@ -293,7 +294,7 @@ outcome-bounded e h b c = go (verdict e h (length b) (length c)) (verdict-bound 
       room₁ = f .fits₁;
       room₂ = f .fits₂;
       size₁ = length-overlay (written e) b;
-      size₂ = length-overlay (outgoingHeader e h) c;
+      size₂ = length-overlay (outgoingHeader rules e h) c;
     }
     go v (small s) = record {
       number = omega (arith, s .number);
