@@ -45,6 +45,9 @@ range-bounded rules input start₁ len₁ start₂ len₂ b c =
       room₂ = omega arith;
       size₁ = refl;
       size₂ = refl;
+      past₁ = refl;
+      past₂ = refl;
+      refused = λ z. (refl, refl);
     })
     (λ t. outcome-bounded rules (range input start₁ len₁) (range input start₂ len₂) b c)
 

@@ -1,4 +1,4 @@
--- Bounds of an outcome: what is written fits its buffer, and every number fits 32 bits. Assumes nothing.
+-- Bounds of an outcome: every number fits 32 bits, what is written fits its buffer, and the rest of the buffer stays. Assumes nothing.
 use mathlib.Core.Path.{_≡_, refl, ap}
 use mathlib.Core.List.{List, [], _∷_}
 use Prim.Native.Nat.{ℕ, suc, _+_, _*_, _≤_, _<_}
@@ -13,7 +13,7 @@ use Rattle.lists.specs.CutByLaws.{cut-few, cut-joined}
 use Rattle.lists.specs.Run.{run}
 use Rattle.lists.specs.RunLaws.{run-le}
 use Rattle.buffer.specs.Buffer.{overlay}
-use Rattle.buffer.specs.BufferLaws.{length-overlay}
+use Rattle.buffer.specs.BufferLaws.{length-overlay, overlay-past}
 use Rattle.line.specs.Line.{crlf, lineLen}
 use Rattle.envelope_line.specs.EnvelopeLine.{orcptFault}
 use Rattle.envelope_line.specs.declared.Fault.{Fault}
@@ -268,7 +268,8 @@ module _ (rules : Rules) (e h : List ℕ) (room₁ room₂ : ℕ) where
 
 -- ---- the outcome
 
--- Every number of an outcome fits 32 bits, both lengths lie within their buffers, and the buffers keep theirs.
+-- Every number of an outcome fits 32 bits; both lengths lie within their buffers, which keep theirs and what lies past the output; and a
+-- refusal has no output.
 pub record Bounded (b c : List ℕ) (o : Outcome) : Type 0 where
   pub number : o .number ≤ greatest32
   pub place : o .place ≤ greatest32
@@ -279,6 +280,9 @@ pub record Bounded (b c : List ℕ) (o : Outcome) : Type 0 where
   pub room₂ : o .headerLen ≤ length c
   pub size₁ : length (o .envelopeBuffer) ≡ length b
   pub size₂ : length (o .headerBuffer) ≡ length c
+  pub past₁ : drop (o .envelopeLen) (o .envelopeBuffer) ≡ drop (o .envelopeLen) b
+  pub past₂ : drop (o .headerLen) (o .headerBuffer) ≡ drop (o .headerLen) c
+  pub refused : (o .number ≡ 0 → ⊥) → (o .envelopeLen ≡ 0) × (o .headerLen ≡ 0)
 
 pub outcome-bounded : (rules : Rules) (e h b c : List ℕ) → Bounded b c (outcome rules e h b c)
 unfolding outcome outcomeOf
@@ -295,6 +299,9 @@ outcome-bounded rules e h b c = go (verdict rules e h (length b) (length c)) (ve
       room₂ = f .fits₂;
       size₁ = length-overlay (written e) b;
       size₂ = length-overlay (outgoingHeader rules e h) c;
+      past₁ = overlay-past (written e) b;
+      past₂ = overlay-past (outgoingHeader rules e h) c;
+      refused = λ z. absurd (z refl);
     }
     go v (small s) = record {
       number = omega (arith, s .number);
@@ -306,4 +313,7 @@ outcome-bounded rules e h b c = go (verdict rules e h (length b) (length c)) (ve
       room₂ = omega arith;
       size₁ = refl;
       size₂ = refl;
+      past₁ = refl;
+      past₂ = refl;
+      refused = λ z. (refl, refl);
     }
