@@ -1,6 +1,6 @@
 // Prints what becomes of address fields: for each a label, the field with its CRs, LFs and TABs spelt out, whether its text fits and
 // every address is kept, the length of what is written for it, whether buffers of every size up to 1,024 bytes get as much of it as
-// they hold, and what is written. The cases stand in `stdin`.
+// they hold, and what is written. The cases stand in `stdin`, most with no column for the setting, which then is 0.
 use address_list::Examined;
 use libc::STDIN_FILENO;
 use libc::STDOUT_FILENO;
@@ -15,15 +15,15 @@ fn number(n: usize) {
 }
 
 // What becomes of a field.
-fn write(out: &mut [u8], field: &[u8]) -> usize {
-    outgoing_field::add_field(out, 0, Rules::Spool, field)
+fn write(out: &mut [u8], rules: Rules, field: &[u8]) -> usize {
+    outgoing_field::add_field(out, 0, rules, field)
 }
 
 // Whether the text of a field fits.
-fn examined(field: &[u8]) -> Examined {
+fn examined(rules: Rules, field: &[u8]) -> Examined {
     let mut text = [0u8; 4096];
     let n = field_text::put(&mut text, field);
-    address_list::examine(line::part(&text, 0, n), Rules::Spool)
+    address_list::examine(line::part(&text, 0, n), rules)
 }
 
 fn say_byte(b: u8) {
@@ -55,23 +55,23 @@ fn say_examined(examined: Examined) {
 
 // Whether the front of a buffer that is full of #, lent `size` bytes long, is filled with the front of the whole output, the
 // whole length is answered, and the bytes after stay.
-fn filled(spare: &mut [u8], field: &[u8], whole: &[u8], size: usize) -> bool {
+fn filled(spare: &mut [u8], rules: Rules, field: &[u8], whole: &[u8], size: usize) -> bool {
     let end = case_line::room(size, spare);
-    let n = write(&mut spare[..end], field);
+    let n = write(&mut spare[..end], rules, field);
     (n == whole.len()) & case_line::holds(spare, whole, end)
 }
 
 // The same in a buffer of its own.
-fn fits(field: &[u8], whole: &[u8], size: usize) -> bool {
+fn fits(rules: Rules, field: &[u8], whole: &[u8], size: usize) -> bool {
     let mut spare = [b'#'; 1024];
-    filled(&mut spare, field, whole, size)
+    filled(&mut spare, rules, field, whole, size)
 }
 
 // The same of every size up to 1,024.
-fn all_sizes(field: &[u8], whole: &[u8]) -> bool {
+fn all_sizes(rules: Rules, field: &[u8], whole: &[u8]) -> bool {
     let mut size = 0;
     while size <= 1024 {
-        if !fits(field, whole, size) {
+        if !fits(rules, field, whole, size) {
             return false;
         }
         size += 1;
@@ -88,22 +88,22 @@ fn say_same(same: bool) {
 }
 
 // The whole output, its length, and whether buffers of every size agree.
-fn show_written(field: &[u8]) {
+fn show_written(rules: Rules, field: &[u8]) {
     let mut out = [b'#'; 8192];
-    let n = write(&mut out, field);
+    let n = write(&mut out, rules, field);
     let whole = line::part(&out, 0, n);
     number(n);
     say(b" bytes, ");
-    say_same(all_sizes(field, whole));
+    say_same(all_sizes(rules, field, whole));
     say(whole);
 }
 
-fn show(label: &[u8], field: &[u8]) {
+fn show(label: &[u8], rules: Rules, field: &[u8]) {
     say(label);
     say(b"\r\n");
     say_readably(field);
-    say_examined(examined(field));
-    show_written(field);
+    say_examined(examined(rules, field));
+    show_written(rules, field);
 }
 
 // A line of the input.
@@ -113,7 +113,9 @@ fn show_line(line: &[u8]) {
     }
     let mut field = [0u8; 4096];
     let n = case_line::undo(&mut field, case_line::column(line, 1));
-    show(case_line::column(line, 0), &field[..n]);
+    let setting = case_line::number(case_line::column(line, 2));
+    let rules = rules::of_setting(setting as u64);
+    show(case_line::column(line, 0), rules, &field[..n]);
 }
 
 fn show_lines(cases: &[u8]) {

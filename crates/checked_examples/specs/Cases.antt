@@ -1,4 +1,5 @@
--- The checked examples that the paper marks P, as one table under one theorem about the definitions. Assumes nothing.
+-- The checked examples that the paper marks P, as one table under one theorem about the definitions: "Document 01's cases are spool messages."
+-- Assumes nothing.
 use mathlib.Core.Path.{_≡_, refl}
 use mathlib.Core.List.{List, [], _∷_, _++_, map}
 use Prim.Native.Nat.{ℕ, _≤_, _<_}
@@ -15,18 +16,19 @@ use Rattle.letter_case.specs.LetterCase.{bytes, lower, sameAnyCase}
 use Rattle.cut.specs.Cut.{cut}
 use Rattle.word_spelling.specs.Spelling.{bare, spellByte, spell}
 use Rattle.row.specs.Row.{runs, word, lines, rowIn, row, runsAfter, linesAfter, rowAfterIn}
-use Rattle.envelope.specs.Envelope.{lines as envelopeLines, lineText, endedFault, faultOf, faultNumber, isFine, checkedFrom, checked, texts, orcptFrom, orcptLine, writtenEnded, writtenOf, written, mailOf, mailReplacement, onlyRcptOf, rcptReplacement}
+use Rattle.envelope.specs.Envelope.{lines as envelopeLines, lineText, endedFault, faultOf, faultNumber, isFine, counted, checkedFrom, checked, texts, orcptFrom, orcptLine, writtenEnded, writtenOf, written, mailOf, mailReplacement, onlyRcptOf, rcptReplacement}
 use Rattle.header_line.specs.Lines.{checkedLines, lineByte, nameByte, nameLen, named, continuation, wellFormed, lineOk, linesOf, linesFrom}
 use Rattle.line.specs.Line.{blank, crlf, lineLen}
 use Rattle.address.specs.Address.{later, byteThen, scanThen, isAtext, isAtomByte, isQuotedByte, isLiteralByte, dotAtomFrom, dotAtomScan, quotedFrom, quotedScan, literalFrom, literalScan, domainScan, localScan, addressScan, isAddress, isAsciiAddress}
 use Rattle.xtext.specs.Xtext.{isXchar, isHexchar, unitLen, unitByte, decodingAfter, decoding, isXtext, decoded, isAltAddress}
 use Rattle.hex.specs.Hex.{hexDigit, isHexDigit, hexValue}
-use Rattle.envelope_line.specs.EnvelopeLine.{verb, hasVerb, pathScan, pathLen, path, hasPath, tail, wellFormed as wellFormedLine, altFault, lineFault, orcptFault, newPath, withoutAlt, writtenLine, replacement}
+use Rattle.envelope_line.specs.EnvelopeLine.{verb, hasVerb, pathScan, pathLen, path, hasPath, tail, wellFormed as wellFormedLine, valueFault, altFault, lineFault, orcptFault, newPath, withoutAlt, writtenLine, replacement}
 use Rattle.header.specs.Fields.{fold, fieldLen, fieldsOf, nameOf, valueOf, unfoldedAfter, trimmed, textOf, lineCount}
 use Rattle.header_name.specs.Names.{six, addressNames, groups, among, kindAmong, kindOf}
 use Rattle.field.specs.Field.{labelledField, prefix, encodedField}
 use Rattle.outgoing_field.specs.Fate.{kindFate, fateOf, segmentsOf, fieldSegments, headerSegments, isHeld, heldFrom, heldOf}
 use Rattle.encoded_word.specs.Segments.{rendered}
+use Rattle.rules.specs.declared.Rules.the-variants.{Spool}
 use Rattle.call.specs.declared.Verdict.the-variants.{Accept}
 use Rattle.call.specs.OutgoingHeader.{newField, newFields, outgoingSegments, outgoingHeader}
 use Rattle.call.specs.Outcome.{numberOf, placeOf, over, ofEnvelope, ofLines, ofOrcpt, ofHeld, firstOf, verdict, Outcome, outcomeOf, outcome}
@@ -55,10 +57,10 @@ answer o = (o .number, o .place)
 -- what a case says
 abbrev pub Right : Case → Type 0
 Right (cutsTo text sizes) = wordSizes text ≡ sizes
-Right (refused e h number place) = (b c : List ℕ) → answer (outcome e h b c) ≡ (number, place)
+Right (refused e h number place) = (b c : List ℕ) → answer (outcome Spool e h b c) ≡ (number, place)
 Right (needs e h n m) = (b c : List ℕ) → n ≤ length b
-    → (m ≤ length c → answer (outcome e h b c) ≡ (0, 0)) × (length c < m → answer (outcome e h b c) ≡ (8, m))
-Right (taken e h) = (b c : List ℕ) → 1000 ≤ length b → 1000 ≤ length c → answer (outcome e h b c) ≡ (0, 0)
+    → (m ≤ length c → answer (outcome Spool e h b c) ≡ (0, 0)) × (length c < m → answer (outcome Spool e h b c) ≡ (8, m))
+Right (taken e h) = (b c : List ℕ) → 1000 ≤ length b → 1000 ≤ length c → answer (outcome Spool e h b c) ≡ (0, 0)
 
 -- each of these cases is right
 abbrev pub AllRight : List Case → Type 0
@@ -128,24 +130,24 @@ cases =
     ∷ []
 
 -- an input that no number from 1 to 6 refuses is taken where both outputs fit
-taken-by : (e h : List ℕ) → firstOf (ofInput e h) ≡ Accept → T (leb (length (written e)) 1000) → T (leb (length (outgoingHeader e h)) 1000)
-    → (b c : List ℕ) → 1000 ≤ length b → 1000 ≤ length c → answer (outcome e h b c) ≡ (0, 0)
+taken-by : (e h : List ℕ) → firstOf (ofInput Spool e h) ≡ Accept → T (leb (length (written e)) 1000) → T (leb (length (outgoingHeader Spool e h)) 1000)
+    → (b c : List ℕ) → 1000 ≤ length b → 1000 ≤ length c → answer (outcome Spool e h b c) ≡ (0, 0)
 unfolding outcome outcomeOf
 taken-by e h q n m b c k l =
     let n′ : length (written e) ≤ 1000 = leb-yes n in
-    let m′ : length (outgoingHeader e h) ≤ 1000 = leb-yes m in
-    rw (both-fit e h (length b) (length c) q (omega arith) (omega arith))
+    let m′ : length (outgoingHeader Spool e h) ≤ 1000 = leb-yes m in
+    rw (both-fit Spool e h (length b) (length c) q (omega arith) (omega arith))
 
 -- an input that no number from 1 to 6 refuses, whose outputs have these lengths
-needs-by : (e h : List ℕ) (n m : ℕ) → firstOf (ofInput e h) ≡ Accept → length (written e) ≡ n → length (outgoingHeader e h) ≡ m → Right (Case.needs e h n m)
+needs-by : (e h : List ℕ) (n m : ℕ) → firstOf (ofInput Spool e h) ≡ Accept → length (written e) ≡ n → length (outgoingHeader Spool e h) ≡ m → Right (Case.needs e h n m)
 unfolding outcome outcomeOf numberOf placeOf
 needs-by e h n m q p r b c k = (
-  λ l. rw (both-fit e h (length b) (length c) q (omega arith) (omega arith)),
-  λ l. rw (header-short e h (length b) (length c) q (omega arith) (omega arith), r),
+  λ l. rw (both-fit Spool e h (length b) (length c) q (omega arith) (omega arith)),
+  λ l. rw (header-short Spool e h (length b) (length c) q (omega arith) (omega arith), r),
 )
 
 pub cases-right : AllRight cases
-unfolding alt altPlace orcptClean newPath withoutAlt rowAfterIn runsAfter linesAfter nameOf unfoldedAfter trimmed textOf six addressNames groups among kindAmong kindOf labelledField prefix encodedField kindFate lineCount rowIn runs cut lines word spell spellByte bare hexDigit bytes lower sameAnyCase crlf lineLen later byteThen scanThen isAtext isAtomByte isQuotedByte isLiteralByte dotAtomFrom dotAtomScan quotedFrom quotedScan literalFrom literalScan domainScan localScan addressScan isAddress isAsciiAddress run utf8 chars cutBy cutAfter charLen leadingOnes leadingZeros isChar secondLow secondHigh isXchar isHexDigit hexValue isHexchar unitLen unitByte decodingAfter decoding isXtext decoded isAltAddress verb hasVerb pathScan pathLen path hasPath tail params spaced isKeywordByte keywordLen keyword hasValue value isOrcpt isAlt isValueByte isParam alts altsOk wellFormed altFault lineFault envelopeLines lineText endedFault faultOf faultNumber isFine checkedFrom checked lineByte blank nameByte nameLen named continuation lineOk linesOf linesFrom checkedLines wellFormedLine numberOf placeOf over ofEnvelope ofLines ofOrcpt ofHeld firstOf verdict outcomeOf outcome texts orcptFrom orcptLine orcptFault writtenEnded writtenOf written writtenLine heldFrom heldOf isHeld fateOf fold fieldLen fieldsOf valueOf newField newFields outgoingSegments outgoingHeader mailOf mailReplacement onlyRcptOf rcptReplacement replacement segmentsOf fieldSegments headerSegments rendered
+unfolding alt altPlace orcptClean newPath withoutAlt rowAfterIn runsAfter linesAfter nameOf unfoldedAfter trimmed textOf six addressNames groups among kindAmong kindOf labelledField prefix encodedField kindFate lineCount rowIn runs cut lines word spell spellByte bare hexDigit bytes lower sameAnyCase crlf lineLen later byteThen scanThen isAtext isAtomByte isQuotedByte isLiteralByte dotAtomFrom dotAtomScan quotedFrom quotedScan literalFrom literalScan domainScan localScan addressScan isAddress isAsciiAddress run utf8 chars cutBy cutAfter charLen leadingOnes leadingZeros isChar secondLow secondHigh isXchar isHexDigit hexValue isHexchar unitLen unitByte decodingAfter decoding isXtext decoded isAltAddress verb hasVerb pathScan pathLen path hasPath tail params spaced isKeywordByte keywordLen keyword hasValue value isOrcpt isAlt isValueByte isParam alts altsOk wellFormed valueFault altFault lineFault envelopeLines lineText endedFault faultOf faultNumber isFine counted checkedFrom checked lineByte blank nameByte nameLen named continuation lineOk linesOf linesFrom checkedLines wellFormedLine numberOf placeOf over ofEnvelope ofLines ofOrcpt ofHeld firstOf verdict outcomeOf outcome texts orcptFrom orcptLine orcptFault writtenEnded writtenOf written writtenLine heldFrom heldOf isHeld fateOf fold fieldLen fieldsOf valueOf newField newFields outgoingSegments outgoingHeader mailOf mailReplacement onlyRcptOf rcptReplacement replacement segmentsOf fieldSegments headerSegments rendered
 cases-right = (
   refl,
   (

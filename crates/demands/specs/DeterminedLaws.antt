@@ -8,6 +8,7 @@ use lib.Dec.{eqb, eqb→eq}
 use mir.Facts.{eqb-no}
 use lib.ListN.{length, take, drop, take-append-drop}
 use Rattle.lists.specs.ListsLaws.{by-test}
+use Rattle.rules.specs.declared.Rules.{Rules}
 use Rattle.call.specs.Outcome.{Outcome, outcome}
 use Rattle.demands.specs.Demands.{Given, Untouched, KeptPast, Demand1, Demand2, Demands}
 use Rattle.demands.specs.DemandsLaws.{demands}
@@ -27,16 +28,16 @@ same-outcome {o} {p} a i b k c d e f = same
 same-buffer : (text before after : List ℕ) (len : ℕ) → take len after ≡ text → KeptPast len before after → after ≡ text ++ drop len before
 same-buffer text before after len e k = sym (take-append-drop len after) ∙ rw (e, k .past)
 
-module _ (e h b c : List ℕ) (o : Outcome) (d : Demands e h b c o) where
-  meets : Demands e h b c (outcome e h b c)
-  meets = demands e h b c
+module _ (rules : Rules) (e h b c : List ℕ) (o : Outcome) (d : Demands rules e h b c o) where
+  meets : Demands rules e h b c (outcome rules e h b c)
+  meets = demands rules e h b c
 
-  numbers : (o .number ≡ outcome e h b c .number) × (o .input ≡ outcome e h b c .input) × (o .place ≡ outcome e h b c .place) × (o .offset ≡ outcome e h b c .offset)
+  numbers : (o .number ≡ outcome rules e h b c .number) × (o .input ≡ outcome rules e h b c .input) × (o .place ≡ outcome rules e h b c .place) × (o .offset ≡ outcome rules e h b c .offset)
   numbers = meets .demand-1 .exact (o .number) (o .input) (o .place) (o .offset) (d .demand-1 .answered)
 
-  after-zero : o .number ≡ 0 → o ≡ outcome e h b c
+  after-zero : o .number ≡ 0 → o ≡ outcome rules e h b c
   after-zero z =
-      let p = outcome e h b c in
+      let p = outcome rules e h b c in
       let y : p .number ≡ 0 = sym (numbers .0) ∙ z in
       let mine = d .demand-2 z in
       let theirs = meets .demand-2 y in
@@ -48,7 +49,7 @@ module _ (e h b c : List ℕ) (o : Outcome) (d : Demands e h b c o) where
       (same-buffer _ b _ _ (mine .envelope) (kept .0) ∙ rw len₁ (sym (same-buffer _ b _ _ (theirs .envelope) (stayed .0))))
       (same-buffer _ c _ _ (mine .header) (kept .1) ∙ rw len₂ (sym (same-buffer _ c _ _ (theirs .header) (stayed .1))))
 
-  after-refusal : (o .number ≡ 0 → ⊥) → o ≡ outcome e h b c
+  after-refusal : (o .number ≡ 0 → ⊥) → o ≡ outcome rules e h b c
   after-refusal z =
       let mine = d .demand-1 .refusal z in
       let theirs = meets .demand-1 .refusal (λ y. z (numbers .0 ∙ y)) in
@@ -58,5 +59,5 @@ module _ (e h b c : List ℕ) (o : Outcome) (d : Demands e h b c o) where
       (mine .envelope-buffer ∙ sym (theirs .envelope-buffer))
       (mine .header-buffer ∙ sym (theirs .header-buffer))
 
-  pub determined : o ≡ outcome e h b c
+  pub determined : o ≡ outcome rules e h b c
   determined = by-test (eqb (o .number) 0) (λ t. after-zero (eqb→eq (o .number) 0 t)) (λ t. after-refusal (eqb-no {a = o .number} {b = 0} t))

@@ -1,5 +1,5 @@
 // Reads an envelope, an empty line and a header from standard input, and prints what becomes of them: number and lengths, then the
-// envelope, an empty line and the header; or the number and the place of a refusal. Lines end in CRLF.
+// envelope, an empty line and the header; or the number and the place of a refusal. Lines end in CRLF. The message is one from the spool.
 use libc::STDIN_FILENO;
 use libc::STDOUT_FILENO;
 
@@ -50,6 +50,7 @@ fn downgrade(
     header_buffer: &mut [u8; 1048576],
 ) {
     let answer = hennelaku::hennelaku_downgrade_slices(
+        0,
         envelope,
         header,
         envelope_buffer,

@@ -50,6 +50,7 @@ fn show_numbers(no: u32, place: usize, n: usize, m: usize) {
 
 // A call that is lent the first n and the first m bytes of two buffers full of #.
 fn call(
+    setting: usize,
     envelope: &[u8],
     header: &[u8],
     envelope_space: &mut [u8],
@@ -60,6 +61,7 @@ fn call(
     let envelope_end = case_line::room(n, envelope_space);
     let header_end = case_line::room(m, header_space);
     hennelaku::hennelaku_downgrade_slices(
+        setting as u64,
         envelope,
         header,
         &mut envelope_space[..envelope_end],
@@ -68,10 +70,11 @@ fn call(
 }
 
 // A case with buffers of n and m bytes.
-fn show(label: &[u8], envelope: &[u8], header: &[u8], n: usize, m: usize) {
+fn show(label: &[u8], setting: usize, envelope: &[u8], header: &[u8], n: usize, m: usize) {
     let mut envelope_space = [b'#'; 256];
     let mut header_space = [b'#'; 1024];
     let answer = call(
+        setting,
         envelope,
         header,
         &mut envelope_space,
@@ -101,6 +104,7 @@ fn show_line(line: &[u8]) {
     let m = case_line::undo(&mut header, case_line::column(line, 4));
     show(
         case_line::column(line, 0),
+        case_line::number(case_line::column(line, 5)),
         &envelope[..n],
         &header[..m],
         case_line::number(case_line::column(line, 1)),

@@ -1,11 +1,12 @@
 // Prints what becomes of envelopes: for each case a label, and the number of its refusal with the line; or 0 and the number of
 // RCPT lines, the line of an ORCPT that carries non-ASCII, the envelope as it is written, and the texts for the header. The cases stand in
-// `stdin`.
+// `stdin`, most with no column for the setting, which then is 0.
 use envelope::Checked;
 use envelope::Orcpt;
 use envelope_line::Fault;
 use libc::STDIN_FILENO;
 use libc::STDOUT_FILENO;
+use rules::Rules;
 
 fn say(words: &[u8]) {
     io::write_all(STDOUT_FILENO, words);
@@ -30,6 +31,7 @@ fn fault_number(fault: Fault) -> usize {
         Fault::Malformed => 2,
         Fault::NoAlternative => 3,
         Fault::BadAlternative => 4,
+        Fault::RetiredAlternative => 10,
     }
 }
 
@@ -124,11 +126,11 @@ fn replacements(envelope: &[u8], starts: &[usize; 100], count: usize) {
 }
 
 // A case.
-fn show(label: &[u8], envelope: &[u8]) {
+fn show(label: &[u8], rules: Rules, envelope: &[u8]) {
     say(label);
     say(b": ");
     let mut starts = [0usize; 100];
-    match envelope::check(envelope, &mut starts) {
+    match envelope::check(rules, envelope, &mut starts) {
         Checked::Refused(fault, line) => refused(fault_number(fault), line),
         Checked::Passed(count) => {
             say(b"0, RCPT lines ");
@@ -148,7 +150,9 @@ fn show_line(line: &[u8]) {
     }
     let mut envelope = [0u8; 4096];
     let n = case_line::undo(&mut envelope, case_line::column(line, 1));
-    show(case_line::column(line, 0), &envelope[..n]);
+    let setting = case_line::number(case_line::column(line, 2));
+    let rules = rules::of_setting(setting as u64);
+    show(case_line::column(line, 0), rules, &envelope[..n]);
 }
 
 fn show_lines(cases: &[u8]) {

@@ -1,20 +1,24 @@
 // The library's exported calls, for C and for Rust.
 ghost use mathlib.Core.Path.{_≡_};
 ghost use Rattle.call.specs.Outcome.{observed, outcome};
+ghost use Rattle.rules.specs.Rules.{settingRules};
 ghost use Rattle.hennelaku.specs.Version.{version};
 use call::Answer;
 
-// Downgrades an envelope and a header into two buffers, or refuses them by number, place and offset.
+// Downgrades an envelope and a header into two buffers, or refuses them by number, place and offset. The setting is 0 for a message from
+// the spool and any other number for a current one.
 #[no_mangle]
 pub extern "C" fn hennelaku_downgrade_slices(
+    setting: u64,
     envelope: &[u8],
     header: &[u8],
     envelope_buffer: &mut [u8],
     header_buffer: &mut [u8],
 ) -> Answer
-    ensures { λ r. ⌜ observed r (now («envelope_buffer» .exit)) (now («header_buffer» .exit)) ≡ outcome (now (envelope .entry)) (now (header .entry)) (now («envelope_buffer» .entry)) (now («header_buffer» .entry)) ⌝ }
+    ensures { λ r. ⌜ observed r (now («envelope_buffer» .exit)) (now («header_buffer» .exit)) ≡ outcome (settingRules setting) (now (envelope .entry)) (now (header .entry)) (now («envelope_buffer» .entry)) (now («header_buffer» .entry)) ⌝ }
 {
-    call::downgrade(envelope, header, envelope_buffer, header_buffer)
+    let rules = rules::of_setting(setting);
+    call::downgrade(rules, envelope, header, envelope_buffer, header_buffer)
 }
 
 // The version of the library.
@@ -22,5 +26,5 @@ pub extern "C" fn hennelaku_downgrade_slices(
 pub extern "C" fn hennelaku_version() -> u32
     ensures { λ r. ⌜ r ≡ version ⌝ }
 {
-    200
+    300
 }

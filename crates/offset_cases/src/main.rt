@@ -1,5 +1,5 @@
 // Prints what the downgrade call answers to refused inputs: for each case a label, the number, which input it is about (1 the envelope,
-// 2 the header), the place and the offset. The cases stand in `stdin`.
+// 2 the header), the place and the offset. The cases stand in `stdin`, most with no column for the setting, which then is 0.
 use libc::STDIN_FILENO;
 use libc::STDOUT_FILENO;
 
@@ -13,10 +13,11 @@ fn number(words: &[u8], n: usize) {
 }
 
 // A case with two buffers of 64 bytes.
-fn show(label: &[u8], envelope: &[u8], header: &[u8]) {
+fn show(label: &[u8], setting: usize, envelope: &[u8], header: &[u8]) {
     let mut envelope_buffer = [0u8; 64];
     let mut header_buffer = [0u8; 64];
     let answer = hennelaku::hennelaku_downgrade_slices(
+        setting as u64,
         envelope,
         header,
         &mut envelope_buffer,
@@ -39,7 +40,8 @@ fn show_line(line: &[u8]) {
     let mut header = [0u8; 32769];
     let n = case_line::undo(&mut envelope, case_line::column(line, 1));
     let m = case_line::undo(&mut header, case_line::column(line, 2));
-    show(case_line::column(line, 0), &envelope[..n], &header[..m]);
+    let setting = case_line::number(case_line::column(line, 3));
+    show(case_line::column(line, 0), setting, &envelope[..n], &header[..m]);
 }
 
 fn show_lines(cases: &[u8]) {

@@ -5,10 +5,10 @@ use Rattle.address_cases.proofs.all_sizes.Statement.{statement}
 use Rattle.address_cases.proofs.all_sizes.Tie as tie
 
 abbrev Inv-loop : tie.InvT-loop
-Inv-loop field whole size₀ size = Unit {0}
+Inv-loop rules field whole size₀ size = Unit {0}
 
 abbrev μ-loop : tie.MeasureT-loop
-μ-loop field whole size₀ size = 1025 - size
+μ-loop rules field whole size₀ size = 1025 - size
 
 loop-holds : tie.Need-loop-holds Inv-loop μ-loop
 loop-holds c = search needs
