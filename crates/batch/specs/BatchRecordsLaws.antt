@@ -3,7 +3,7 @@ use mathlib.Core.Path.{_≡_, refl, sym, ap, _∙_}
 use mathlib.Core.List.{List, [], _∷_, _++_, append-assoc}
 use Prim.Native.Nat.{ℕ, zero, suc, _+_, _*_, _/_, _≤_, _<_}
 use native.Mathlib.Omega.{arith}
-use native.Mathlib.Nat.{not-suc-le-zero}
+use native.Mathlib.Nat.{not-suc-le-zero, le-of-suc-le-suc}
 use lib.ListN.{length, take, drop, getD, length-append, length-take, length-drop}
 use lib.Seq.{take-at, take-append-le, drop-at, drop-drop, drop-append-add, getD-append-add}
 use Rattle.rules.specs.declared.Rules.{Rules}
@@ -122,6 +122,49 @@ module _ (rules : Rules) (input records b c : List ℕ) (k : 9 ≤ length record
     left-next₂ : (n : ℕ) → drop (o .headerLen + n) (take (o .headerLen) (o .headerBuffer) ++ rest .headerBuffer) ≡ drop n (rest .headerBuffer)
     left-next₂ n = front-drop (take (o .headerLen) (o .headerBuffer)) (rest .headerBuffer) (o .headerLen) n output₂
 
+    -- where the other n records are done, all are
+    module _ (n : ℕ) (d : BatchDone n rules input (drop 9 records) (drop (o .envelopeLen) (o .envelopeBuffer)) (drop (o .headerLen) (o .headerBuffer)) rest) where
+      abbrev whole : Batch
+      whole = record {
+        records = numbers;
+        envelopeBuffer = take (o .envelopeLen) (o .envelopeBuffer) ++ rest .envelopeBuffer;
+        headerBuffer = take (o .headerLen) (o .headerBuffer) ++ rest .headerBuffer;
+      }
+
+      abbrev Done : ℕ → Type 0
+      Done i =
+          RecordDone rules input (fromRecord i records) (fromRecord i numbers) (drop (used₁ i whole) b) (drop (used₂ i whole) c)
+          (drop (used₁ i whole) (whole .envelopeBuffer))
+          (drop (used₂ i whole) (whole .headerBuffer))
+
+      next-done : (i : ℕ) → i < n → Done (suc i)
+      next-done i h =
+          let t₁ = total 7 i (rest .records) in
+          let t₂ = total 8 i (rest .records) in
+          rw (records-next i, numbers-next i, total-next₁ i, total-next₂ i, room-next₁ t₁, room-next₂ t₂, left-next₁ t₁, left-next₂ t₂) (d .each i h)
+
+      each-done : (i : ℕ) → i < suc n → Done i
+      unfolding total
+      each-done zero h = first-done
+      each-done (suc i) h = next-done i (le-of-suc-le-suc h)
+
+      all-done : BatchDone (suc n) rules input records b c whole
+      all-done = record {
+        each = each-done;
+        size = rw (joined, length-append (take 4 records ++ answers o) (rest .records), nine, d .size, length-drop 9 records) (omega arith);
+        last-part = rw (numbers-next n, records-next n) (d .last-part);
+        envelope-size =
+            rw (length-append (take (o .envelopeLen) (o .envelopeBuffer)) (rest .envelopeBuffer), output₁, d .envelope-size, length-drop (o .envelopeLen) (o .envelopeBuffer))
+            (omega (arith, bounded .room₁, bounded .size₁));
+        header-size =
+            rw (length-append (take (o .headerLen) (o .headerBuffer)) (rest .headerBuffer), output₂, d .header-size, length-drop (o .headerLen) (o .headerBuffer))
+            (omega (arith, bounded .room₂, bounded .size₂));
+        envelope-past = let t = total 7 n (rest .records) in rw (total-next₁ n, left-next₁ t, room-next₁ t) (d .envelope-past);
+        header-past = let t = total 8 n (rest .records) in rw (total-next₂ n, left-next₂ t, room-next₂ t) (d .header-past);
+        envelope-within = rw (total-next₁ n) (omega (arith, d .envelope-within, length-drop (o .envelopeLen) (o .envelopeBuffer), bounded .room₁, bounded .size₁));
+        header-within = rw (total-next₂ n) (omega (arith, d .header-within, length-drop (o .headerLen) (o .headerBuffer), bounded .room₂, bounded .size₂));
+      }
+
 -- ---- all records
 
 done-of : (n : ℕ) (rules : Rules) (input records b c : List ℕ) → 9 * n ≤ length records → BatchDone n rules input records b c (batchOf n rules input records b c)
@@ -137,4 +180,12 @@ done-of zero rules input records b c k = record {
   envelope-within = omega arith;
   header-within = omega arith;
 }
-done-of (suc n) rules input records b c k = ?
+done-of (suc n) rules input records b c k =
+    let o = recordOutcome rules input records b c in
+    all-done rules input records b c (omega arith) _ n
+    (done-of n rules input (drop 9 records) (drop (o .envelopeLen) (o .envelopeBuffer)) (drop (o .headerLen) (o .headerBuffer)) (rw (length-drop 9 records) (omega arith)))
+
+-- Of every batch.
+pub batch-done : (rules : Rules) (input records b c : List ℕ) → BatchDone (length records / 9) rules input records b c (batch rules input records b c)
+unfolding batch
+batch-done rules input records b c = done-of (length records / 9) rules input records b c (omega arith)
