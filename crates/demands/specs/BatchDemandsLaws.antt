@@ -19,7 +19,7 @@ use Rattle.demands.specs.BatchDemands.GivenRecord.{envelope-past-end, he
 
 -- ---- demands 2 and 3 speak of what was written alone
 
-module _ (rules : Rules) (e h : List ℕ) {o p : Outcome} (l₁ : p .envelopeLen ≡ o .envelopeLen) (l₂ : p .headerLen ≡ o .headerLen)
+module _ (rules : Rules) (e h : List ℕ) (o p : Outcome) (l₁ : p .envelopeLen ≡ o .envelopeLen) (l₂ : p .headerLen ≡ o .headerLen)
     (t₁ : take (p .envelopeLen) (p .envelopeBuffer) ≡ take (o .envelopeLen) (o .envelopeBuffer))
     (t₂ : take (p .headerLen) (p .headerBuffer) ≡ take (o .headerLen) (o .headerBuffer)) where
   same-2 : Demand2 rules e h o → Demand2 rules e h p
@@ -91,8 +91,8 @@ module _ {rules : Rules} {input before after b c b′ c′ : List ℕ} (r : Reco
   called k l q = record {
     answered = rw (r .number, r .place, r .offset) (inside k l (d .demand-1 .answered));
     exact = exactly;
-    demand-2 = λ z. same-2 rules e h (r .envelope-len) (r .header-len) bytes₁ bytes₂ (d .demand-2 (sym (r .number) ∙ z));
-    demand-3 = λ z. same-3 rules e h (r .envelope-len) (r .header-len) bytes₁ bytes₂ (d .demand-3 (sym (r .number) ∙ z));
+    demand-2 = λ z. same-2 rules e h (r .single) (seen after b′ c′) (r .envelope-len) (r .header-len) bytes₁ bytes₂ (d .demand-2 (sym (r .number) ∙ z));
+    demand-3 = λ z. same-3 rules e h (r .single) (seen after b′ c′) (r .envelope-len) (r .header-len) bytes₁ bytes₂ (d .demand-3 (sym (r .number) ∙ z));
   }
     where
       e : List ℕ

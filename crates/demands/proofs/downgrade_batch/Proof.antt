@@ -1,3 +1,4 @@
+use Rattle.demands.specs.BatchDemandsLaws.{batch-met}
 use borrow.Author.Needs.{needs}
 use Rattle.demands.proofs.downgrade_batch.Statement.{statement}
 use Rattle.demands.proofs.downgrade_batch.Tie as tie
@@ -23,7 +24,7 @@ same-length-3 c = search needs
 
 -- src/lib.rt:24:1
 returns : tie.Need-returns
-returns c = ?
+returns c = batch-met (c .before .before .before .before .before .before .hennelaku-downgrade-batch-slices .ensures)
 
 pub downgrade-batch-spec : {M : Type 1} → statement M
 downgrade-batch-spec =
