@@ -6,6 +6,7 @@ use mathlib.Core.List.{List}
 use Prim.Native.Nat.{ℕ, _+_, _/_, _≤_, _<_}
 use lib.ListN.{length, drop, getD}
 use Rattle.rules.specs.declared.Rules.{Rules}
+use Rattle.rules.specs.Rules.{settingRules}
 use Rattle.call.specs.Outcome.{Outcome}
 use Rattle.batch.specs.Batch.{range, Batch}
 use Rattle.batch.specs.BatchRecords.{fromRecord, used₁, used₂, BatchDone}
@@ -52,6 +53,6 @@ pub record DemandsOf (n : ℕ) (rules : Rules) (input records b c : List ℕ) (a
   pub each : (k : ℕ) → k < n
       → RecordDemands rules input (fromRecord k records) (fromRecord k (after .records)) (drop (used₁ k after) b) (drop (used₂ k after) c) (drop (used₁ k after) (after .envelopeBuffer)) (drop (used₂ k after) (after .headerBuffer))
 
--- "nine to a record"
-abbrev pub BatchDemands : Rules → List ℕ → List ℕ → List ℕ → List ℕ → Batch → Type 0
-BatchDemands rules input records b c after = DemandsOf (length records / 9) rules input records b c after
+-- The exported call's: "nine to a record"; "A batch has one setting."
+abbrev pub BatchDemands : ℕ → List ℕ → List ℕ → List ℕ → List ℕ → Batch → Type 0
+BatchDemands setting input records b c after = DemandsOf (length records / 9) (settingRules setting) input records b c after

@@ -14,7 +14,7 @@ use Rattle.batch.specs.BatchRecords.{RecordDone}
 use Rattle.batch.specs.BatchRecordsLaws.{batch-done}
 use Rattle.demands.specs.Demands.{Given, Demand2, DemandThree, Demands}
 use Rattle.demands.specs.DemandsLaws.{demands}
-use Rattle.demands.specs.BatchDemands.{GivenRecord, seen, RecordDemands, BatchDemands}
+use Rattle.demands.specs.BatchDemands.{GivenRecord, seen, RecordDemands, DemandsOf}
 use Rattle.demands.specs.BatchDemands.GivenRecord.{envelope-past-end, header-past-end, inside}
 
 -- ---- demands 2 and 3 speak of what was written alone
@@ -127,11 +127,11 @@ module _ {rules : Rules} {input before after b c b′ c′ : List ℕ} (r : Reco
 -- ---- a batch
 
 -- All of every batch.
-pub batch-demands : (rules : Rules) (input records b c : List ℕ) → BatchDemands rules input records b c (batch rules input records b c)
+pub batch-demands : (rules : Rules) (input records b c : List ℕ) → DemandsOf (length records / 9) rules input records b c (batch rules input records b c)
 batch-demands rules input records b c =
     let d = batch-done rules input records b c in
     record { done = d; each = λ k h. record-demands (d .each k h) }
 
 -- what equals the batch meets them
-pub batch-met : {rules : Rules} {input records b c : List ℕ} {after : Batch} → after ≡ batch rules input records b c → BatchDemands rules input records b c after
+pub batch-met : {rules : Rules} {input records b c : List ℕ} {after : Batch} → after ≡ batch rules input records b c → DemandsOf (length records / 9) rules input records b c after
 batch-met {rules} {input} {records} {b} {c} q = rw q (batch-demands rules input records b c)

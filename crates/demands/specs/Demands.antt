@@ -23,7 +23,7 @@ use Rattle.outgoing_field.specs.declared.HeldField.the-variants.{Absent, At as 
 use Rattle.header_line.specs.Lines.{checkedLines}
 use Rattle.header.specs.Fields.{fieldsOf, valueOf}
 use Rattle.rules.specs.declared.Rules.{Rules}
-use Rattle.rules.specs.Rules.{allowsAlternative}
+use Rattle.rules.specs.Rules.{settingRules, allowsAlternative}
 use Rattle.outgoing_field.specs.Fate.{fieldSegments, heldOf}
 use Rattle.envelope_stop.specs.EnvelopeStop.{LineStop as EnvelopeStop}
 use Rattle.header_stop.specs.HeaderStop.{LineStop as HeaderStop}
@@ -155,3 +155,7 @@ pub record Demands (rules : Rules) (e h b c : List ℕ) (o : Outcome) : Type 0 w
   pub demand-1 : Demand1 rules e h b c o
   pub demand-2 : o .number ≡ 0 → Demand2 rules e h o
   pub demand-3 : o .number ≡ 0 → DemandThree rules e h o
+
+-- "The caller says by a number whether a message is from the spool .. or current": the demands on the exported call with this setting
+abbrev pub SettingDemands : ℕ → List ℕ → List ℕ → List ℕ → List ℕ → Outcome → Type 0
+SettingDemands setting e h b c o = Demands (settingRules setting) e h b c o

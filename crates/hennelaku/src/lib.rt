@@ -35,8 +35,13 @@ pub extern "C" fn hennelaku_downgrade_batch_slices(
 )
     ensures { λ _. ⌜ afterwards (now (records .exit)) (now («envelope_buffer» .exit)) (now («header_buffer» .exit)) ≡ batch (settingRules setting) (now (input .entry)) (now (records .entry)) (now («envelope_buffer» .entry)) (now («header_buffer» .entry)) ⌝ }
 {
-    let rules = rules::of_setting(setting);
-    batch::downgrade(rules, input, records, envelope_buffer, header_buffer)
+    batch::downgrade(
+        rules::of_setting(setting),
+        input,
+        records,
+        envelope_buffer,
+        header_buffer,
+    )
 }
 
 // The version of the library.
