@@ -27,6 +27,10 @@ next-record k = omega arith
 
 -- ---- the record at the front, and the others
 
+-- the outcome of the call for a record
+abbrev pub Called : Rules → List ℕ → List ℕ → List ℕ → List ℕ → Outcome → Type 0
+Called rules input before b c o = o ≡ recordOutcome rules input before b c
+
 module _ (rules : Rules) (input records b c : List ℕ) (k : 9 ≤ length records) where
   abbrev o : Outcome
   o = recordOutcome rules input records b c
@@ -74,7 +78,7 @@ module _ (rules : Rules) (input records b c : List ℕ) (k : 9 ≤ length record
         go (suc (suc (suc (suc (suc (suc (suc (suc zero)))))))) h l = rw (at-answer 4) (bounded .header-len)
         go (suc (suc (suc (suc (suc (suc (suc (suc (suc j))))))))) h l = absurd (omega arith)
 
-    first-done : RecordDone rules input records numbers b c (take (o .envelopeLen) (o .envelopeBuffer) ++ rest .envelopeBuffer) (take (o .headerLen) (o .headerBuffer) ++ rest .headerBuffer)
+    first-done : RecordDone (Called rules input) records numbers b c (take (o .envelopeLen) (o .envelopeBuffer) ++ rest .envelopeBuffer) (take (o .headerLen) (o .headerBuffer) ++ rest .headerBuffer)
     unfolding answers
     first-done = record {
       inputs = take-at (take 4 records) (answers o ++ rest .records) 4 four;
@@ -123,7 +127,7 @@ module _ (rules : Rules) (input records b c : List ℕ) (k : 9 ≤ length record
     left-next₂ n = front-drop (take (o .headerLen) (o .headerBuffer)) (rest .headerBuffer) (o .headerLen) n output₂
 
     -- where the other n records are done, all are
-    module _ (n : ℕ) (d : BatchDone n rules input (drop 9 records) (drop (o .envelopeLen) (o .envelopeBuffer)) (drop (o .headerLen) (o .headerBuffer)) rest) where
+    module _ (n : ℕ) (d : BatchDone (Called rules input) n (drop 9 records) (drop (o .envelopeLen) (o .envelopeBuffer)) (drop (o .headerLen) (o .headerBuffer)) rest) where
       abbrev whole : Batch
       whole = record {
         records = numbers;
@@ -133,7 +137,7 @@ module _ (rules : Rules) (input records b c : List ℕ) (k : 9 ≤ length record
 
       abbrev Done : ℕ → Type 0
       Done i =
-          RecordDone rules input (fromRecord i records) (fromRecord i numbers) (drop (used₁ i whole) b) (drop (used₂ i whole) c)
+          RecordDone (Called rules input) (fromRecord i records) (fromRecord i numbers) (drop (used₁ i whole) b) (drop (used₂ i whole) c)
           (drop (used₁ i whole) (whole .envelopeBuffer))
           (drop (used₂ i whole) (whole .headerBuffer))
 
@@ -148,7 +152,7 @@ module _ (rules : Rules) (input records b c : List ℕ) (k : 9 ≤ length record
       each-done zero h = first-done
       each-done (suc i) h = next-done i (le-of-suc-le-suc h)
 
-      all-done : BatchDone (suc n) rules input records b c whole
+      all-done : BatchDone (Called rules input) (suc n) records b c whole
       all-done = record {
         each = each-done;
         size = rw (joined, length-append (take 4 records ++ answers o) (rest .records), nine, d .size, length-drop 9 records) (omega arith);
@@ -167,7 +171,7 @@ module _ (rules : Rules) (input records b c : List ℕ) (k : 9 ≤ length record
 
 -- ---- all records
 
-done-of : (n : ℕ) (rules : Rules) (input records b c : List ℕ) → 9 * n ≤ length records → BatchDone n rules input records b c (batchOf n rules input records b c)
+done-of : (n : ℕ) (rules : Rules) (input records b c : List ℕ) → 9 * n ≤ length records → BatchDone (Called rules input) n records b c (batchOf n rules input records b c)
 unfolding batchOf total
 done-of zero rules input records b c k = record {
   each = λ i h. absurd (not-suc-le-zero h);
@@ -186,6 +190,37 @@ done-of (suc n) rules input records b c k =
     (done-of n rules input (drop 9 records) (drop (o .envelopeLen) (o .envelopeBuffer)) (drop (o .headerLen) (o .headerBuffer)) (rw (length-drop 9 records) (omega arith)))
 
 -- Of every batch.
-pub batch-done : (rules : Rules) (input records b c : List ℕ) → BatchDone (length records / 9) rules input records b c (batch rules input records b c)
+pub batch-done : (rules : Rules) (input records b c : List ℕ) → BatchDone (Called rules input) (length records / 9) records b c (batch rules input records b c)
 unfolding batch
 batch-done rules input records b c = done-of (length records / 9) rules input records b c (omega arith)
+
+-- the same for what the outcome of each record is known by
+module _ {Single Known : List ℕ → List ℕ → List ℕ → Outcome → Type 0} (known : (before b c : List ℕ) (o : Outcome) → Single before b c o → Known before b c o) where
+  record-known : {before after b c b′ c′ : List ℕ} → RecordDone Single before after b c b′ c′ → RecordDone Known before after b c b′ c′
+  record-known {before} {after} {b} {c} r = record {
+    inputs = r .inputs;
+    single = r .single;
+    is-single = known before b c (r .single) (r .is-single);
+    number = r .number;
+    place = r .place;
+    offset = r .offset;
+    envelope-len = r .envelope-len;
+    header-len = r .header-len;
+    envelope = r .envelope;
+    header = r .header;
+    refused = r .refused;
+    small = r .small;
+  }
+
+  pub batch-known : {n : ℕ} {records b c : List ℕ} {after : Batch} → BatchDone Single n records b c after → BatchDone Known n records b c after
+  batch-known d = record {
+    each = λ k h. record-known (d .each k h);
+    size = d .size;
+    last-part = d .last-part;
+    envelope-within = d .envelope-within;
+    header-within = d .header-within;
+    envelope-size = d .envelope-size;
+    header-size = d .header-size;
+    envelope-past = d .envelope-past;
+    header-past = d .header-past;
+  }

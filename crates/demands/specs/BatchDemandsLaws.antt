@@ -7,15 +7,17 @@ use lib.ListN.{length, take, drop, getD}
 use Rattle.rules.specs.declared.Rules.{Rules}
 use Rattle.encoded_word.specs.Segments.{Segment}
 use Rattle.encoded_word.specs.Segments.Segment.{raw, words, labelled}
-use Rattle.call.specs.Outcome.{Outcome, outcome}
-use Rattle.batch.specs.Batch.{range, rangeRefused, rangeOutcome, recordOutcome, Batch, batch}
+use Rattle.call.specs.Outcome.{Outcome}
+use Rattle.batch.specs.Batch.{rangeRefused, recordOutcome, Batch, batch}
 use Rattle.batch.specs.BatchLaws.{by-range}
 use Rattle.batch.specs.BatchRecords.{RecordDone}
-use Rattle.batch.specs.BatchRecordsLaws.{batch-done}
-use Rattle.demands.specs.Demands.{Given, Demand2, DemandThree, Demands}
+use Rattle.batch.specs.BatchRecordsLaws.{batch-done, batch-known}
+use Rattle.demands.specs.Demands.{Demand2, DemandThree, Demands}
 use Rattle.demands.specs.DemandsLaws.{demands}
-use Rattle.demands.specs.BatchDemands.{GivenRecord, seen, RecordDemands, DemandsOf}
-use Rattle.demands.specs.BatchDemands.GivenRecord.{envelope-past-end, header-past-end, inside}
+use Rattle.demands.specs.BatchDemands.{envelopeOf, headerOf, PastEnd, Inside, SingleOrNine, GivenRecord, seen, RecordDemands, DemandsOf}
+use Rattle.demands.specs.BatchDemands.PastEnd.{envelope-past, header-past}
+use Rattle.demands.specs.BatchDemands.SingleOrNine.{nine, single}
+use Rattle.demands.specs.BatchDemands.GivenRecord.{past-end, inside}
 
 -- ---- demands 2 and 3 speak of what was written alone
 
@@ -44,93 +46,76 @@ module _ (rules : Rules) (e h : List ℕ) (o p : Outcome) (l₁ : p .envelopeLen
 
 -- ---- a record
 
-module _ {rules : Rules} {input before after b c b′ c′ : List ℕ} (r : RecordDone rules input before after b c b′ c′) where
-  abbrev start₁ : ℕ
-  start₁ = getD before 0 0
+-- past the end and inside exclude each other
+never-both : {input numbers : List ℕ} → PastEnd input numbers → Inside input numbers → ⊥
+never-both (envelope-past k) i = omega (arith, i .envelope)
+never-both (header-past k) i = omega (arith, i .header)
 
-  abbrev len₁ : ℕ
-  len₁ = getD before 1 0
+record-outcome : (rules : Rules) (input numbers b c : List ℕ) (o : Outcome) → o ≡ recordOutcome rules input numbers b c → SingleOrNine rules input numbers b c o
+unfolding recordOutcome
+record-outcome rules input numbers b c o e =
+    by-range rules input (getD numbers 0 0) (getD numbers 1 0) (getD numbers 2 0) (getD numbers 3 0) b c
+    (λ k q. rw (e ∙ q) (nine (envelope-past k)))
+    (λ k q. rw (e ∙ q) (nine (header-past k)))
+    (λ k l q. single (record { envelope = k; header = l }) (rw (e ∙ q) (demands rules (envelopeOf input numbers) (headerOf input numbers) b c)))
 
-  abbrev start₂ : ℕ
-  start₂ = getD before 2 0
-
-  abbrev len₂ : ℕ
-  len₂ = getD before 3 0
-
-  abbrev GivenHere : ℕ → ℕ → ℕ → Type 0
-  GivenHere number place offset = GivenRecord rules input start₁ len₁ start₂ len₂ b c number place offset
-
-  single-is : r .single ≡ rangeOutcome rules input start₁ len₁ start₂ len₂ b c
-  unfolding recordOutcome
-  single-is = r .is-single
+module _ (rules : Rules) (input before after b c b′ c′ : List ℕ) where
+  abbrev Answers : Outcome → Type 0
+  Answers o = (getD after 4 0 ≡ o .number) × (getD after 5 0 ≡ o .place) × (getD after 6 0 ≡ o .offset)
 
   -- where a range is past the end, the answer is 9 alone
-  only-nine : (start₁ + len₁ ≤ length input → start₂ + len₂ ≤ length input → ⊥) → (number place offset : ℕ) → GivenHere number place offset → (number ≡ 9) × (place ≡ 0) × (offset ≡ 0)
-  only-nine out number place offset (envelope-past-end k) = (refl, refl, refl)
-  only-nine out number place offset (header-past-end k) = (refl, refl, refl)
-  only-nine out number place offset (inside k l g) = absurd (out k l)
+  only-nine : PastEnd input before → (number place offset : ℕ) → GivenRecord rules input before b c number place offset → (number ≡ 9) × (place ≡ 0) × (offset ≡ 0)
+  only-nine out number place offset (past-end k) = (refl, refl, refl)
+  only-nine out number place offset (inside i g) = absurd (never-both out i)
 
-  refused : GivenHere 9 0 0 → (start₁ + len₁ ≤ length input → start₂ + len₂ ≤ length input → ⊥) → rangeOutcome rules input start₁ len₁ start₂ len₂ b c ≡ rangeRefused b c
-      → RecordDemands rules input before after b c b′ c′
-  unfolding rangeRefused
-  refused g out q =
-      let is = single-is ∙ q in
-      let number : getD after 4 0 ≡ 9 = r .number ∙ ap (λ (o : Outcome). o .number) is in
-      let place : getD after 5 0 ≡ 0 = r .place ∙ ap (λ (o : Outcome). o .place) is in
-      let offset : getD after 6 0 ≡ 0 = r .offset ∙ ap (λ (o : Outcome). o .offset) is in
-      record {
-        answered = rw (number, place, offset) g;
-        exact = λ n p f given. let x = only-nine out n p f given in (x .0 ∙ sym number, x .1 ∙ sym place, x .2 ∙ sym offset);
-        demand-2 = λ z. absurd (omega arith);
-        demand-3 = λ z. absurd (omega arith);
-      }
+  -- where both are inside, that of the single call
+  only-single : {o : Outcome} → Inside input before → Demands rules (envelopeOf input before) (headerOf input before) b c o
+      → (number place offset : ℕ) → GivenRecord rules input before b c number place offset → (number ≡ o .number) × (place ≡ o .place) × (offset ≡ o .offset)
+  only-single i d number place offset (past-end k) = absurd (never-both k i)
+  only-single i d number place offset (inside {about = about} j g) = let x = d .demand-1 .exact number about place offset g in (x .0, x .2, x .3)
 
-  called : start₁ + len₁ ≤ length input → start₂ + len₂ ≤ length input
-      → rangeOutcome rules input start₁ len₁ start₂ len₂ b c ≡ outcome rules (range input start₁ len₁) (range input start₂ len₂) b c
-      → RecordDemands rules input before after b c b′ c′
-  called k l q = record {
-    answered = rw (r .number, r .place, r .offset) (inside k l (d .demand-1 .answered));
-    exact = exactly;
-    demand-2 = λ z. same-2 rules e h (r .single) (seen after b′ c′) (r .envelope-len) (r .header-len) bytes₁ bytes₂ (d .demand-2 (sym (r .number) ∙ z));
-    demand-3 = λ z. same-3 rules e h (r .single) (seen after b′ c′) (r .envelope-len) (r .header-len) bytes₁ bytes₂ (d .demand-3 (sym (r .number) ∙ z));
-  }
-    where
-      e : List ℕ
-      e = range input start₁ len₁
+  module _ (r : RecordDone (SingleOrNine rules input) before after b c b′ c′) where
+    bytes₁ : take (getD after 7 0) b′ ≡ take (r .single .envelopeLen) (r .single .envelopeBuffer)
+    bytes₁ = rw (r .envelope-len) (r .envelope)
 
-      h : List ℕ
-      h = range input start₂ len₂
+    bytes₂ : take (getD after 8 0) c′ ≡ take (r .single .headerLen) (r .single .headerBuffer)
+    bytes₂ = rw (r .header-len) (r .header)
 
-      d : Demands rules e h b c (r .single)
-      d = rw (single-is ∙ q) (demands rules e h b c)
+    by-outcome : {o : Outcome} → r .single ≡ o → SingleOrNine rules input before b c o → RecordDemands rules input before after b c b′ c′
+    unfolding rangeRefused
+    by-outcome e (nine out) =
+        let number : getD after 4 0 ≡ 9 = r .number ∙ ap (λ (o : Outcome). o .number) e in
+        let place : getD after 5 0 ≡ 0 = r .place ∙ ap (λ (o : Outcome). o .place) e in
+        let offset : getD after 6 0 ≡ 0 = r .offset ∙ ap (λ (o : Outcome). o .offset) e in
+        record {
+          answered = rw (number, place, offset) (past-end out);
+          exact = λ n p f g. let x = only-nine out n p f g in (x .0 ∙ sym number, x .1 ∙ sym place, x .2 ∙ sym offset);
+          demand-2 = λ z. absurd (omega arith);
+          demand-3 = λ z. absurd (omega arith);
+        }
+    by-outcome e (single i meets) =
+        let d : Demands rules (envelopeOf input before) (headerOf input before) b c (r .single) = rw e meets in
+        record {
+          answered = rw (r .number, r .place, r .offset) (inside i (d .demand-1 .answered));
+          exact = λ n p f g. let x = only-single i d n p f g in (x .0 ∙ sym (r .number), x .1 ∙ sym (r .place), x .2 ∙ sym (r .offset));
+          demand-2 = λ z.
+              same-2 rules (envelopeOf input before) (headerOf input before) (r .single) (seen after b′ c′) (r .envelope-len) (r .header-len) bytes₁ bytes₂
+              (d .demand-2 (sym (r .number) ∙ z));
+          demand-3 = λ z.
+              same-3 rules (envelopeOf input before) (headerOf input before) (r .single) (seen after b′ c′) (r .envelope-len) (r .header-len) bytes₁ bytes₂
+              (d .demand-3 (sym (r .number) ∙ z));
+        }
 
-      bytes₁ : take (getD after 7 0) b′ ≡ take (r .single .envelopeLen) (r .single .envelopeBuffer)
-      bytes₁ = rw (r .envelope-len) (r .envelope)
-
-      bytes₂ : take (getD after 8 0) c′ ≡ take (r .single .headerLen) (r .single .headerBuffer)
-      bytes₂ = rw (r .header-len) (r .header)
-
-      exactly : (number place offset : ℕ) → GivenHere number place offset → (number ≡ getD after 4 0) × (place ≡ getD after 5 0) × (offset ≡ getD after 6 0)
-      exactly number place offset (envelope-past-end m) = absurd (omega arith)
-      exactly number place offset (header-past-end m) = absurd (omega arith)
-      exactly number place offset (inside {about = about} m n g) =
-          let x = d .demand-1 .exact number about place offset g in
-          (x .0 ∙ sym (r .number), x .2 ∙ sym (r .place), x .3 ∙ sym (r .offset))
-
-  record-demands : RecordDemands rules input before after b c b′ c′
-  record-demands =
-      by-range rules input start₁ len₁ start₂ len₂ b c
-      (λ k q. refused (envelope-past-end k) (λ m n. omega arith) q)
-      (λ k q. refused (header-past-end k) (λ m n. omega arith) q)
-      called
+    record-demands : RecordDemands rules input before after b c b′ c′
+    record-demands = by-outcome refl (r .is-single)
 
 -- ---- a batch
 
 -- All of every batch.
 pub batch-demands : (rules : Rules) (input records b c : List ℕ) → DemandsOf (length records / 9) rules input records b c (batch rules input records b c)
 batch-demands rules input records b c =
-    let d = batch-done rules input records b c in
-    record { done = d; each = λ k h. record-demands (d .each k h) }
+    let d = batch-known {Known = SingleOrNine rules input} (record-outcome rules input) (batch-done rules input records b c) in
+    record { done = d; each = λ k h. record-demands rules input _ _ _ _ _ _ (d .each k h) }
 
 -- what equals the batch meets them
 pub batch-met : {rules : Rules} {input records b c : List ℕ} {after : Batch} → after ≡ batch rules input records b c → DemandsOf (length records / 9) rules input records b c after
