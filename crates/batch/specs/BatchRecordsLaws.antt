@@ -1,11 +1,11 @@
 -- The batch record by record. Assumes nothing.
-use mathlib.Core.Path.{_≡_, refl, sym, ap, _∙_}
-use mathlib.Core.List.{List, [], _∷_, _++_, append-assoc}
+use mathlib.Core.Path.{_≡_, refl, sym, _∙_}
+use mathlib.Core.List.{List, _++_, append-assoc}
 use Prim.Native.Nat.{ℕ, zero, suc, _+_, _*_, _/_, _≤_, _<_}
 use native.Mathlib.Omega.{arith}
 use native.Mathlib.Nat.{not-suc-le-zero, le-of-suc-le-suc}
 use lib.ListN.{length, take, drop, getD, length-append, length-take, length-drop}
-use lib.Seq.{take-at, take-append-le, drop-at, drop-drop, drop-append-add, getD-append-add}
+use lib.Seq.{take-at, drop-at, drop-drop, drop-append-add, getD-append-add}
 use Rattle.rules.specs.declared.Rules.{Rules}
 use Rattle.call.specs.Outcome.{Outcome}
 use Rattle.call.specs.BoundLaws.{Bounded}

@@ -1,7 +1,7 @@
 -- Bounds of an outcome: every number fits 32 bits, what is written fits its buffer, and the rest of the buffer stays. Assumes nothing.
 use mathlib.Core.Path.{_≡_, refl, ap}
 use mathlib.Core.List.{List, [], _∷_}
-use Prim.Native.Nat.{ℕ, suc, _+_, _*_, _≤_, _<_}
+use Prim.Native.Nat.{ℕ, suc, _+_, _≤_, _<_}
 use native.Mathlib.Omega.{arith}
 use lib.Dec.{ltb, eqb}
 use lib.ListN.{length, take, drop, length-append, length-take, length-drop, length-map}
@@ -10,9 +10,7 @@ use Rattle.lists.specs.Byte.{isAscii}
 use Rattle.lists.specs.Lists.{joined}
 use Rattle.lists.specs.ListsLaws.{by-test, cond-has, yes-true}
 use Rattle.lists.specs.CutByLaws.{cut-few, cut-joined}
-use Rattle.lists.specs.Run.{run}
 use Rattle.lists.specs.RunLaws.{run-le}
-use Rattle.buffer.specs.Buffer.{overlay}
 use Rattle.buffer.specs.BufferLaws.{length-overlay, overlay-past}
 use Rattle.line.specs.Line.{crlf, lineLen}
 use Rattle.envelope_line.specs.EnvelopeLine.{orcptFault}
@@ -33,7 +31,6 @@ use Rattle.rules.specs.declared.Rules.{Rules}
 use Rattle.outgoing_field.specs.declared.HeldField.{HeldField}
 use Rattle.outgoing_field.specs.declared.HeldField.the-variants.{Absent, At as HeldAt}
 use Rattle.outgoing_field.specs.Fate.{fateOf, isHeld, heldFrom, heldOf}
-use Rattle.header_stop.specs.HeaderStop.{lineStop}
 use Rattle.header_stop.specs.HeaderStopLaws.{line-stop}
 use Rattle.offset.specs.Offset.{frontLine, lineStart, lineAt, orcptByte, faultByte, faultOffset, orcptOffset, headerLineOffset, fieldOffset}
 use Rattle.offset.specs.OffsetLaws.{front-within, fault-inside, orcpt-inside}

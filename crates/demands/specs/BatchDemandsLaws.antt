@@ -1,11 +1,10 @@
 -- The demands hold of a batch. Assumes nothing.
 use mathlib.Core.Path.{_≡_, refl, sym, ap, _∙_}
-use mathlib.Core.List.{List, _++_}
-use Prim.Native.Nat.{ℕ, _+_, _/_, _≤_, _<_}
+use mathlib.Core.List.{List}
+use Prim.Native.Nat.{ℕ, _/_}
 use native.Mathlib.Omega.{arith}
-use lib.ListN.{length, take, drop, getD}
+use lib.ListN.{length, take, getD}
 use Rattle.rules.specs.declared.Rules.{Rules}
-use Rattle.encoded_word.specs.Segments.{Segment}
 use Rattle.encoded_word.specs.Segments.Segment.{raw, words, labelled}
 use Rattle.call.specs.Outcome.{Outcome}
 use Rattle.batch.specs.Batch.{rangeRefused, recordOutcome, Batch, batch}

@@ -4,9 +4,6 @@ use native.Mathlib.Omega.{arith}
 use Prim.Native.Nat.{_-_}
 use Rattle.batch.proofs.downgrade.Statement.{statement}
 use Rattle.batch.proofs.downgrade.Tie as tie
-use Rattle.batch.proofs.downgrade.Reads as reads
-use Rattle.batch.proofs.downgrade.Lts as lts
-use Rattle.batch.proofs.downgrade_record.Reads as downgrade-record-reads
 
 abbrev Inv-loop : tie.InvT-loop
 Inv-loop rules input records₀ envelope-buffer₀ header-buffer₀ at₀ envelope-at₀ header-at₀ records envelope-buffer header-buffer at envelope-at header-at =
@@ -16,91 +13,69 @@ abbrev μ-loop : tie.MeasureT-loop
 μ-loop rules input records₀ envelope-buffer₀ header-buffer₀ at₀ envelope-at₀ header-at₀ records envelope-buffer header-buffer at envelope-at header-at =
     length records - at
 
--- src/lib.rt:109:5
 loop-holds : tie.Need-loop-holds Inv-loop μ-loop
 loop-holds c = going-start _ _ _ _ _
 
--- src/lib.rt:109:16
 sub-loop : tie.Need-sub-loop Inv-loop μ-loop
 sub-loop c = omega arith
 
--- src/lib.rt:113:13
 mul-downgrade-record : tie.Need-mul-downgrade-record Inv-loop μ-loop
 mul-downgrade-record c = omega arith
 
--- src/lib.rt:113:13
 sub-downgrade-record : tie.Need-sub-downgrade-record Inv-loop μ-loop
 sub-downgrade-record c = omega arith
 
--- src/lib.rt:113:13
 part-downgrade-record-start : tie.Need-part-downgrade-record-start Inv-loop μ-loop
 part-downgrade-record-start c = omega arith
 
--- src/lib.rt:113:13
 part-downgrade-record-end : tie.Need-part-downgrade-record-end Inv-loop μ-loop
 part-downgrade-record-end c = omega arith
 
--- src/lib.rt:114:13
 sub-downgrade-record-2 : tie.Need-sub-downgrade-record-2 Inv-loop μ-loop
 sub-downgrade-record-2 c = omega arith
 
--- src/lib.rt:114:13
 part-downgrade-record-start-2 : tie.Need-part-downgrade-record-start-2 Inv-loop μ-loop
 part-downgrade-record-start-2 c = omega arith
 
--- src/lib.rt:114:13
 part-downgrade-record-end-2 : tie.Need-part-downgrade-record-end-2 Inv-loop μ-loop
 part-downgrade-record-end-2 c = omega arith
 
--- src/lib.rt:115:13
 sub-downgrade-record-3 : tie.Need-sub-downgrade-record-3 Inv-loop μ-loop
 sub-downgrade-record-3 c = omega arith
 
--- src/lib.rt:115:13
 part-downgrade-record-start-3 : tie.Need-part-downgrade-record-start-3 Inv-loop μ-loop
 part-downgrade-record-start-3 c = omega arith
 
--- src/lib.rt:115:13
 part-downgrade-record-end-3 : tie.Need-part-downgrade-record-end-3 Inv-loop μ-loop
 part-downgrade-record-end-3 c = omega arith
 
--- src/lib.rt:110:13
 downgrade-record-requires : tie.Need-downgrade-record-requires Inv-loop μ-loop
 downgrade-record-requires c κs = simp (length-take, length-drop) (omega arith)
 
--- src/lib.rt:117:9
 add-envelope-at : tie.Need-add-envelope-at Inv-loop μ-loop
 add-envelope-at c = omega (arith, room-left (c .before .before .before .before .before .before .before .before .before .before .before .before .loop .inv) (c .before .before .before .before .before .before .before .downgrade-record .ensures) .0)
 
--- src/lib.rt:118:9
 add-header-at : tie.Need-add-header-at Inv-loop μ-loop
 add-header-at c = omega (arith, room-left (c .before .before .before .before .before .before .before .before .before .before .before .before .before .loop .inv) (c .before .before .before .before .before .before .before .before .downgrade-record .ensures) .1)
 
--- src/lib.rt:119:9
 add-at : tie.Need-add-at Inv-loop μ-loop
 add-at c = omega arith
 
--- src/lib.rt:109:5
 loop-less : tie.Need-loop-less Inv-loop μ-loop
 loop-less c = omega (arith, going-next (c .before .before .before .before .before .before .before .before .before .before .before .before .before .loop .inv) (c .before .before .before .before .before .before .before .before .downgrade-record .ensures) .records-size, c .before .before .before .before .before .before .before .before .before .before .before .before .before .loop .inv .records-size)
 
--- src/lib.rt:109:5
 loop-again : tie.Need-loop-again Inv-loop μ-loop
 loop-again c = going-next (c .before .before .before .before .before .before .before .before .before .before .before .before .before .loop .inv) (c .before .before .before .before .before .before .before .before .downgrade-record .ensures)
 
--- src/lib.rt:97:1
 same-length : tie.Need-same-length Inv-loop μ-loop
 same-length c = c .before .loop .inv .records-size
 
--- src/lib.rt:97:1
 same-length-2 : tie.Need-same-length-2 Inv-loop μ-loop
 same-length-2 c = c .before .loop .inv .b-size
 
--- src/lib.rt:97:1
 same-length-3 : tie.Need-same-length-3 Inv-loop μ-loop
 same-length-3 c = c .before .loop .inv .c-size
 
--- src/lib.rt:97:1
 returns : tie.Need-returns Inv-loop μ-loop
 returns c = going-end (c .before .loop .inv) (omega arith)
 

@@ -3,46 +3,32 @@ use Rattle.batch.specs.BatchLaws.{out-of-range, in-range}
 use borrow.Author.Needs.{needs}
 use Rattle.batch.proofs.downgrade_ranges.Statement.{statement}
 use Rattle.batch.proofs.downgrade_ranges.Tie as tie
-use Rattle.batch.proofs.downgrade_ranges.Reads as reads
-use Rattle.batch.proofs.downgrade_ranges.Lts as lts
-use Rattle.batch.proofs.is_past_end.Reads as is-past-end-reads
-use Rattle.batch.proofs.range_of.Reads as range-of-reads
-use Rattle.call.proofs.downgrade.Reads as downgrade-reads
 
--- src/lib.rt:41:8
 is-past-end-requires : tie.Need-is-past-end-requires
 is-past-end-requires c κs = search needs
 
--- src/lib.rt:41:59
 is-past-end-requires-2 : tie.Need-is-past-end-requires-2
 is-past-end-requires-2 c κs = search needs
 
--- src/lib.rt:42:9
 returns : tie.Need-returns
 unfolding rangeRefused
 returns c = out-of-range _ _ _ _ _ _ _ _ (c .before .before .is-past-end .ensures) (c .before .is-past-end2 .ensures) (c .if1 .taken)
 
--- src/lib.rt:52:9
 range-of-requires : tie.Need-range-of-requires
 range-of-requires c κs = search needs
 
--- src/lib.rt:53:9
 range-of-requires-2 : tie.Need-range-of-requires-2
 range-of-requires-2 c κs = search needs
 
--- src/lib.rt:51:5
 downgrade-requires : tie.Need-downgrade-requires
 downgrade-requires c κs = search needs
 
--- src/lib.rt:29:1
 same-length : tie.Need-same-length
 same-length c = search needs
 
--- src/lib.rt:29:1
 same-length-2 : tie.Need-same-length-2
 same-length-2 c = search needs
 
--- src/lib.rt:29:1
 returns-2 : tie.Need-returns-2
 returns-2 c = in-range _ _ _ _ _ _ _ _ (c .before .before .before .before .before .before .before .before .before .before .before .is-past-end .ensures) (c .before .before .before .before .before .before .before .before .before .before .is-past-end2 .ensures) (c .before .before .before .before .before .before .before .before .before .if1 .left) (c .before .before .before .before .before .before .before .before .range-of .ensures) (c .before .before .before .before .before .before .before .range-of2 .ensures) (c .before .before .before .before .downgrade .ensures)
 

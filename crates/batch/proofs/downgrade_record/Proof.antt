@@ -2,48 +2,34 @@ use Rattle.batch.specs.BatchLaws.{fits, recorded}
 use borrow.Author.Needs.{needs}
 use Rattle.batch.proofs.downgrade_record.Statement.{statement}
 use Rattle.batch.proofs.downgrade_record.Tie as tie
-use Rattle.batch.proofs.downgrade_record.Reads as reads
-use Rattle.batch.proofs.downgrade_record.Lts as lts
-use Rattle.batch.proofs.downgrade_ranges.Reads as downgrade-ranges-reads
-use Rattle.batch.proofs.store.Reads as store-reads
 
--- src/lib.rt:85:9
 slice-read-downgrade-ranges : tie.Need-slice-read-downgrade-ranges
 slice-read-downgrade-ranges c = search needs
 
--- src/lib.rt:86:9
 slice-read-downgrade-ranges-2 : tie.Need-slice-read-downgrade-ranges-2
 slice-read-downgrade-ranges-2 c = search needs
 
--- src/lib.rt:87:9
 slice-read-downgrade-ranges-3 : tie.Need-slice-read-downgrade-ranges-3
 slice-read-downgrade-ranges-3 c = search needs
 
--- src/lib.rt:88:9
 slice-read-downgrade-ranges-4 : tie.Need-slice-read-downgrade-ranges-4
 slice-read-downgrade-ranges-4 c = search needs
 
--- src/lib.rt:82:9
 downgrade-ranges-requires : tie.Need-downgrade-ranges-requires
 downgrade-ranges-requires c κs = search needs
 
--- src/lib.rt:92:5
 store-requires : tie.Need-store-requires
 store-requires c κs = fits _ _ _ _ _ (c .before .before .before .before .before .before .before .before .before .before .before .before .before .before .before .before .pre) (c .before .before .before .before .before .downgrade-ranges .ensures)
 
--- src/lib.rt:72:1
 same-length : tie.Need-same-length
 same-length c = search needs
 
--- src/lib.rt:72:1
 same-length-2 : tie.Need-same-length-2
 same-length-2 c = search needs
 
--- src/lib.rt:72:1
 same-length-3 : tie.Need-same-length-3
 same-length-3 c = search needs
 
--- src/lib.rt:72:1
 returns : tie.Need-returns
 returns c = recorded _ _ _ _ _ (c .before .before .before .before .before .before .before .before .before .before .before .before .before .before .before .before .before .before .before .pre) (c .before .before .before .before .before .before .before .before .downgrade-ranges .ensures) (c .before .before .store .ensures)
 

@@ -3,9 +3,6 @@ use lib.ListN.{length}
 use Prim.Native.Nat.{_-_}
 use Rattle.batch_cases.proofs.say_numbers.Statement.{statement}
 use Rattle.batch_cases.proofs.say_numbers.Tie as tie
-use Rattle.batch_cases.proofs.say_numbers.Reads as reads
-use Rattle.batch_cases.proofs.say_numbers.Lts as lts
-use Rattle.batch_cases.proofs.say_number.Reads as say-number-reads
 
 abbrev Inv-loop : tie.InvT-loop
 Inv-loop numbers i₀ i = Unit {0}
@@ -13,35 +10,27 @@ Inv-loop numbers i₀ i = Unit {0}
 abbrev μ-loop : tie.MeasureT-loop
 μ-loop numbers i₀ i = length numbers - i
 
--- src/main.rt:56:5
 loop-holds : tie.Need-loop-holds Inv-loop μ-loop
 loop-holds c = search needs
 
--- src/main.rt:57:20
 mul-say-number : tie.Need-mul-say-number Inv-loop μ-loop
 mul-say-number c = search needs
 
--- src/main.rt:57:20
 shared-slice-read-say-number : tie.Need-shared-slice-read-say-number Inv-loop μ-loop
 shared-slice-read-say-number c = search needs
 
--- src/main.rt:57:9
 say-number-requires : tie.Need-say-number-requires Inv-loop μ-loop
 say-number-requires c κs = search needs
 
--- src/main.rt:58:9
 add-i : tie.Need-add-i Inv-loop μ-loop
 add-i c = search needs
 
--- src/main.rt:56:5
 loop-less : tie.Need-loop-less Inv-loop μ-loop
 loop-less c = search needs
 
--- src/main.rt:56:5
 loop-again : tie.Need-loop-again Inv-loop μ-loop
 loop-again c = search needs
 
--- src/main.rt:54:1
 returns : tie.Need-returns Inv-loop μ-loop
 returns c = search needs
 
