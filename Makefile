@@ -8,11 +8,12 @@
 # make relay-test   tests of the library through its C header, and of the relay
 # make model        the Rust model's own tests (rust/README.md)
 # make fuzz         proved call against the Rust model; SECONDS=, SEED=
+# make fuzz-batch   the same for the batch call
 # make bench        times of both
 # make clean        removes target/ and dist/
 #
 # All that is proved needs the Rattle kit (rt); relay and relay-test a C
-# compiler; model, fuzz and bench cargo.
+# compiler; model, fuzz, fuzz-batch and bench cargo.
 
 IN = examples/bulletin.txt
 PREFIX = /usr/local
@@ -23,7 +24,7 @@ INSTALL = install
 CARGO = cd rust && HENNELAKU_LIB_DIR=$(CURDIR)/dist cargo
 CODE := crates.txt $(shell find crates -name '*.rt')
 
-.PHONY: test quick run try lib install relay relay-test model fuzz bench clean
+.PHONY: test quick run try lib install relay relay-test model fuzz fuzz-batch bench clean
 
 test:
 	.ci/run
@@ -70,8 +71,8 @@ relay-test: lib
 model:
 	$(CARGO) test --release --offline --quiet
 
-fuzz: lib
-	$(CARGO) run --release --offline --quiet --features proved --bin fuzz -- $(if $(SEED),--seed $(SEED)) $(if $(SECONDS),--seconds $(SECONDS))
+fuzz fuzz-batch: lib
+	$(CARGO) run --release --offline --quiet --features proved --bin $@ -- $(if $(SEED),--seed $(SEED)) $(if $(SECONDS),--seconds $(SECONDS))
 
 bench: lib
 	$(CARGO) run --release --offline --quiet --features proved --bin bench
