@@ -84,7 +84,7 @@ static void expect_numbers(const left *l, size_t at, const uint32_t *want,
     for (i = 0; i < count; i++) {
         if (number_at(l, at + i) != want[i]) {
             blame("record %zu: number %zu of it is %u, not %u",
-                  at / NUMBERS, (at + i) % NUMBERS,
+                  (at + i) / NUMBERS, (at + i) % NUMBERS,
                   (unsigned)number_at(l, at + i), (unsigned)want[i]);
         }
     }
