@@ -16,7 +16,7 @@
 #define MAX_BULLETINS 10000
 
 static uint8_t input[MAX_FILE];
-static uint32_t records[MAX_BULLETINS * HENNELAKU_RECORD_NUMBERS];
+static uint32_t records[MAX_BULLETINS * HENNELAKU_RECORD_SIZE];
 
 /* The length of the part from `start` on, up to the empty line after it; -1
  * where no empty line is there. */
@@ -42,7 +42,7 @@ static long find_bulletins(size_t end)
     long count = 0;
 
     while (at < end) {
-        uint32_t *r = records + count * HENNELAKU_RECORD_NUMBERS;
+        uint32_t *r = records + count * HENNELAKU_RECORD_SIZE;
         long envelope = part_len(at, end);
         size_t header_at = at + (size_t)envelope + 2;
         long header = envelope < 0 ? -1 : part_len(header_at, end);
@@ -66,7 +66,7 @@ static void print_table(long count)
 
     puts("bulletin  number  place  offset  envelope  header  meaning");
     for (i = 0; i < count; i++) {
-        const uint32_t *r = records + i * HENNELAKU_RECORD_NUMBERS;
+        const uint32_t *r = records + i * HENNELAKU_RECORD_SIZE;
 
         printf("%8ld  %6u  %5u  %6u  %8u  %6u  %s\n", i,
                (unsigned)r[HENNELAKU_RECORD_NUMBER],
@@ -89,7 +89,7 @@ static int downgrade(size_t len, long count)
     long i;
 
     for (i = 0; i < count; i++) {
-        const uint32_t *r = records + i * HENNELAKU_RECORD_NUMBERS;
+        const uint32_t *r = records + i * HENNELAKU_RECORD_SIZE;
 
         envelope_room += r[HENNELAKU_RECORD_ENVELOPE_LEN];
         header_room += HENNELAKU_HEADER_ROOM_FOR(
@@ -100,7 +100,7 @@ static int downgrade(size_t len, long count)
     if (envelopes != NULL && headers != NULL) {
         hennelaku_downgrade_batch(
             HENNELAKU_SPOOL, input, len, records,
-            (size_t)count * HENNELAKU_RECORD_NUMBERS,
+            (size_t)count * HENNELAKU_RECORD_SIZE,
             envelopes, envelope_room, headers, header_room);
         print_table(count);
         /* The outgoing envelopes and headers stand one after another in the two

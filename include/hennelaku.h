@@ -232,7 +232,7 @@ enum hennelaku_record {
     HENNELAKU_RECORD_OFFSET = 6,
     HENNELAKU_RECORD_OUT_ENVELOPE_LEN = 7,  /* bytes written, or 0 */
     HENNELAKU_RECORD_OUT_HEADER_LEN = 8,
-    HENNELAKU_RECORD_NUMBERS = 9            /* how many a record has */
+    HENNELAKU_RECORD_SIZE = 9               /* numbers of a record */
 };
 
 /*

@@ -7,7 +7,8 @@
 
 #include "check.h"
 
-#define NUMBERS HENNELAKU_RECORD_NUMBERS
+/* Numbers of a record. */
+#define NUMBERS HENNELAKU_RECORD_SIZE
 
 /* Numbers of the longest batch here, its last part with it. */
 #define MAX_NUMBERS (60 * NUMBERS)

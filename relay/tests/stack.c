@@ -33,7 +33,7 @@ typedef struct job {
 static uint8_t envelope_buffer[HENNELAKU_ENVELOPE_ROOM_MAX];
 static uint8_t header_buffer[HENNELAKU_HEADER_ROOM_MAX];
 static uint8_t input[HENNELAKU_MAX_ENVELOPE + HENNELAKU_MAX_HEADER];
-static uint32_t record[HENNELAKU_RECORD_NUMBERS];
+static uint32_t record[HENNELAKU_RECORD_SIZE];
 
 /* Puts a job's message into the input and the record of a batch. */
 static void fill_batch(const job *j)
@@ -58,7 +58,7 @@ static void *run(void *argument)
     } else if (j->calls == ONE_BATCH) {
         hennelaku_downgrade_batch(
             j->setting, input, j->envelope.len + j->header.len, record,
-            HENNELAKU_RECORD_NUMBERS, envelope_buffer, sizeof envelope_buffer,
+            HENNELAKU_RECORD_SIZE, envelope_buffer, sizeof envelope_buffer,
             header_buffer, sizeof header_buffer);
     }
     return NULL;

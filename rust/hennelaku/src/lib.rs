@@ -324,8 +324,8 @@ pub struct Record {
 }
 
 /// How many numbers of 32 bits a record has.
-const RECORD_NUMBERS: usize = 9;
-const _: () = assert!(std::mem::size_of::<Record>() == RECORD_NUMBERS * std::mem::size_of::<u32>());
+const RECORD_SIZE: usize = 9;
+const _: () = assert!(std::mem::size_of::<Record>() == RECORD_SIZE * std::mem::size_of::<u32>());
 
 /// A message of a batch that is not downgraded. Place and offset are as in [`Refusal`], from the start of the message's own
 /// envelope or header. For [`Reason::Held`] a single call tells which of the two is meant.
@@ -378,7 +378,7 @@ pub fn downgrade_batch(
             input.as_ptr(),
             input.len(),
             records.as_mut_ptr().cast(),
-            records.len() * RECORD_NUMBERS,
+            records.len() * RECORD_SIZE,
             envelope_buffer.as_mut_ptr(),
             envelope_buffer.len(),
             header_buffer.as_mut_ptr(),
