@@ -1,14 +1,14 @@
-/* Tests of how the relay shows a byte of a line, on lines that no message file
+/* Tests of how hennelaku shows a byte of a line, on lines that no message file
  * brings to it as well. One line for each: ok or FAIL. */
-#define main relay_main
-#include "../relay.c"
-#undef main
+#include <stdlib.h>
+#include <string.h>
 
+#include "../lines.h"
 #include "check.h"
 
 #define ROWS 2000
 
-/* What the relay shows for a byte of a line: the line and the mark, as rows
+/* What hennelaku shows for a byte of a line: the line and the mark, as rows
  * without their LF. */
 typedef struct shown {
     char line[ROWS];
