@@ -4,18 +4,20 @@
 # make try          the paper's whole case by the same program, built without its proofs: a first look
 # make lib          the library in dist/: libhennelaku.a, libhennelaku.so.0, hennelaku.h
 # make lib-test     tests of what is installed and of what other languages see
-# make install      library, header, pkg-config file, manual pages, examples; PREFIX, LIBDIR, DESTDIR and more in lib/install
+# make install      programs, library, header, pkg-config file, manual pages, examples; PREFIX, LIBDIR, DESTDIR and more in lib/install
 # make uninstall    takes away what make install put there
 # make dist         a tar file of all that is built, for those without the Rattle kit
-# make relay        the C relay, target/relay/relay
-# make relay-test   tests of the library through its C header, and of the relay
+# make relay        the programs hennelaku-pipe and hennelaku, in target/relay/
+# make relay-test   tests of the library through its C header, and of hennelaku
+# make pipe-test    tests of hennelaku-pipe against a server that drops and lies
+# make interop      hennelaku-pipe in a real Postfix, which it installs by apt-get; needs root
 # make model        the Rust model's own tests (rust/README.md)
 # make fuzz         proved call against the Rust model; SECONDS=, SEED=
 # make bench        times of both
 # make clean        removes target/ and dist/
 #
 # All that is proved needs the Rattle kit (rt); lib, relay and their tests a C
-# compiler; model, fuzz and bench cargo.
+# compiler, pipe-test and interop also Python 3; model, fuzz and bench cargo.
 
 IN = examples/bulletin.txt
 PREFIX = /usr/local
@@ -32,7 +34,7 @@ CARGO = cd rust && HENNELAKU_LIB_DIR=$(CURDIR)/dist cargo
 CODE := crates.txt $(shell find crates -name '*.rt')
 INSTALLING = PREFIX='$(PREFIX)' LIBDIR='$(LIBDIR)' DESTDIR='$(DESTDIR)' VERSION='$(VERSION)' lib/install
 
-.PHONY: test quick run try lib lib-test install uninstall dist relay relay-test model fuzz bench clean
+.PHONY: test quick run try lib lib-test install uninstall dist relay relay-test pipe-test interop model fuzz bench clean
 
 test:
 	.ci/run
@@ -82,7 +84,7 @@ dist/hennelaku.h: include/hennelaku.h
 lib-test: lib
 	@CC='$(CC)' lib/tests/run
 
-install: lib
+install: lib relay
 	@$(INSTALLING) install
 
 uninstall:
@@ -90,7 +92,7 @@ uninstall:
 
 # The tree of an installation, which may be unpacked anywhere: its pkg-config
 # file goes by its own place.
-dist: lib
+dist: lib relay
 	@rm -rf target/tree
 	@PREFIX=/ PC_PREFIX='$${pcfiledir}/../..' DESTDIR=target/tree/hennelaku-$(VERSION) VERSION='$(VERSION)' lib/install install
 	@tar -C target/tree --sort=name --owner=0 --group=0 --numeric-owner --mtime=@0 -czf $(TAR) hennelaku-$(VERSION)
@@ -101,6 +103,12 @@ relay: lib
 
 relay-test: lib
 	$(MAKE) -C relay test
+
+pipe-test: lib
+	@$(MAKE) --no-print-directory -C relay pipe-test
+
+interop: lib
+	@$(MAKE) --no-print-directory -C relay interop
 
 model:
 	$(CARGO) test --release --offline --quiet

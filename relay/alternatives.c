@@ -136,3 +136,17 @@ int find_alternative(part text, part address, part *alternative,
     }
     return found;
 }
+
+void check_differing(part text, file_fault *fault)
+{
+    part rest = without_mark(text);
+    part alternative;
+    pair p;
+
+    fault->reason = NULL;
+    while (rest.len > 0 && fault->reason == NULL) {
+        if (read_pair(next_line(&rest), &p) == NULL && p.address.len > 0) {
+            find_alternative(text, p.address, &alternative, fault);
+        }
+    }
+}

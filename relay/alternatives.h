@@ -18,6 +18,10 @@ typedef struct file_fault {
  * are, or tells the first bad line. */
 size_t check_alternatives(part text, file_fault *fault);
 
+/* Looks for an address with two alternatives that differ, which is a fault of
+ * the second line. For a text without bad lines. */
+void check_differing(part text, file_fault *fault);
+
 /* The alternative of an address, as its file has it. Returns 0 where the file
  * has none, or two that differ, which is a fault of the second line. For a text
  * without bad lines. */

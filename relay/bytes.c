@@ -129,10 +129,13 @@ void buffer_add_number(buffer *b, size_t number)
     buffer_add(b, p);
 }
 
+/* Volatile, since a compiler leaves out what it sees nobody read again. */
+static void *(*const volatile overwrite)(void *, int, size_t) = memset;
+
 void buffer_clear(buffer *b)
 {
     if (b->bytes != NULL) {
-        memset(b->bytes, 0, b->room);
+        overwrite(b->bytes, 0, b->room);
     }
     free(b->bytes);
     memset(b, 0, sizeof *b);

@@ -7,7 +7,7 @@
 #include "message.h"
 
 /* So many columns of an address, a line and a file's name are told. */
-#define MAX_ADDRESS 320
+#define MAX_ADDRESS 512
 #define MAX_LINE 60
 #define MAX_NAME 200
 

@@ -210,6 +210,9 @@ static int check_file(const char *name)
                 : r == READ_TOO_LONG ? "too long" : "no memory");
     } else {
         count = check_alternatives(buffer_part(&text), &fault);
+        if (fault.reason == NULL) {
+            check_differing(buffer_part(&text), &fault);
+        }
         status = fault.reason == NULL ? STATUS_GOOD_FILE : STATUS_BAD_FILE;
         if (fault.reason != NULL) {
             fprintf(stderr, "%s:%zu: %s\n", name, fault.line, fault.reason);

@@ -6,6 +6,7 @@
 
 #include "connection.h"
 #include "lines.h"
+#include "reply.h"
 
 /* How long each answer may take, in seconds: RFC 5321, section 4.5.3.2. */
 enum {
@@ -19,19 +20,8 @@ enum {
 /* Data are sent in blocks of so many bytes. */
 #define BLOCK 65536
 
-/* So many bytes of a line of a reply are read, the rest passed over. */
-#define MAX_REPLY_LINE 1024
-
-/* What has more text is not a reply. */
-#define MAX_REPLY 8192
-
 /* So many columns of a reply and of a command are told. */
 #define MAX_TOLD 400
-
-typedef struct reply {
-    int code;
-    buffer text;  /* its lines without their code, each ended by LF */
-} reply;
 
 typedef struct session {
     const smtp_options *options;
@@ -39,6 +29,7 @@ typedef struct session {
     smtp_result *result;
     connection connection;
     reply reply;
+    buffer line;  /* the last one read */
     part step;  /* what the next hop is to answer */
     int offers_8bitmime;
     int offers_size;
@@ -91,127 +82,48 @@ static int doubt_io(session *s, enum io_result io, int seconds)
     }
 }
 
-/* Reads a line, without its CRLF or LF, as far as MAX_REPLY_LINE. */
-static enum io_result read_line(session *s, buffer *line, deadline by)
+/* Reads a reply. Returns its first digit, or 0 after trouble, which is told. */
+static int get_reply(session *s, int seconds)
 {
-    enum io_result io;
-    uint8_t byte;
+    enum io_result io = IO_DONE;
 
-    line->len = 0;
-    while ((io = connection_read(&s->connection, &byte, by)) == IO_DONE
-           && byte != '\n') {
-        if (line->len < MAX_REPLY_LINE) {
-            buffer_add_byte(line, byte);
-        }
-    }
-    if (line->len > 0 && line->bytes[line->len - 1] == '\r') {
-        line->len--;
-    }
-    return io;
-}
-
-/* The code of a reply line, or 0 where it is none. */
-static int read_code(part line)
-{
-    size_t i;
-
-    if (line.len < 3 || line.bytes[0] < '2' || line.bytes[0] > '5'
-        || (line.len > 3 && line.bytes[3] != ' ' && line.bytes[3] != '-')) {
+    switch (read_reply(&s->connection, &s->reply, &s->line, &io,
+                       deadline_in(seconds))) {
+    case REPLY_READ:
+        return s->reply.code / 100;
+    case REPLY_NOT_READ:
+        return doubt_io(s, io, seconds);
+    case REPLY_GARBAGE:
+        doubt(s, "4.5.0", "the answer is not a reply of SMTP: \"");
+        add_quoted(&s->result->text, buffer_part(&s->line), MAX_TOLD);
+        buffer_add_text(&s->result->text, "\"");
         return 0;
-    }
-    for (i = 1; i < 3; i++) {
-        if (line.bytes[i] < '0' || line.bytes[i] > '9') {
-            return 0;
-        }
-    }
-    return (line.bytes[0] - '0') * 100 + (line.bytes[1] - '0') * 10
-        + (line.bytes[2] - '0');
-}
-
-/* Adds a line to the reply. Returns 0 where it does not belong to one. */
-static int take_line(session *s, part line, int is_first)
-{
-    int code = read_code(line);
-
-    if (code == 0 || (!is_first && code != s->reply.code)
-        || s->reply.text.len + line.len > MAX_REPLY) {
-        return 0;
-    }
-    s->reply.code = code;
-    if (line.len > 3) {
-        buffer_add(&s->reply.text, part_between(line, 4, line.len));
-    }
-    buffer_add_byte(&s->reply.text, '\n');
-    return 1;
-}
-
-/* The reply in one line of printable ASCII. */
-static void add_reply(buffer *to, const reply *r)
-{
-    part rest = buffer_part(&r->text);
-    size_t i = 0;
-
-    buffer_add_number(to, (size_t)r->code);
-    while (rest.len > 0 && to->len <= MAX_TOLD) {
-        while (rest.bytes[i] != '\n') {
-            i++;
-        }
-        if (i > 0) {
-            buffer_add_text(to, " ");
-            add_quoted(to, part_between(rest, 0, i), MAX_TOLD);
-        }
-        rest = part_between(rest, i + 1, rest.len);
-        i = 0;
+    default:
+        return doubt(s, "4.3.0", "no memory");
     }
 }
 
-/* Reads the lines of a reply, the last of them into `line`. Returns 0 after
- * trouble, which is told. */
-static int read_lines(session *s, buffer *line, int seconds)
-{
-    deadline by = deadline_in(seconds);
-    int is_first = 1;
-
-    s->reply.text.len = 0;
-    do {
-        enum io_result io = read_line(s, line, by);
-
-        if (io != IO_DONE) {
-            return doubt_io(s, io, seconds);
-        }
-        if (!take_line(s, buffer_part(line), is_first)) {
-            doubt(s, "4.5.0", "the answer is not a reply of SMTP: \"");
-            add_quoted(&s->result->text, buffer_part(line), MAX_TOLD);
-            buffer_add_text(&s->result->text, "\"");
-            return 0;
-        }
-        is_first = 0;
-    } while (line->len > 3 && line->bytes[3] == '-');
-    return !line->failed && !s->reply.text.failed
-        ? 1 : doubt(s, "4.3.0", "no memory");
-}
-
-/* Reads a whole reply. Returns its first digit, or 0 after trouble. */
-static int read_reply(session *s, int seconds)
-{
-    buffer line = {NULL, 0, 0, 0};
-    int is_read = read_lines(s, &line, seconds);
-
-    buffer_clear(&line);
-    return is_read ? s->reply.code / 100 : 0;
-}
-
-/* What was said unasked may not be taken for the answer to what comes next:
- * so a 250 from before the data is never one for the data. */
+/* What was said unasked may not be taken for the answer to what comes next: so
+ * a 250 from before the data is never one for the data. */
 static int is_in_turn(session *s)
 {
+    enum io_result io = IO_DONE;
+    enum reply_result r;
+
     if (!connection_has_input(&s->connection)) {
         return 1;
     }
-    if (read_reply(s, 0) != 0) {
-        doubt(s, "4.5.0", "the next hop spoke before it was asked: ");
-        add_reply(&s->result->text, &s->reply);
+    r = read_reply(&s->connection, &s->reply, &s->line, &io, deadline_in(0));
+    if (r == REPLY_NOT_READ && io != IO_TIMEOUT) {
+        return doubt_io(s, io, 0);
     }
+    doubt(s, "4.5.0", "the next hop spoke before it was asked: \"");
+    if (r == REPLY_READ) {
+        add_reply(&s->result->text, &s->reply);
+    } else {
+        add_quoted(&s->result->text, buffer_part(&s->line), MAX_TOLD);
+    }
+    buffer_add_text(&s->result->text, "\"");
     return 0;
 }
 
@@ -227,48 +139,7 @@ static int ask(session *s, part command, int seconds)
         return 0;
     }
     io = connection_write(&s->connection, command, deadline_in(seconds));
-    return io != IO_DONE ? doubt_io(s, io, seconds) : read_reply(s, seconds);
-}
-
-/* The length of the enhanced status code at the start of a text: a digit, and
- * twice a dot with 1 to 3 digits (RFC 3463). 0 where there is none. */
-static size_t enhanced_len(part text)
-{
-    size_t at = 1;
-    int i;
-
-    for (i = 0; i < 2; i++) {
-        size_t start = at + 1;
-
-        if (at >= text.len || text.bytes[at] != '.') {
-            return 0;
-        }
-        at = start;
-        while (at < text.len && text.bytes[at] >= '0'
-               && text.bytes[at] <= '9') {
-            at++;
-        }
-        if (at == start || at > start + 3) {
-            return 0;
-        }
-    }
-    return at;
-}
-
-/* The status code for an outcome: that of the reply's text, where it is of the
- * reply's class, or x.0.0. */
-static void read_enhanced(const reply *r, enum smtp_outcome outcome,
-                          char enhanced[12])
-{
-    part text = buffer_part(&r->text);
-    size_t len = enhanced_len(text);
-
-    snprintf(enhanced, 12, "?.0.0");
-    if (len > 0 && text.bytes[0] == '0' + r->code / 100) {
-        snprintf(enhanced, 12, "%.*s", (int)len, (const char *)text.bytes);
-    }
-    enhanced[0] = outcome == SMTP_SENT ? '2'
-                : outcome == SMTP_REFUSED ? '5' : '4';
+    return io != IO_DONE ? doubt_io(s, io, seconds) : get_reply(s, seconds);
 }
 
 /* Tells a reply that ends the session. */
@@ -276,7 +147,8 @@ static void end_by_reply(session *s, enum smtp_outcome outcome)
 {
     char enhanced[12];
 
-    read_enhanced(&s->reply, outcome, enhanced);
+    read_enhanced(&s->reply, outcome == SMTP_SENT ? '2'
+                             : outcome == SMTP_REFUSED ? '5' : '4', enhanced);
     start_result(s, outcome, enhanced);
     buffer_clear(&s->result->reply);
     add_reply(&s->result->reply, &s->reply);
@@ -292,33 +164,6 @@ static int goes_on(session *s, int digit, int want,
         end_by_reply(s, digit == 5 ? on_5xx : SMTP_LATER);
     }
     return digit == want;
-}
-
-/* Whether a line of the reply to EHLO starts with a keyword; the first line has
- * the server's name. */
-static int offers(const reply *r, const char *keyword)
-{
-    part rest = buffer_part(&r->text);
-    int is_first = 1;
-
-    while (rest.len > 0) {
-        size_t len = 0;
-        size_t end = 0;
-
-        while (rest.bytes[end] != '\n') {
-            end++;
-        }
-        while (len < end && rest.bytes[len] != ' ') {
-            len++;
-        }
-        if (!is_first && part_equal_in_any_case(part_between(rest, 0, len),
-                                                part_of(keyword))) {
-            return 1;
-        }
-        is_first = 0;
-        rest = part_between(rest, end + 1, rest.len);
-    }
-    return 0;
 }
 
 /* Says EHLO, or HELO to a server that does not know EHLO. */
@@ -356,7 +201,7 @@ static int open_session(session *s)
         return doubt_io(s, io, seconds);
     }
     s->step = part_of("greeting");
-    digit = read_reply(s, within(s, SECONDS_COMMAND));
+    digit = get_reply(s, within(s, SECONDS_COMMAND));
     if (!goes_on(s, digit, 2, SMTP_LATER)) {
         return 0;
     }
@@ -463,7 +308,7 @@ static int send_data(session *s)
     }
     s->in_data = 0;
     s->step = part_of("end of data");
-    return goes_on(s, read_reply(s, within(s, SECONDS_END_OF_DATA)), 2,
+    return goes_on(s, get_reply(s, within(s, SECONDS_END_OF_DATA)), 2,
                    SMTP_REFUSED);
 }
 
@@ -476,6 +321,7 @@ static void close_session(session *s)
     }
     connection_close(&s->connection);
     buffer_clear(&s->reply.text);
+    buffer_clear(&s->line);
     memset(s, 0, sizeof *s);
 }
 

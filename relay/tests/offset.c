@@ -327,7 +327,7 @@ static void test_longest(void)
 static void test_line_101(void)
 {
     static const char *const lines[] = {
-        RCPT, "\r\n", "RCPT", "R", "\r", "\n", "\r\n" RCPT
+        RCPT, "\r\n", "RCPT", "R", "\r", "\n", ("\r\n" RCPT)
     };
     char name[200];
     size_t i;
