@@ -224,6 +224,7 @@ void deliver(delivery *d, const delivery_options *options, FILE *in)
     part body;
 
     d->options = options;
+    d->status = STATUS_LATER;
     if (!library_fits()) {
         end(d, STATUS_LATER, "4.3.5", "the library is of another version");
     } else if (read_message(d, in) && check_line_ends(d)

@@ -35,9 +35,9 @@ typedef struct smtp_options {
 } smtp_options;
 
 enum smtp_outcome {
+    SMTP_LATER,    /* anything but the two below */
     SMTP_SENT,     /* the next hop has said so after the data */
-    SMTP_REFUSED,  /* the next hop has refused it for good: nothing was sent */
-    SMTP_LATER     /* anything else */
+    SMTP_REFUSED   /* the next hop has refused it for good: nothing was sent */
 };
 
 typedef struct smtp_result {
