@@ -13,11 +13,13 @@
 # make interop      hennelaku-pipe in a real Postfix, which it installs by apt-get; needs root
 # make model        the Rust model's own tests (rust/README.md)
 # make fuzz         proved call against the Rust model; SECONDS=, SEED=
+# make fuzz-batch   the same for the batch call
 # make bench        times of both
 # make clean        removes target/ and dist/
 #
 # All that is proved needs the Rattle kit (rt); lib, relay and their tests a C
-# compiler, pipe-test and interop also Python 3; model, fuzz and bench cargo.
+# compiler, pipe-test and interop also Python 3; model, fuzz, fuzz-batch and bench
+# cargo.
 
 IN = examples/bulletin.txt
 PREFIX = /usr/local
@@ -34,7 +36,7 @@ CARGO = cd rust && HENNELAKU_LIB_DIR=$(CURDIR)/dist cargo
 CODE := crates.txt $(shell find crates -name '*.rt')
 INSTALLING = PREFIX='$(PREFIX)' LIBDIR='$(LIBDIR)' DESTDIR='$(DESTDIR)' VERSION='$(VERSION)' lib/install
 
-.PHONY: test quick run try lib lib-test install uninstall dist relay relay-test pipe-test interop model fuzz bench clean
+.PHONY: test quick run try lib lib-test install uninstall dist relay relay-test pipe-test interop model fuzz fuzz-batch bench clean
 
 test:
 	.ci/run
@@ -113,8 +115,8 @@ interop: lib
 model:
 	$(CARGO) test --release --offline --quiet
 
-fuzz: lib
-	$(CARGO) run --release --offline --quiet --features proved --bin fuzz -- $(if $(SEED),--seed $(SEED)) $(if $(SECONDS),--seconds $(SECONDS))
+fuzz fuzz-batch: lib
+	$(CARGO) run --release --offline --quiet --features proved --bin $@ -- $(if $(SEED),--seed $(SEED)) $(if $(SECONDS),--seconds $(SECONDS))
 
 bench: lib
 	$(CARGO) run --release --offline --quiet --features proved --bin bench

@@ -109,6 +109,10 @@ enum hennelaku_number {
     /* The outgoing header is longer than its buffer. place is the length that
      * it needs, in bytes. */
     HENNELAKU_HEADER_ROOM = 8,
+    /* Of a record of a batch: the start of its envelope or of its header plus
+     * the length beside it is past the end of the input. Looked for before all
+     * others; place and offset are 0. */
+    HENNELAKU_RANGE = 9,
     /* An ALT-ADDRESS stands in a current message, whatever its path and its
      * value. place is the line of the envelope, offset the first byte of the
      * ALT-ADDRESS value. */
@@ -220,6 +224,58 @@ hennelaku_answer hennelaku_downgrade(
     uint8_t *envelope_buffer, size_t envelope_room,
     uint8_t *header_buffer, size_t header_room);
 
+/*
+ * The places of a record of a batch: nine numbers, of which the call reads the
+ * first four and writes the last five.
+ */
+enum hennelaku_record {
+    HENNELAKU_RECORD_ENVELOPE_START = 0,    /* in the input, from 0 */
+    HENNELAKU_RECORD_ENVELOPE_LEN = 1,
+    HENNELAKU_RECORD_HEADER_START = 2,
+    HENNELAKU_RECORD_HEADER_LEN = 3,
+    HENNELAKU_RECORD_NUMBER = 4,            /* one of enum hennelaku_number */
+    HENNELAKU_RECORD_PLACE = 5,
+    HENNELAKU_RECORD_OFFSET = 6,
+    HENNELAKU_RECORD_OUT_ENVELOPE_LEN = 7,  /* bytes written, or 0 */
+    HENNELAKU_RECORD_OUT_HEADER_LEN = 8,
+    HENNELAKU_RECORD_SIZE = 9               /* numbers of a record */
+};
+
+/*
+ * Downgrades many messages, which all have one setting.
+ *
+ * input has their envelopes and headers, in any order; they may overlap, and
+ * one may serve several messages. records has records_len numbers, nine to a
+ * record; a last part of fewer than nine is neither read nor written. The call
+ * answers nothing: all is in the records.
+ *
+ * The outgoing envelopes stand one after another in envelope_buffer, in the
+ * order of the records, and the outgoing headers in header_buffer. What is
+ * written for a record, in its five numbers and in the buffers, is what
+ * hennelaku_downgrade answers and writes for its envelope and its header where
+ * it is given the room that the records before it have left. A refused record
+ * takes no room in either buffer, and those after it go on: after 7 or 8 a
+ * shorter one may still fit. Place and offset count from the start of the
+ * record's own envelope or header. For a 6 the record does not say which of the
+ * two it is about; a call of hennelaku_downgrade on that record does.
+ *
+ * Past the last output no byte of either buffer is touched, and input and the
+ * four numbers that are read stay as they are. With envelope_room and
+ * header_room that are the sums of the lengths of the envelopes and of
+ * HENNELAKU_HEADER_ROOM_FOR of those of the headers, 7 and 8 are never
+ * answered.
+ *
+ * What a caller owes is what hennelaku_downgrade asks: pointers to as many
+ * bytes, or numbers, as the length beside them says, and no two of the four
+ * overlap. A pointer whose length is 0 may be null.
+ */
+void hennelaku_downgrade_batch(
+    uint64_t setting,
+    const uint8_t *input, size_t input_len,
+    uint32_t *records, size_t records_len,
+    uint8_t *envelope_buffer, size_t envelope_room,
+    uint8_t *header_buffer, size_t header_room);
+
 /* The meaning of a number in English, for a log. Never null. */
 const char *hennelaku_number_text(uint32_t number);
 
@@ -242,6 +298,7 @@ typedef struct hennelaku_reply {
  *     6  554 5.6.9  header in UTF-8 cannot be transferred
  *     7  451 4.3.1  no room; the message may be sent again
  *     8  451 4.3.1
+ *     9  451 4.3.0  other failure of the mail system
  *    10  555 5.5.4  parameter of MAIL or RCPT not implemented
  *     any other number  451 4.3.0
  */

@@ -5,13 +5,20 @@
 #include "hennelaku.h"
 
 /*
- * The proved call. Each pointer has to be that of a byte array of the length
+ * The proved calls. Each pointer has to be that of an array of the length
  * beside it, and not null, also where that length is 0.
  */
 hennelaku_answer hennelaku_downgrade_slices(
     uint64_t setting,
     const uint8_t *envelope, size_t envelope_len,
     const uint8_t *header, size_t header_len,
+    uint8_t *envelope_buffer, size_t envelope_room,
+    uint8_t *header_buffer, size_t header_room);
+
+void hennelaku_downgrade_batch_slices(
+    uint64_t setting,
+    const uint8_t *input, size_t input_len,
+    uint32_t *records, size_t records_len,
     uint8_t *envelope_buffer, size_t envelope_room,
     uint8_t *header_buffer, size_t header_room);
 
@@ -32,8 +39,25 @@ hennelaku_answer hennelaku_downgrade(
         header_room == 0 ? &none[3] : header_buffer, header_room);
 }
 
-/* What the library has to say of a number; its text is null where no answer has
- * this number. */
+void hennelaku_downgrade_batch(
+    uint64_t setting,
+    const uint8_t *input, size_t input_len,
+    uint32_t *records, size_t records_len,
+    uint8_t *envelope_buffer, size_t envelope_room,
+    uint8_t *header_buffer, size_t header_room)
+{
+    uint8_t none[3] = {0, 0, 0};
+    uint32_t no_number = 0;
+
+    hennelaku_downgrade_batch_slices(
+        setting,
+        input_len == 0 ? &none[0] : input, input_len,
+        records_len == 0 ? &no_number : records, records_len,
+        envelope_room == 0 ? &none[1] : envelope_buffer, envelope_room,
+        header_room == 0 ? &none[2] : header_buffer, header_room);
+}
+
+/* What the library has to say of a number. */
 typedef struct meaning {
     const char *text;
     hennelaku_reply reply;
@@ -72,6 +96,9 @@ static const meaning meanings[] = {
     [HENNELAKU_HEADER_ROOM] = {
         "the outgoing header is longer than its buffer",
         {451, "4.3.1", "No room for the downgraded header"}},
+    [HENNELAKU_RANGE] = {
+        "a record's envelope or header goes past the end of the input",
+        {451, "4.3.0", "Message is not whole in the batch"}},
     [HENNELAKU_ALT_ADDRESS_RETIRED] = {
         "an ALT-ADDRESS stands in a current message",
         {555, "5.5.4", "ALT-ADDRESS is not taken in a current message"}}
@@ -84,8 +111,8 @@ static const meaning no_answer = {
 
 static const meaning *meaning_of(uint32_t number)
 {
-    return number < sizeof meanings / sizeof meanings[0]
-        && meanings[number].text != NULL ? &meanings[number] : &no_answer;
+    return number < sizeof meanings / sizeof meanings[0] ? &meanings[number]
+                                                         : &no_answer;
 }
 
 const char *hennelaku_number_text(uint32_t number)

@@ -7,6 +7,7 @@
 #include <string.h>
 #include <sys/mman.h>
 
+#include "batch.h"
 #include "cases.h"
 #include "check.h"
 #include "offset.h"
@@ -738,6 +739,7 @@ int main(void)
     test_cases();
     test_offsets();
     test_settings();
+    test_batches();
     test_recipients();
     test_line_lengths();
     test_word_lengths();

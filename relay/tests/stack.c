@@ -20,26 +20,46 @@
 #define E_ACUTE "\xC3\xA9"
 #define PLAIN "MAIL FROM:<a@x>\r\nRCPT TO:<b@x>\r\n"
 
+/* How a thread calls. */
+typedef enum way { NO_CALL, ONE_CALL, ONE_BATCH, WAYS } way;
+
 typedef struct job {
     bytes envelope;
     bytes header;
     uint64_t setting;
-    int calls;
-    uint32_t number;
+    way calls;
 } job;
 
 static uint8_t envelope_buffer[HENNELAKU_ENVELOPE_ROOM_MAX];
 static uint8_t header_buffer[HENNELAKU_HEADER_ROOM_MAX];
+static uint8_t input[HENNELAKU_MAX_ENVELOPE + HENNELAKU_MAX_HEADER];
+static uint32_t record[HENNELAKU_RECORD_SIZE];
+
+/* Puts a job's message into the input and the record of a batch. */
+static void fill_batch(const job *j)
+{
+    memcpy(input, j->envelope.at, j->envelope.len);
+    memcpy(input + j->envelope.len, j->header.at, j->header.len);
+    record[HENNELAKU_RECORD_ENVELOPE_START] = 0;
+    record[HENNELAKU_RECORD_ENVELOPE_LEN] = (uint32_t)j->envelope.len;
+    record[HENNELAKU_RECORD_HEADER_START] = (uint32_t)j->envelope.len;
+    record[HENNELAKU_RECORD_HEADER_LEN] = (uint32_t)j->header.len;
+}
 
 static void *run(void *argument)
 {
     job *j = argument;
 
-    if (j->calls) {
-        j->number = hennelaku_downgrade(
+    if (j->calls == ONE_CALL) {
+        (void)hennelaku_downgrade(
             j->setting, j->envelope.at, j->envelope.len, j->header.at,
             j->header.len, envelope_buffer, sizeof envelope_buffer,
-            header_buffer, sizeof header_buffer).number;
+            header_buffer, sizeof header_buffer);
+    } else if (j->calls == ONE_BATCH) {
+        hennelaku_downgrade_batch(
+            j->setting, input, j->envelope.len + j->header.len, record,
+            HENNELAKU_RECORD_SIZE, envelope_buffer, sizeof envelope_buffer,
+            header_buffer, sizeof header_buffer);
     }
     return NULL;
 }
@@ -119,24 +139,27 @@ int main(void)
         "X-Note: " E_ACUTE "\r\n " E_ACUTE "\r\n",
         "To: " E_ACUTE "\r\n " E_ACUTE "\r\n",
     };
-    job nothing = {{NULL, 0}, {NULL, 0}, 0, 0, 0};
+    job nothing = {{NULL, 0}, {NULL, 0}, HENNELAKU_SPOOL, NO_CALL};
     size_t least = used_by(&nothing);
     size_t most = least;
     size_t count = sizeof headers / sizeof headers[0];
     size_t i;
 
     for (i = 0; i < 2 * (case_count + count); i++) {
-        job j = {{NULL, 0}, {NULL, 0}, 0, 1, 0};
         size_t at = i / 2;
+        job j = {{NULL, 0}, {NULL, 0}, HENNELAKU_SPOOL, ONE_CALL};
         size_t used;
 
         j.setting = i % 2 == 0 ? HENNELAKU_SPOOL : HENNELAKU_CURRENT;
         j.envelope = bytes_of(at < case_count ? cases[at].envelope : PLAIN);
         j.header = bytes_of(at < case_count ? cases[at].header
                                             : headers[at - case_count]);
-        used = used_by(&j);
-        if (used > most) {
-            most = used;
+        fill_batch(&j);
+        for (; j.calls < WAYS; j.calls++) {
+            used = used_by(&j);
+            if (used > most) {
+                most = used;
+            }
         }
     }
     printf("stack of a call: %zu bytes measured; HENNELAKU_STACK is %d\n",

@@ -4,11 +4,16 @@
 
 pub mod address;
 pub mod address_list;
+pub mod batch;
 pub mod call;
 pub mod comment;
 pub mod envelope;
 #[cfg(feature = "proved")]
 pub mod generate;
+#[cfg(feature = "proved")]
+pub mod generate_batch;
+#[cfg(feature = "proved")]
+pub mod harness;
 pub mod header;
 #[cfg(feature = "proved")]
 pub mod line_faults;
@@ -21,6 +26,7 @@ pub mod sink;
 pub mod utf8;
 pub mod words;
 
+pub use batch::downgrade_batch;
 pub use call::{downgrade, Answer};
 
 #[cfg(test)]

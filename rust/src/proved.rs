@@ -27,6 +27,17 @@ extern "C" {
         header_buffer: *mut u8,
         header_room: usize,
     ) -> ProvedAnswer;
+    fn hennelaku_downgrade_batch_slices(
+        setting: u64,
+        input: *const u8,
+        input_len: usize,
+        records: *mut u32,
+        records_len: usize,
+        envelope_buffer: *mut u8,
+        envelope_room: usize,
+        header_buffer: *mut u8,
+        header_room: usize,
+    );
 }
 
 /// The first version whose call has a setting.
@@ -70,5 +81,28 @@ pub fn downgrade(
         offset: answer.offset,
         envelope_len: answer.envelope_len,
         header_len: answer.header_len,
+    }
+}
+
+pub fn downgrade_batch(
+    setting: u64,
+    input: &[u8],
+    records: &mut [u32],
+    envelope_buffer: &mut [u8],
+    header_buffer: &mut [u8],
+) {
+    // SAFETY: each pointer comes from a slice with its length; what is written to is apart from all others.
+    unsafe {
+        hennelaku_downgrade_batch_slices(
+            setting,
+            input.as_ptr(),
+            input.len(),
+            records.as_mut_ptr(),
+            records.len(),
+            envelope_buffer.as_mut_ptr(),
+            envelope_buffer.len(),
+            header_buffer.as_mut_ptr(),
+            header_buffer.len(),
+        )
     }
 }

@@ -14,6 +14,7 @@
 
 use std::ffi::{c_char, CStr};
 use std::fmt;
+use std::ops::Range;
 
 /// The version of hennelaku.h that this crate is written for.
 pub const VERSION: u32 = 300;
@@ -72,6 +73,17 @@ mod c {
             header_buffer: *mut u8,
             header_room: usize,
         ) -> Answer;
+        pub fn hennelaku_downgrade_batch(
+            setting: u64,
+            input: *const u8,
+            input_len: usize,
+            records: *mut u32,
+            records_len: usize,
+            envelope_buffer: *mut u8,
+            envelope_room: usize,
+            header_buffer: *mut u8,
+            header_room: usize,
+        );
     }
 }
 
@@ -96,11 +108,13 @@ pub enum Reason {
     EnvelopeRoom = 7,
     /// The outgoing header is longer than its buffer.
     HeaderRoom = 8,
+    /// A record's envelope or header goes past the end of the input of a batch.
+    Range = 9,
     /// An ALT-ADDRESS stands in a current message.
     AltAddressRetired = 10,
 }
 
-const REASONS: [Reason; 9] = [
+const REASONS: [Reason; 10] = [
     Reason::TooLong,
     Reason::EnvelopeLine,
     Reason::NoAltAddress,
@@ -109,6 +123,7 @@ const REASONS: [Reason; 9] = [
     Reason::Held,
     Reason::EnvelopeRoom,
     Reason::HeaderRoom,
+    Reason::Range,
     Reason::AltAddressRetired,
 ];
 
@@ -232,6 +247,11 @@ fn result(answer: c::Answer) -> Result<Lengths, Refusal> {
     })
 }
 
+/// Ends the program where the library's calls are not those that this crate declares.
+fn check_version() {
+    assert_eq!(version(), VERSION, "libhennelaku is of another version than this crate");
+}
+
 /// Downgrades a message into two buffers. The bytes past the lengths, and after a refusal all bytes, are as they were.
 ///
 /// # Panics
@@ -243,7 +263,7 @@ pub fn downgrade(
     envelope_buffer: &mut [u8],
     header_buffer: &mut [u8],
 ) -> Result<Lengths, Refusal> {
-    assert_eq!(version(), VERSION, "libhennelaku is of another version than this crate");
+    check_version();
     // SAFETY: each pointer comes from a slice with its length; the two buffers are apart from all others. The answer has the
     // members of this version.
     result(unsafe {
@@ -282,4 +302,87 @@ pub fn downgrade_to_vec(setting: Setting, envelope: &[u8], header: &[u8]) -> Res
     message.header.truncate(lengths.header);
     message.header.shrink_to_fit();
     Ok(message)
+}
+
+/// A message of a batch: the nine numbers of a record, of which the call reads the first four and writes the others.
+#[derive(Clone, Copy, Debug, Default, PartialEq, Eq)]
+#[repr(C)]
+pub struct Record {
+    /// Where the envelope lies in the input.
+    pub envelope_start: u32,
+    pub envelope_len: u32,
+    /// Where the header lies in the input.
+    pub header_start: u32,
+    pub header_len: u32,
+    /// 0, or the number of a [`Reason`].
+    pub number: u32,
+    pub place: u32,
+    pub offset: u32,
+    /// Bytes written to each buffer, or 0.
+    pub out_envelope_len: u32,
+    pub out_header_len: u32,
+}
+
+/// How many numbers of 32 bits a record has.
+const RECORD_SIZE: usize = 9;
+const _: () = assert!(std::mem::size_of::<Record>() == RECORD_SIZE * std::mem::size_of::<u32>());
+
+/// A message of a batch that is not downgraded. Place and offset are as in [`Refusal`], from the start of the message's own
+/// envelope or header. For [`Reason::Held`] a single call tells which of the two is meant.
+#[derive(Clone, Copy, Debug, PartialEq, Eq)]
+pub struct RecordRefusal {
+    pub reason: Reason,
+    pub place: usize,
+    pub offset: usize,
+}
+
+impl Record {
+    /// A message by where its envelope and its header lie in the input.
+    pub fn new(envelope: Range<u32>, header: Range<u32>) -> Record {
+        Record {
+            envelope_start: envelope.start,
+            envelope_len: envelope.end.saturating_sub(envelope.start),
+            header_start: header.start,
+            header_len: header.end.saturating_sub(header.start),
+            ..Record::default()
+        }
+    }
+
+    /// What the call answered for it.
+    pub fn result(&self) -> Result<Lengths, RecordRefusal> {
+        if self.number == 0 {
+            return Ok(Lengths { envelope: self.out_envelope_len as usize, header: self.out_header_len as usize });
+        }
+        Err(RecordRefusal { reason: Reason::of(self.number), place: self.place as usize, offset: self.offset as usize })
+    }
+}
+
+/// Downgrades many messages of one input. The outputs stand one after another in the two buffers, in the order of the records;
+/// each record is answered as a single call is that is given the room left. A refused record takes no room.
+///
+/// # Panics
+/// As [`downgrade`].
+pub fn downgrade_batch(
+    setting: Setting,
+    input: &[u8],
+    records: &mut [Record],
+    envelope_buffer: &mut [u8],
+    header_buffer: &mut [u8],
+) {
+    check_version();
+    // SAFETY: each pointer comes from a slice; a record is nine numbers of 32 bits in a row. Records and buffers are apart from
+    // all others.
+    unsafe {
+        c::hennelaku_downgrade_batch(
+            setting as u64,
+            input.as_ptr(),
+            input.len(),
+            records.as_mut_ptr().cast(),
+            records.len() * RECORD_SIZE,
+            envelope_buffer.as_mut_ptr(),
+            envelope_buffer.len(),
+            header_buffer.as_mut_ptr(),
+            header_buffer.len(),
+        )
+    }
 }

@@ -69,6 +69,28 @@ fn current_messages() {
 }
 
 #[test]
+fn batches() {
+    let note = "X: b\r\n";
+    let input = [PLAIN, note].concat();
+    let (envelope, end) = (PLAIN.len() as u32, input.len() as u32);
+    let whole = Record::new(0..envelope, envelope..end);
+    let mut records = [whole, Record::new(0..0, envelope..end), Record::new(0..envelope, end..end + 1), whole, whole];
+    let (mut envelopes, mut headers) = (vec![0xA5; 200], vec![0xA5; 13]);
+    downgrade_batch(Setting::Current, input.as_bytes(), &mut records, &mut envelopes, &mut headers);
+    let taken = Ok(Lengths { envelope: 32, header: 6 });
+    let refused = |reason, place| Err(RecordRefusal { reason, place, offset: 0 });
+    assert_eq!(
+        records.map(|record| record.result()),
+        [taken, refused(Reason::EnvelopeLine, 0), refused(Reason::Range, 0), taken, refused(Reason::HeaderRoom, 6)]
+    );
+    assert_eq!(records[4].header_start, envelope);
+    assert_eq!(envelopes[..64], *[PLAIN, PLAIN].concat().as_bytes());
+    assert_eq!(headers, [note, note].concat().as_bytes().iter().copied().chain([0xA5]).collect::<Vec<u8>>());
+    assert!(envelopes[64..].iter().all(|&byte| byte == 0xA5));
+    downgrade_batch(Setting::Current, b"", &mut [], &mut [], &mut []);
+}
+
+#[test]
 fn empty_header() {
     let message = downgrade_to_vec(Setting::Spool, PLAIN.as_bytes(), b"").unwrap();
     assert_eq!((message.envelope.as_slice(), message.header.len()), (PLAIN.as_bytes(), 0));
@@ -92,6 +114,7 @@ fn replies_and_words() {
         (Reason::Held, 554, "5.6.9"),
         (Reason::EnvelopeRoom, 451, "4.3.1"),
         (Reason::HeaderRoom, 451, "4.3.1"),
+        (Reason::Range, 451, "4.3.0"),
         (Reason::AltAddressRetired, 555, "5.5.4"),
     ];
     for (reason, code, enhanced) in replies {

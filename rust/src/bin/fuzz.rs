@@ -6,6 +6,7 @@ use hennelaku_model::address_list::Parts;
 use hennelaku_model::call::{Setting, ENVELOPE, HEADER, NEITHER};
 use hennelaku_model::comment::{self, Part};
 use hennelaku_model::generate::{self, Random};
+use hennelaku_model::harness::{filled, pattern, Met, Run, GUARD};
 use hennelaku_model::header::{is_blank, kind, next_non_ascii, Field, Kind};
 use hennelaku_model::received::{self, Held, Stretch};
 use hennelaku_model::rfc5322::is_address_list;
@@ -14,10 +15,6 @@ use hennelaku_model::words::SIZE;
 use hennelaku_model::{address_list, downgrade, header, proved, Answer};
 use std::cmp::Ordering;
 use std::process::exit;
-use std::time::{Duration, Instant};
-
-/// Bytes before and after each buffer.
-const GUARD: usize = 64;
 
 type Call = fn(u64, &[u8], &[u8], &mut [u8], &mut [u8]) -> Answer;
 
@@ -27,14 +24,6 @@ struct Outcome {
     answer: Answer,
     envelope: Vec<u8>,
     header: Vec<u8>,
-}
-
-fn pattern(at: usize, salt: u8) -> u8 {
-    (at as u8).wrapping_mul(37).wrapping_add(salt)
-}
-
-fn filled(room: usize, salt: u8) -> Vec<u8> {
-    (0..room + 2 * GUARD).map(|at| pattern(at, salt)).collect()
 }
 
 fn outcome(call: Call, input: &Input, salt: u8) -> Outcome {
@@ -166,21 +155,6 @@ fn rooms(r: &mut Random, whole: Answer, header: &[u8]) -> (usize, usize) {
         16 => (e + r.below(4), r.below(h + 1)),
         17 => (e + 1, h + 1),
         _ => (e + r.below(300), h + r.below(3000)),
-    }
-}
-
-/// How many inputs met a rule.
-#[derive(Default)]
-struct Met {
-    counts: Vec<(&'static str, usize)>,
-}
-
-impl Met {
-    fn count(&mut self, rule: &'static str, met: bool) {
-        match self.counts.iter_mut().find(|(name, _)| *name == rule) {
-            Some((_, count)) => *count += met as usize,
-            None => self.counts.push((rule, met as usize)),
-        }
     }
 }
 
@@ -549,18 +523,6 @@ fn held_beside_a_comment(header: &[u8]) -> bool {
     false
 }
 
-fn option(name: &str) -> Option<u64> {
-    let mut arguments = std::env::args().skip_while(|argument| argument != name);
-    arguments.next()?;
-    match arguments.next().and_then(|value| value.parse().ok()) {
-        Some(value) => Some(value),
-        None => {
-            eprintln!("{name} wants a number");
-            exit(2);
-        }
-    }
-}
-
 fn show(label: &str, input: &Input, model: &Outcome, other: &Outcome, why: &str) -> ! {
     println!("difference at {label}: {why}");
     println!("envelope ({} bytes): \"{}\"", input.envelope.len(), input.envelope.escape_ascii());
@@ -614,31 +576,24 @@ fn compare(input: &Input, salt: u8, label: &str) -> Outcome {
 
 fn main() {
     proved::check_version();
-    let seed = option("--seed").unwrap_or(1);
-    let seconds = option("--seconds").map(Duration::from_secs);
-    let count = option("--count").unwrap_or(if seconds.is_some() { u64::MAX } else { 200_000 });
-    let mut r = Random::new(seed);
-    let start = Instant::now();
+    let mut run = Run::from_arguments();
+    let mut r = Random::new(run.seed);
     let mut scratch = (vec![0; 17_000], vec![0; 700_000]);
     let mut numbers = [0; 11];
     let mut met = Met::default();
     let mut line_faults = hennelaku_model::line_faults::LineFaults::default();
-    let mut done = 0;
-    while done < count && seconds.is_none_or(|limit| start.elapsed() < limit) {
+    while let Some(label) = run.begin_next() {
         let input = next_input(&mut r, &mut scratch);
-        let got = compare(&input, r.number() as u8, &format!("seed {seed}, input {done}"));
+        let got = compare(&input, r.number() as u8, &label);
         numbers[got.answer.number as usize] += 1;
         look(&mut met, &input, &got);
         line_faults.count(&input.envelope, &input.header, got.answer);
-        done += 1;
     }
     // 9 is for batches.
     for (number, count) in numbers.iter().enumerate().filter(|(number, _)| *number != 9) {
         println!("number {number}: {count}");
     }
-    for (rule, count) in &met.counts {
-        println!("{rule}: {count}");
-    }
+    print!("{met}");
     print!("{line_faults}");
-    println!("{done} inputs, 0 differences");
+    println!("{} inputs, 0 differences", run.done);
 }

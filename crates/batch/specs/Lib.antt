@@ -1,0 +1,4 @@
+pub mod Batch
+pub mod BatchLaws
+pub mod BatchRecords
+pub mod BatchRecordsLaws

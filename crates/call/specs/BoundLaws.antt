@@ -1,0 +1,316 @@
+-- Bounds of an outcome: every number fits 32 bits, what is written fits its buffer, and the rest of the buffer stays. Assumes nothing.
+use mathlib.Core.Path.{_≡_, refl, ap}
+use mathlib.Core.List.{List, [], _∷_}
+use Prim.Native.Nat.{ℕ, suc, _+_, _≤_, _<_}
+use native.Mathlib.Omega.{arith}
+use lib.Dec.{ltb, eqb}
+use lib.ListN.{length, take, drop, length-append, length-take, length-drop, length-map}
+use mir.Facts.{ltb-yes, ltb-no}
+use Rattle.lists.specs.Byte.{isAscii}
+use Rattle.lists.specs.Lists.{joined}
+use Rattle.lists.specs.ListsLaws.{by-test, cond-has, yes-true}
+use Rattle.lists.specs.CutByLaws.{cut-few, cut-joined}
+use Rattle.lists.specs.RunLaws.{run-le}
+use Rattle.buffer.specs.BufferLaws.{length-overlay, overlay-past}
+use Rattle.line.specs.Line.{crlf, lineLen}
+use Rattle.envelope_line.specs.EnvelopeLine.{orcptFault}
+use Rattle.envelope_line.specs.declared.Fault.{Fault}
+use Rattle.envelope_line.specs.declared.Fault.the-variants.{Fine, Malformed, NoAlternative, BadAlternative, RetiredAlternative}
+use Rattle.envelope.specs.declared.Checked.{Checked}
+use Rattle.envelope.specs.declared.Checked.the-variants.{Passed, Refused}
+use Rattle.envelope.specs.declared.Orcpt.{Orcpt}
+use Rattle.envelope.specs.declared.Orcpt.the-variants.{Clean, At}
+use Rattle.envelope.specs.Envelope.{lines, lineText, faultOf, faultNumber, isFine, counted, checkedFrom, checked, texts, orcptFrom, orcptLine, written}
+use Rattle.envelope.specs.CheckLaws.{fine-few}
+use Rattle.envelope.specs.LengthLaws.{written-le}
+use Rattle.header_line.specs.declared.LineCheck.{LineCheck}
+use Rattle.header_line.specs.declared.LineCheck.the-variants.{WellFormed, Malformed as MalformedLine}
+use Rattle.header_line.specs.Lines.{lineOk, linesOf, linesFrom, checkedLines}
+use Rattle.header.specs.Fields.{fieldLen, fieldsOf, lineCount}
+use Rattle.rules.specs.declared.Rules.{Rules}
+use Rattle.outgoing_field.specs.declared.HeldField.{HeldField}
+use Rattle.outgoing_field.specs.declared.HeldField.the-variants.{Absent, At as HeldAt}
+use Rattle.outgoing_field.specs.Fate.{fateOf, isHeld, heldFrom, heldOf}
+use Rattle.header_stop.specs.HeaderStopLaws.{line-stop}
+use Rattle.offset.specs.Offset.{frontLine, lineStart, lineAt, orcptByte, faultByte, faultOffset, orcptOffset, headerLineOffset, fieldOffset}
+use Rattle.offset.specs.OffsetLaws.{front-within, fault-inside, orcpt-inside}
+use Rattle.call.specs.declared.Refusal.{Refusal}
+use Rattle.call.specs.declared.Refusal.the-variants.{EnvelopeOver, HeaderOver, EnvelopeLine, HeaderLine, OrcptLine, HeldLine, EnvelopeNeeds, HeaderNeeds}
+use Rattle.call.specs.declared.Verdict.{Verdict}
+use Rattle.call.specs.declared.Verdict.the-variants.{Accept, Refuse}
+use Rattle.call.specs.OutgoingHeader.{outgoingHeader}
+use Rattle.call.specs.Outcome.{numberOf, placeOf, offsetOf, over, ofEnvelope, ofLines, ofOrcpt, ofHeld, firstOf, verdict, Outcome, outcomeOf, outcome}
+use Rattle.call.specs.OutputLaws.{over-yes, over-no, outgoing-le}
+
+-- ---- places and offsets
+
+-- the line of a fault
+data FaultWithin (n : ℕ) : Checked → Type 0 where
+  passed : {count : ℕ} → FaultWithin n (Passed count)
+  refused : {fault : Fault} {line : ℕ} → line ≤ n → FaultWithin n (Refused fault line)
+
+checked-within : (rules : Rules) (n : ℕ) (ls : List (List ℕ)) → n ≤ 101 → FaultWithin 101 (checkedFrom rules n ls)
+unfolding checkedFrom counted
+checked-within rules n [] k = cond-has (FaultWithin 101) (ltb n 2) _ _ (λ t. refused k) (λ t. passed)
+checked-within rules n (line ∷ more) k =
+    cond-has (FaultWithin 101) (isFine (faultOf rules n line)) _ _
+    (λ t. checked-within rules (suc n) more (omega (arith, fine-few rules n line (yes-true (isFine (faultOf rules n line)) t))))
+    (λ t. refused k)
+
+fault-line : {n line : ℕ} {fault : Fault} → FaultWithin n (Refused fault line) → line ≤ n
+fault-line (refused k) = k
+
+fault-line-le : (rules : Rules) (e : List ℕ) (fault : Fault) (line : ℕ) → checked rules e ≡ Refused fault line → line ≤ 101
+unfolding checked
+fault-line-le rules e fault line q = fault-line (rw q at (checked-within rules 0 (lines e) (omega arith)))
+
+fault-offset-le : (e : List ℕ) (fault : Fault) (n : ℕ) → faultOffset e fault n ≤ length e
+unfolding faultOffset lineAt
+fault-offset-le e fault n = fault-inside e n (lineStart n e) refl refl fault (faultByte fault n (lineAt n e)) refl
+
+-- the line of an ORCPT
+data OrcptWithin (n : ℕ) : Orcpt → Type 0 where
+  clean : OrcptWithin n Clean
+  at-line : {line : ℕ} → line ≤ n → OrcptWithin n (At line)
+
+orcpt-within : (n m : ℕ) (ts : List (List ℕ)) → n + length ts ≤ m → OrcptWithin m (orcptFrom n ts)
+unfolding orcptFrom
+orcpt-within n m [] k = clean
+orcpt-within n m (text ∷ more) k = cond-has (OrcptWithin m) (orcptFault (eqb n 0) text) (At n) (orcptFrom (suc n) more) (λ t. at-line (omega arith)) (λ t. orcpt-within (suc n) m more (omega arith))
+
+orcpt-line : {n line : ℕ} → OrcptWithin n (At line) → line ≤ n
+orcpt-line (at-line k) = k
+
+orcpt-line-le : (e : List ℕ) (line : ℕ) → orcptLine e ≡ At line → line ≤ length e
+unfolding orcptLine texts lines
+orcpt-line-le e line q =
+    orcpt-line (rw q at (orcpt-within 0 (length e) (texts e) (omega (arith, length-map (lines e) lineText, cut-few (λ rest. lineLen rest + 2) e))))
+
+orcpt-offset-le : (e : List ℕ) (n : ℕ) → orcptOffset e n ≤ length e
+unfolding orcptOffset lineAt
+orcpt-offset-le e n = orcpt-inside e n (lineStart n e) refl refl refl (orcptByte (eqb n 0) (lineText (lineAt n e))) refl
+
+-- a malformed header line, and where it starts
+data LineWithin (n m : ℕ) : LineCheck → Type 0 where
+  well-formed : LineWithin n m WellFormed
+  malformed : {line at : ℕ} → line ≤ n → at ≤ m → LineWithin n m (MalformedLine line at)
+
+lines-within : (n at i j : ℕ) (ls : List (List ℕ)) → n + length ls ≤ i → at + length (joined ls) ≤ j → LineWithin i j (linesFrom n at ls)
+unfolding linesFrom
+lines-within n at i j [] k l = well-formed
+lines-within n at i j (line ∷ more) k l =
+    let size = length-append line (joined more) in
+    cond-has (LineWithin i j) (lineOk (eqb n 0) line) (linesFrom (suc n) (at + length line) more) (MalformedLine n at)
+    (λ t. lines-within (suc n) (at + length line) i j more (omega arith) (omega arith))
+    (λ t. malformed (omega arith) (omega arith))
+
+malformed-line : {n m line at : ℕ} → LineWithin n m (MalformedLine line at) → (line ≤ n) × (at ≤ m)
+malformed-line (malformed k l) = (k, l)
+
+malformed-le : (h : List ℕ) (line at : ℕ) → checkedLines h ≡ MalformedLine line at → (line ≤ length h) × (at ≤ length h)
+unfolding checkedLines linesOf
+malformed-le h line at q =
+    let size : List ℕ → ℕ = λ rest. lineLen rest + 2 in
+    malformed-line (rw q at (lines-within 0 0 (length h) (length h) (linesOf h) (omega (arith, cut-few size h)) (omega (arith, ap length (cut-joined size h)))))
+
+header-line-le : (h : List ℕ) (n at : ℕ) → at ≤ length h → headerLineOffset h n at ≤ length h
+unfolding headerLineOffset
+header-line-le h n at k = omega (arith, line-stop (eqb n 0) (frontLine (drop at h)) .inside, front-within h at k)
+
+-- a held field, and where it starts
+data HeldWithin (h : List ℕ) (n : ℕ) : HeldField → Type 0 where
+  absent : HeldWithin h n Absent
+  at-field : {at : ℕ} → at ≤ n → HeldWithin h n (HeldAt (lineCount (take at h)) at)
+
+held-within : (rules : Rules) (h : List ℕ) (at n : ℕ) (fields : List (List ℕ)) → at + length (joined fields) ≤ n → HeldWithin h n (heldFrom rules h at fields)
+unfolding heldFrom
+held-within rules h at n [] k = absent
+held-within rules h at n (field ∷ fields) k =
+    let size = length-append field (joined fields) in
+    cond-has (HeldWithin h n) (isHeld (fateOf rules field)) (HeldAt (lineCount (take at h)) at) (heldFrom rules h (at + length field) fields)
+    (λ t. at-field {at = at} (omega arith))
+    (λ t. held-within rules h (at + length field) n fields (omega arith))
+
+line-count-le : (s : List ℕ) → lineCount s ≤ length s
+unfolding lineCount
+line-count-le [] = omega arith
+line-count-le (b ∷ rest) =
+    let k = line-count-le rest in
+    cond-has (λ (n : ℕ). n ≤ suc (length rest)) (crlf (b ∷ rest)) (suc (lineCount rest)) (lineCount rest) (λ t. omega arith) (λ t. omega arith)
+
+held-place : {h : List ℕ} {n line at : ℕ} → HeldWithin h n (HeldAt line at) → (line ≤ length h) × (at ≤ n)
+held-place {h} (at-field {at} k) = (omega (arith, line-count-le (take at h), length-take at h), k)
+
+held-le : (rules : Rules) (h : List ℕ) (line at : ℕ) → heldOf rules h ≡ HeldAt line at → (line ≤ length h) × (at ≤ length h)
+unfolding heldOf fieldsOf
+held-le rules h line at q = held-place (rw q at (held-within rules h 0 (length h) (fieldsOf h) (omega (arith, ap length (cut-joined fieldLen h)))))
+
+field-offset-le : (h : List ℕ) (at : ℕ) → at ≤ length h → fieldOffset h at ≤ length h
+unfolding fieldOffset
+field-offset-le h at k = omega (arith, run-le isAscii (drop at h), length-drop at h)
+
+-- ---- by verdict
+
+-- a first verdict either accepts, and the next ones decide, or is the answer
+module _ (rules : Rules) (P : Verdict → Type 0) (more : List Verdict) where
+  first-over : (limit size : ℕ) (refusal : Refusal) → (size ≤ limit → P (firstOf more)) → (limit < size → P (Refuse refusal)) → P (firstOf (over limit size refusal ∷ more))
+  unfolding firstOf
+  first-over limit size refusal f g =
+      by-test (ltb limit size)
+      (λ t. let k = ltb-yes {a = limit} {b = size} t in rw (over-yes limit size refusal k) (g k))
+      (λ t. let k = ltb-no {a = limit} {b = size} t in rw (over-no limit size refusal k) (f k))
+
+  first-envelope : (e : List ℕ) → ((count : ℕ) → checked rules e ≡ Passed count → P (firstOf more))
+      → ((fault : Fault) (line : ℕ) → checked rules e ≡ Refused fault line → P (Refuse (EnvelopeLine fault line (faultOffset e fault line))))
+      → P (firstOf (ofEnvelope e (checked rules e) ∷ more))
+  unfolding firstOf ofEnvelope
+  first-envelope e f g = go (checked rules e) refl
+    where
+      go : (r : Checked) → checked rules e ≡ r → P (firstOf (ofEnvelope e r ∷ more))
+      go (Passed count) q = f count q
+      go (Refused fault line) q = g fault line q
+
+  first-lines : (h : List ℕ) → (checkedLines h ≡ WellFormed → P (firstOf more))
+      → ((line at : ℕ) → checkedLines h ≡ MalformedLine line at → P (Refuse (HeaderLine line (headerLineOffset h line at))))
+      → P (firstOf (ofLines h (checkedLines h) ∷ more))
+  unfolding firstOf ofLines
+  first-lines h f g = go (checkedLines h) refl
+    where
+      go : (r : LineCheck) → checkedLines h ≡ r → P (firstOf (ofLines h r ∷ more))
+      go WellFormed q = f q
+      go (MalformedLine line at) q = g line at q
+
+  first-orcpt : (e : List ℕ) → P (firstOf more) → ((line : ℕ) → orcptLine e ≡ At line → P (Refuse (OrcptLine line (orcptOffset e line)))) → P (firstOf (ofOrcpt e (orcptLine e) ∷ more))
+  unfolding firstOf ofOrcpt
+  first-orcpt e f g = go (orcptLine e) refl
+    where
+      go : (r : Orcpt) → orcptLine e ≡ r → P (firstOf (ofOrcpt e r ∷ more))
+      go Clean q = f
+      go (At line) q = g line q
+
+  first-held : (h : List ℕ) → P (firstOf more) → ((line at : ℕ) → heldOf rules h ≡ HeldAt line at → P (Refuse (HeldLine line (fieldOffset h at)))) → P (firstOf (ofHeld h (heldOf rules h) ∷ more))
+  unfolding firstOf ofHeld
+  first-held h f g = go (heldOf rules h) refl
+    where
+      go : (r : HeldField) → heldOf rules h ≡ r → P (firstOf (ofHeld h r ∷ more))
+      go Absent q = f
+      go (HeldAt line at) q = g line at q
+
+-- the greatest number of 32 bits
+abbrev pub greatest32 : ℕ
+greatest32 = 4294967295
+
+record SmallRefusal (refusal : Refusal) : Type 0 where
+  number : numberOf refusal ≤ 10
+  place : placeOf refusal ≤ greatest32
+  offset : offsetOf refusal ≤ greatest32
+
+record Fitting (rules : Rules) (e h : List ℕ) (room₁ room₂ : ℕ) : Type 0 where
+  fits₁ : length (written e) ≤ room₁
+  fits₂ : length (outgoingHeader rules e h) ≤ room₂
+  small₁ : length (written e) ≤ greatest32
+  small₂ : length (outgoingHeader rules e h) ≤ greatest32
+
+data Bound (rules : Rules) (e h : List ℕ) (room₁ room₂ : ℕ) : Verdict → Type 0 where
+  fitting : Fitting rules e h room₁ room₂ → Bound rules e h room₁ room₂ Accept
+  small : {refusal : Refusal} → SmallRefusal refusal → Bound rules e h room₁ room₂ (Refuse refusal)
+
+fault-number-le : (fault : Fault) → faultNumber fault ≤ 10
+unfolding faultNumber
+fault-number-le Fine = omega arith
+fault-number-le Malformed = omega arith
+fault-number-le NoAlternative = omega arith
+fault-number-le BadAlternative = omega arith
+fault-number-le RetiredAlternative = omega arith
+
+module _ (rules : Rules) (e h : List ℕ) (room₁ room₂ : ℕ) where
+  abbrev Bounds : Verdict → Type 0
+  Bounds v = Bound rules e h room₁ room₂ v
+
+  -- where the envelope and the header pass
+  rooms-bound : length e ≤ 16384 → length h ≤ 32768 → (count : ℕ) → checked rules e ≡ Passed count → checkedLines h ≡ WellFormed
+      → Bounds (firstOf (over room₁ (length (written e)) (EnvelopeNeeds (length (written e))) ∷ over room₂ (length (outgoingHeader rules e h)) (HeaderNeeds (length (outgoingHeader rules e h))) ∷ []))
+  unfolding firstOf numberOf placeOf offsetOf
+  rooms-bound k l count p w =
+      let n : length (written e) ≤ greatest32 = omega (arith, written-le rules e count p) in
+      let m : length (outgoingHeader rules e h) ≤ greatest32 = omega (arith, outgoing-le rules e h count p l w) in
+      let last : Verdict = over room₂ (length (outgoingHeader rules e h)) (HeaderNeeds (length (outgoingHeader rules e h))) in
+      first-over rules Bounds (last ∷ []) room₁ (length (written e)) (EnvelopeNeeds (length (written e)))
+      (λ f.
+      first-over rules Bounds [] room₂ (length (outgoingHeader rules e h)) (HeaderNeeds (length (outgoingHeader rules e h)))
+      (λ g. fitting (record { fits₁ = f; fits₂ = g; small₁ = n; small₂ = m }))
+      (λ g. small (record { number = omega arith; place = m; offset = omega arith })))
+      (λ f. small (record { number = omega arith; place = n; offset = omega arith }))
+
+  verdict-bound : Bounds (verdict rules e h room₁ room₂)
+  unfolding verdict numberOf placeOf offsetOf
+  verdict-bound =
+      first-over rules Bounds _ 16384 (length e) EnvelopeOver
+      (λ k.
+      first-over rules Bounds _ 32768 (length h) HeaderOver
+      (λ l.
+      first-envelope rules Bounds _ e
+      (λ count p.
+      first-lines rules Bounds _ h
+      (λ w.
+      first-orcpt rules Bounds _ e
+      (first-held rules Bounds _ h (rooms-bound k l count p w)
+      (λ line at q. let z = held-le rules h line at q in small (record { number = omega arith; place = omega arith; offset = omega (arith, field-offset-le h at (z .1)) })))
+      (λ line q. small (record { number = omega arith; place = omega (arith, orcpt-line-le e line q); offset = omega (arith, orcpt-offset-le e line) })))
+      (λ line at q. let z = malformed-le h line at q in small (record { number = omega arith; place = omega arith; offset = omega (arith, header-line-le h line at (z .1)) })))
+      (λ fault line q.
+      small (record { number = fault-number-le fault; place = omega (arith, fault-line-le rules e fault line q); offset = omega (arith, fault-offset-le e fault line) })))
+      (λ l. small (record { number = omega arith; place = omega arith; offset = omega arith })))
+      (λ k. small (record { number = omega arith; place = omega arith; offset = omega arith }))
+
+-- ---- the outcome
+
+-- Every number of an outcome fits 32 bits; both lengths lie within their buffers, which keep theirs and what lies past the output; and a
+-- refusal has no output.
+pub record Bounded (b c : List ℕ) (o : Outcome) : Type 0 where
+  pub number : o .number ≤ greatest32
+  pub place : o .place ≤ greatest32
+  pub offset : o .offset ≤ greatest32
+  pub envelope-len : o .envelopeLen ≤ greatest32
+  pub header-len : o .headerLen ≤ greatest32
+  pub room₁ : o .envelopeLen ≤ length b
+  pub room₂ : o .headerLen ≤ length c
+  pub size₁ : length (o .envelopeBuffer) ≡ length b
+  pub size₂ : length (o .headerBuffer) ≡ length c
+  pub past₁ : drop (o .envelopeLen) (o .envelopeBuffer) ≡ drop (o .envelopeLen) b
+  pub past₂ : drop (o .headerLen) (o .headerBuffer) ≡ drop (o .headerLen) c
+  pub refused : (o .number ≡ 0 → ⊥) → (o .envelopeLen ≡ 0) × (o .headerLen ≡ 0)
+
+pub outcome-bounded : (rules : Rules) (e h b c : List ℕ) → Bounded b c (outcome rules e h b c)
+unfolding outcome outcomeOf
+outcome-bounded rules e h b c = go (verdict rules e h (length b) (length c)) (verdict-bound rules e h (length b) (length c))
+  where
+    go : (v : Verdict) → Bound rules e h (length b) (length c) v → Bounded b c (outcomeOf rules v e h b c)
+    go v (fitting f) = record {
+      number = omega arith;
+      place = omega arith;
+      offset = omega arith;
+      envelope-len = f .small₁;
+      header-len = f .small₂;
+      room₁ = f .fits₁;
+      room₂ = f .fits₂;
+      size₁ = length-overlay (written e) b;
+      size₂ = length-overlay (outgoingHeader rules e h) c;
+      past₁ = overlay-past (written e) b;
+      past₂ = overlay-past (outgoingHeader rules e h) c;
+      refused = λ z. absurd (z refl);
+    }
+    go v (small s) = record {
+      number = omega (arith, s .number);
+      place = s .place;
+      offset = s .offset;
+      envelope-len = omega arith;
+      header-len = omega arith;
+      room₁ = omega arith;
+      room₂ = omega arith;
+      size₁ = refl;
+      size₂ = refl;
+      past₁ = refl;
+      past₂ = refl;
+      refused = λ z. (refl, refl);
+    }

@@ -1,0 +1,7 @@
+/* Tests of batches. */
+#ifndef BATCH_H
+#define BATCH_H
+
+void test_batches(void);
+
+#endif
