@@ -1,0 +1,1 @@
+// Base64 with its padding (RFC 4648).
