@@ -1,15 +1,7 @@
+pub mod Word
 pub mod Row
-pub mod Stream
-pub mod StreamLaws
-pub mod RowLaws
+pub mod WordEnd
 pub mod Layout
-pub mod LayoutLaws
 pub mod Reading
-pub mod ReadingLaws
-pub mod ReadingCases
 pub mod Demand3
-pub mod Demand3Laws
 pub mod FieldRow
-pub mod FieldRowLaws
-pub mod CounterexampleLaws
-pub mod FieldCounterexampleLaws
