@@ -1,6 +1,8 @@
 pub mod Word
 pub mod Row
+pub mod FitsLaws
 pub mod WordEnd
+pub mod WordEndLaws
 pub mod Layout
 pub mod Reading
 pub mod Demand3
