@@ -4,6 +4,9 @@ pub mod FitsLaws
 pub mod WordEnd
 pub mod WordEndLaws
 pub mod Layout
+pub mod LayoutLaws
 pub mod Reading
 pub mod Demand3
+pub mod Demand3Laws
 pub mod FieldRow
+pub mod FieldRowLaws
