@@ -3,9 +3,11 @@ pub mod Row
 pub mod FitsLaws
 pub mod WordEnd
 pub mod WordEndLaws
+pub mod RowLaws
 pub mod Layout
 pub mod LayoutLaws
 pub mod Reading
+pub mod ReadingLaws
 pub mod Demand3
 pub mod Demand3Laws
 pub mod FieldRow

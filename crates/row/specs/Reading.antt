@@ -32,8 +32,8 @@ pub data State : Type 0 where
   -- in a word after `?`
   closes : List Word → Word → State
   -- in a word in B, with what stands there so far; and after `?`
-  inBase64 : List Word → List ℕ → State
-  closesBase64 : List Word → List ℕ → State
+  inWordB : List Word → List ℕ → State
+  closesB : List Word → List ℕ → State
 
 -- a word in Q with nothing in it so far
 abbrev pub opened : Word
@@ -80,7 +80,7 @@ stepLetter ws b = cond (eqb b (letterOf Q)) (afterLetter Q ws) (cond (eqb b (let
 -- the word is open
 abbrev pub openIn : Encoding → List Word → State
 openIn Q ws = inWord ws opened
-openIn B ws = inBase64 ws []
+openIn B ws = inWordB ws []
 
 -- "In a word: `_` adds byte 32. `=` with two hex digits in any case adds that byte. `?=` closes the word. Any other byte 33 to
 -- 126 except `?` and `=` adds itself."
@@ -102,9 +102,9 @@ stepSecond none ws w first high b = fault
 stepSecond (some low) ws w first high b = inWord ws (extended w (61 ∷ first ∷ b ∷ []) ((high * 16 + low) ∷ []))
 
 -- "by base64": at the `?=` of a word in B, what it adds
-abbrev pub closeBase64 : Option (List ℕ) → List Word → List ℕ → State
-closeBase64 none ws standing = fault
-closeBase64 (some added) ws standing = between true (ws ++ (record { encoding = B; standing = standing; added = added } ∷ []))
+abbrev pub closedB : Option (List ℕ) → List Word → List ℕ → State
+closedB none ws standing = fault
+closedB (some added) ws standing = between true (ws ++ (record { encoding = B; standing = standing; added = added } ∷ []))
 
 -- One byte read. "Anything else is a fault": also a byte other than LF (10) after CR, and other than `=` (61) after the `?` (63) of
 -- a word.
@@ -119,8 +119,8 @@ step (inWord ws w) b = stepInWord (role b) ws w b
 step (afterEquals ws w) b = stepDigit (anyCaseValue b) ws w b
 step (afterDigit ws w first high) b = stepSecond (anyCaseValue b) ws w first high b
 step (closes ws w) b = cond (eqb b 61) (between true (ws ++ (w ∷ []))) fault
-step (inBase64 ws standing) b = cond (eqb b 63) (closesBase64 ws standing) (inBase64 ws (standing ++ (b ∷ [])))
-step (closesBase64 ws standing) b = cond (eqb b 61) (closeBase64 (fromBase64 standing) ws standing) fault
+step (inWordB ws standing) b = cond (eqb b 63) (closesB ws standing) (inWordB ws (standing ++ (b ∷ [])))
+step (closesB ws standing) b = cond (eqb b 61) (closedB (fromBase64 standing) ws standing) fault
 
 -- the bytes of a row read one after another
 unfoldable pub reading : State → List ℕ → State
@@ -139,8 +139,8 @@ finish (inWord ws w) = none
 finish (afterEquals ws w) = none
 finish (afterDigit ws w first high) = none
 finish (closes ws w) = none
-finish (inBase64 ws standing) = none
-finish (closesBase64 ws standing) = none
+finish (inWordB ws standing) = none
+finish (closesB ws standing) = none
 
 -- the words of a row of bytes, or none where it has a fault
 unfoldable pub wordsRead : List ℕ → Option (List Word)

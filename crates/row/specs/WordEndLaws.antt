@@ -53,7 +53,7 @@ module _ (es : List Encoding) (room : ℕ) where
       ∙ cut-full (fitsRoom es room) 0 (c ∷ run) rest full ∙ ap (λ (l : List (List (List ℕ))). (c ∷ run) ∷ l) (below-runs 0 rest)
 
   module _ (column : ℕ) where
-    cut-later : (k j : ℕ) (run cs : List (List ℕ)) → cut (fitsAfter es room column) (suc k) run cs ≡ cut (fitsRoom es room) j run cs
+    pub cut-later : (k j : ℕ) (run cs : List (List ℕ)) → cut (fitsAfter es room column) (suc k) run cs ≡ cut (fitsRoom es room) j run cs
     unfolding cut
     cut-later k j run [] = refl
     cut-later k j run (c ∷ cs) = rw (cut-later k j (run ++ (c ∷ [])) cs, cut-later (suc k) (suc j) (c ∷ []) cs) refl
