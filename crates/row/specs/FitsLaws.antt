@@ -20,7 +20,7 @@ use Rattle.word_spelling.specs.SpellingLaws.{length-spell, length-spell-append,
 use Rattle.row.specs.declared.Encoding.{Encoding}
 use Rattle.row.specs.declared.Encoding.the-variants.{Q, B}
 use Rattle.row.specs.Word.{openingIn, spellIn, word}
-use Rattle.row.specs.Row.{holds, someHolds, fitsRoom, chosen}
+use Rattle.row.specs.Row.{encodings, holds, someHolds, fitsRoom, chosen}
 
 pub or-left : (a b : Bool) → T a → T (a || b)
 or-left true b t = tt
@@ -100,6 +100,10 @@ char-fits es n room h k c t = rw append-nil (each-holds es room c n (λ e. go e)
     go : (e : Encoding) → length (spellIn e c) ≤ room
     go Q = omega (arith, length-spell c, char-length c t)
     go B = omega (arith, length-base64 c, char-length c t)
+
+-- a character of any text fits a word: by its first byte it has 8 bytes at most
+pub short-fits : (k : ℕ) (c : List ℕ) → length c ≤ 8 → T (fitsRoom encodings 63 k (c ∷ []))
+short-fits k c h = rw append-nil (or-left (holds 63 c Q) _ (le→leb (length (spellIn Q c)) 63 (omega (arith, h, length-spell c))))
 
 -- what is held in a room is held in a larger one
 pub some-roomier : (room wider : ℕ) (bytes : List ℕ) (es : List Encoding) → room ≤ wider → T (someHolds room bytes es) → T (someHolds wider bytes es)

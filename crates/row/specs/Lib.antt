@@ -8,6 +8,7 @@ pub mod Layout
 pub mod LayoutLaws
 pub mod Reading
 pub mod ReadingLaws
+pub mod ReadingCases
 pub mod Demand3
 pub mod Demand3Laws
 pub mod FieldRow

@@ -20,13 +20,13 @@ use Rattle.base64.specs.Base64.{base64Length}
 use Rattle.base64.specs.Base64Laws.{length-base64}
 use Rattle.word_spelling.specs.Spelling.{spell}
 use Rattle.word_spelling.specs.Cost.{cost}
-use Rattle.word_spelling.specs.SpellingLaws.{length-spell, length-spell-joined}
+use Rattle.word_spelling.specs.SpellingLaws.{length-spell-joined}
 use Rattle.word_spelling.specs.HighCharLaws.{char-cut}
 use Rattle.row.specs.declared.Encoding.{Encoding}
 use Rattle.row.specs.declared.Encoding.the-variants.{Q, B}
 use Rattle.row.specs.Word.{spellIn, word}
 use Rattle.row.specs.Row.{encodings, holds, fitsRoom, runs, chosen, lines, rowIn, row, fitsAfter, runsAfter, linesAfter, rowAfterIn, rowAfter}
-use Rattle.row.specs.FitsLaws.{or-left, or-right, fits-part, chosen-holds}
+use Rattle.row.specs.FitsLaws.{or-left, or-right, fits-part, short-fits, chosen-holds}
 use Rattle.row.specs.WordEnd.{Span, WordEnd}
 
 -- ---- the lines of a row, one after another
@@ -176,11 +176,9 @@ module _ {room : ℕ} {s : List ℕ} {i e : ℕ} {k : Encoding} (w : WordEnd roo
   pub word-small : length (spellIn k (between s i e)) ≤ room
   word-small = rw (w .kind) (chosen-holds encodings room (between s i e) (rw (w .span .bytes) at (w .fits)) .small)
 
--- a character by itself fits a later word: it has 8 bytes at most, whatever the text
 one-fits : (text c : List ℕ) (cs : List (List ℕ)) → chars text ≡ c ∷ cs → T (fitsRoom encodings 63 0 (c ∷ []))
 one-fits text c cs e =
-    let small : length c ≤ 8 = leb-yes (and-yes (leb (length c) 8) (all (λ c. leb (length c) 8) cs) (rw e at (chars-short text)) .0) in
-    rw append-nil (or-left (holds 63 c Q) _ (le→leb (cost c) 63 (omega (arith, small, length-spell c))))
+    short-fits 0 c (leb-yes (and-yes (leb (length c) 8) (all (λ c. leb (length c) 8) cs) (rw e at (chars-short text)) .0))
 
 module _ {s : List ℕ} {i e : ℕ} {k : Encoding} (w : WordEnd 63 s i e k) (h : i < length s) where
   some-run : (run : List (List ℕ)) → chars (drop i s) ≡ run ++ chars (drop e s) → Full (fitsRoom encodings 63) 0 run (chars (drop e s)) → T (nonempty run)
