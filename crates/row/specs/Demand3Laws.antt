@@ -118,7 +118,7 @@ module _ (es : List Encoding) (room : ℕ) where
       (our-proper (room + 12) k r (omega arith) (f .0) (both .0), ours-proper (suc k) rs (f .1) (both .1))
 
   -- the words of a text's row
-  pub rowWords : List ℕ → List Word
+  unfoldable pub rowWords : List ℕ → List Word
   rowWords text = map (oursIn es room) (map joined (runs es room (chars text)))
 
   -- the row of a text, in any room that holds every character: a room of 12 does

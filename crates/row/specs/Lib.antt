@@ -13,3 +13,5 @@ pub mod Demand3
 pub mod Demand3Laws
 pub mod FieldRow
 pub mod FieldRowLaws
+pub mod CounterexampleLaws
+pub mod FieldCounterexampleLaws
