@@ -37,11 +37,6 @@ spell-in-part : (e : Encoding) (a m b : List ℕ) → length (spellIn e m) ≤ l
 spell-in-part Q a m b = omega (arith, length-spell-append a (m ++ b), length-spell-append m b)
 spell-in-part B a m b = omega (arith, length-base64 m, length-base64 (a ++ (m ++ b)), length-append a (m ++ b), length-append m b)
 
--- three characters for a byte, and a byte begun
-pub length-spell-in : (e : Encoding) (bytes : List ℕ) → length (spellIn e bytes) ≤ 3 * length bytes + 1
-length-spell-in Q bytes = omega (arith, length-spell bytes)
-length-spell-in B bytes = omega (arith, length-base64 bytes)
-
 pub spell-in-nil : (e : Encoding) → length (spellIn e []) ≡ 0
 unfolding spell inBase64
 spell-in-nil Q = refl
@@ -63,18 +58,16 @@ length-word-in e bytes = omega (arith, length-append (openingIn e) (spellIn e by
 
 -- ---- a part of what fits
 
--- what each encoding holds as well, one of them does
-some-too : (room room′ : ℕ) (bytes bytes′ : List ℕ) → ((e : Encoding) → length (spellIn e bytes) ≤ room → length (spellIn e bytes′) ≤ room′)
-    → (es : List Encoding) → T (someHolds room bytes es) → T (someHolds room′ bytes′ es)
-some-too room room′ bytes bytes′ h [] t = t
-some-too room room′ bytes bytes′ h (e ∷ es) t =
-    ⊎-elim
-    (λ u. or-left (holds room′ bytes′ e) (someHolds room′ bytes′ es) (le→leb (length (spellIn e bytes′)) room′ (h e (leb→le (length (spellIn e bytes)) room u))))
-    (λ u. or-right (holds room′ bytes′ e) (someHolds room′ bytes′ es) (some-too room room′ bytes bytes′ h es u))
-    (or-yes (holds room bytes e) (someHolds room bytes es) t)
+pub holds-part : (e : Encoding) (room : ℕ) (a m b : List ℕ) → T (holds room (a ++ (m ++ b)) e) → T (holds room m e)
+holds-part e room a m b t = le→leb (length (spellIn e m)) room (omega (arith, leb→le (length (spellIn e (a ++ (m ++ b)))) room t, spell-in-part e a m b))
 
 some-part : (room : ℕ) (a m b : List ℕ) (es : List Encoding) → T (someHolds room (a ++ (m ++ b)) es) → T (someHolds room m es)
-some-part room a m b es t = some-too room room (a ++ (m ++ b)) m (λ e h. omega (arith, h, spell-in-part e a m b)) es t
+some-part room a m b [] t = t
+some-part room a m b (e ∷ es) t =
+    ⊎-elim
+    (λ u. or-left (holds room m e) (someHolds room m es) (holds-part e room a m b u))
+    (λ u. or-right (holds room m e) (someHolds room m es) (some-part room a m b es u))
+    (or-yes (holds room (a ++ (m ++ b)) e) (someHolds room (a ++ (m ++ b)) es) t)
 
 pub fits-part : (es : List Encoding) (room k : ℕ) (d m e : List (List ℕ)) → T (fitsRoom es room k (d ++ (m ++ e))) → T (fitsRoom es room k m)
 fits-part es room k d m e t = some-part room (joined d) (joined m) (joined e) es (rw (joined-append d (m ++ e), joined-append m e) at t)
@@ -104,10 +97,6 @@ char-fits es n room h k c t = rw append-nil (each-holds es room c n (λ e. go e)
 -- a character of any text fits a word: by its first byte it has 8 bytes at most
 pub short-fits : (k : ℕ) (c : List ℕ) → length c ≤ 8 → T (fitsRoom encodings 63 k (c ∷ []))
 short-fits k c h = rw append-nil (or-left (holds 63 c Q) _ (le→leb (length (spellIn Q c)) 63 (omega (arith, h, length-spell c))))
-
--- what is held in a room is held in a larger one
-pub some-roomier : (room wider : ℕ) (bytes : List ℕ) (es : List Encoding) → room ≤ wider → T (someHolds room bytes es) → T (someHolds wider bytes es)
-some-roomier room wider bytes es h t = some-too room wider bytes bytes (λ e k. omega (arith, h, k)) es t
 
 -- ---- the encoding chosen
 

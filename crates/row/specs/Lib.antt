@@ -3,6 +3,8 @@ pub mod Row
 pub mod FitsLaws
 pub mod WordEnd
 pub mod WordEndLaws
+pub mod Choice
+pub mod ChoiceLaws
 pub mod RowLaws
 pub mod Layout
 pub mod LayoutLaws

@@ -73,10 +73,22 @@ word-thrice room bytes =
     by-test (holds room bytes Q)
     (λ t. omega (arith, size, ap (λ e. length (spellIn e bytes)) (cond-yes (holds room bytes Q) Q (chosen (B ∷ []) room bytes) t), length-spell bytes))
     (λ t. by-test (holds room bytes B)
-    (λ u. omega (arith, size, ap (λ e. length (spellIn e bytes)) (cond-no (holds room bytes Q) Q (chosen (B ∷ []) room bytes) t), ap (λ e. length (spellIn e bytes)) (cond-yes (holds room bytes B) B Q u),
-    leb-no {a = cost bytes} {b = room} t, leb→le (length (spellIn B bytes)) room u, length-spell bytes))
-    (λ u. omega (arith, size, ap (λ e. length (spellIn e bytes)) (cond-no (holds room bytes Q) Q (chosen (B ∷ []) room bytes) t), ap (λ e. length (spellIn e bytes)) (cond-no (holds room bytes B) B Q u),
-    length-spell bytes)))
+    (λ u. omega (
+      arith,
+      size,
+      ap (λ e. length (spellIn e bytes)) (cond-no (holds room bytes Q) Q (chosen (B ∷ []) room bytes) t),
+      ap (λ e. length (spellIn e bytes)) (cond-yes (holds room bytes B) B Q u),
+      leb-no {a = cost bytes} {b = room} t,
+      leb→le (length (spellIn B bytes)) room u,
+      length-spell bytes,
+    ))
+    (λ u. omega (
+      arith,
+      size,
+      ap (λ e. length (spellIn e bytes)) (cond-no (holds room bytes Q) Q (chosen (B ∷ []) room bytes) t),
+      ap (λ e. length (spellIn e bytes)) (cond-no (holds room bytes B) B Q u),
+      length-spell bytes,
+    )))
 
 -- what fits a word of 63 characters makes one of 75 at most
 word-short : (k : ℕ) (run : List (List ℕ)) → T (fitsRoom encodings 63 k run) → length (wordIn encodings 63 (joined run)) ≤ 75
@@ -112,8 +124,16 @@ lines-length k run (c ∷ cs) f s =
     (λ t.
     let more = lines encodings 63 (map joined (cut (fitsRoom encodings 63) (suc k) (c ∷ []) cs)) in
     rw (cut-next (fitsRoom encodings 63) k run c cs t)
-    (omega (arith, length-append (13 ∷ 10 ∷ 32 ∷ wordIn encodings 63 (joined run)) more, word-short k run f, over-45 k run c t, small,
-    lines-length (suc k) (c ∷ []) cs (short-fits (suc k) c small) (both .1), ap length (append-nil c), length-append c (joined cs))))
+    (omega (
+      arith,
+      length-append (13 ∷ 10 ∷ 32 ∷ wordIn encodings 63 (joined run)) more,
+      word-short k run f,
+      over-45 k run c t,
+      small,
+      lines-length (suc k) (c ∷ []) cs (short-fits (suc k) c small) (both .1),
+      ap length (append-nil c),
+      length-append c (joined cs),
+    )))
 
 -- a row takes at most 3 bytes for each byte of its text, and 15 more
 pub length-row-le : (text : List ℕ) → length (row text) ≤ 15 + 3 * length text
