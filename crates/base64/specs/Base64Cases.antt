@@ -7,14 +7,14 @@ use lib.ListN.{take}
 use Rattle.base64.specs.Base64.{digit64, inBase64, isDigit64, value64, fromQuad, fromThree, fromTwo, fromLast, fromBase64}
 
 -- `foobar`, and its fronts
-foobar : List ℕ
+abbrev foobar : List ℕ
 foobar = 102 ∷ 111 ∷ 111 ∷ 98 ∷ 97 ∷ 114 ∷ []
 
-fronts : List (List ℕ)
+abbrev fronts : List (List ℕ)
 fronts = map (λ (n : ℕ). take n foobar) (0 ∷ 1 ∷ 2 ∷ 3 ∷ 4 ∷ 5 ∷ 6 ∷ [])
 
 -- nothing, `Zg==`, `Zm8=`, `Zm9v`, `Zm9vYg==`, `Zm9vYmE=`, `Zm9vYmFy`
-vectors : List (List ℕ)
+abbrev vectors : List (List ℕ)
 vectors =
     []
     ∷ (90 ∷ 103 ∷ 61 ∷ 61 ∷ [])
@@ -26,15 +26,15 @@ vectors =
     ∷ []
 
 pub vectors-written : map inBase64 fronts ≡ vectors
-unfolding foobar fronts vectors inBase64 digit64
+unfolding inBase64 digit64
 vectors-written = refl
 
 pub vectors-read : map fromBase64 vectors ≡ map some fronts
-unfolding foobar fronts vectors isDigit64 value64 fromQuad fromThree fromTwo fromLast fromBase64
+unfolding isDigit64 value64 fromQuad fromThree fromTwo fromLast fromBase64
 vectors-read = refl
 
 -- `Zg`, `Zg=`, `Zh==` (spare bits), `Zg==Zg==` (`=` inside), `Z===`, `Z g=`, `Zm-_`
-others : List (List ℕ)
+abbrev others : List (List ℕ)
 others =
     (90 ∷ 103 ∷ [])
     ∷ (90 ∷ 103 ∷ 61 ∷ [])
@@ -46,5 +46,5 @@ others =
     ∷ []
 
 pub others-not-read : map fromBase64 others ≡ map (λ (l : List ℕ). none) others
-unfolding others isDigit64 value64 fromQuad fromThree fromTwo fromLast fromBase64
+unfolding isDigit64 value64 fromQuad fromThree fromTwo fromLast fromBase64
 others-not-read = refl
