@@ -172,7 +172,7 @@ cases-right = (
                     λ b c. refl,
                     (
                       λ b c. refl,
-                      (taken-by (mailed (bytes "a@x") []) (headerNamed 76) refl tt tt, (λ b c. refl, (needs-by wholeEnvelope wholeHeader 54 146 refl refl refl, tt))),
+                      (taken-by (mailed (bytes "a@x") []) (headerNamed 76) refl tt tt, (λ b c. refl, (needs-by wholeEnvelope wholeHeader 54 140 refl refl refl, tt))),
                     ),
                   ),
                 ),
