@@ -13,7 +13,7 @@ use lib.ListN.{length, getD, replicate}
 use mir.Facts.{yes-and}
 use Rattle.lists.specs.CutBy.{cutAfter, cutBy}
 use Rattle.lists.specs.Byte.{isByte}
-use Rattle.lists.specs.Lists.{all, nonempty, joined}
+use Rattle.lists.specs.Lists.{all, joined}
 use Rattle.utf8.specs.Utf8.{leadingOnes, charLen, secondLow, secondHigh, isChar, chars, utf8}
 use Rattle.cut.specs.Cut.{cut}
 use Rattle.hex.specs.Hex.{hexDigit}

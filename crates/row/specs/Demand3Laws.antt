@@ -17,7 +17,7 @@ use Rattle.row.specs.declared.Encoding.{Encoding}
 use Rattle.row.specs.declared.Encoding.the-variants.{Q}
 use Rattle.row.specs.Word.{openingIn, spellIn}
 use Rattle.row.specs.Row.{encodings, fitsRoom, runs, chosen, wordIn, rowIn, row}
-use Rattle.row.specs.Layout.{Word, wordBytes, Laid, addedText}
+use Rattle.row.specs.Layout.{Word, wordBytes, addedText}
 use Rattle.row.specs.LayoutLaws.{oursIn, lines-laid}
 use Rattle.row.specs.FitsLaws.{length-opening-in, length-word-in, spell-in-some, fits-part, some-of, char-fits, chosen-holds}
 use Rattle.row.specs.Demand3.{Proper, AllProper, RowOf, Demand3In, Demand3}

@@ -3,22 +3,19 @@ use mathlib.Core.Path.{_≡_, refl, sym, ap, _∙_}
 use mathlib.Core.Bool.{Bool, true, false, not, _||_}
 use mathlib.Core.List.{List, [], _∷_, _++_, append-assoc, append-nil, map}
 use Prim.Native.Nat.{ℕ, zero, suc, _+_, _-_, _*_, _/_, _≤_, _<_, min}
-use native.Mathlib.Nat.{zero-add}
 use native.Mathlib.Numerals.{unary-clauses}
 use native.Mathlib.Omega.{arith}
-use lib.Dec.{T, leb, T-not, leb→le, le→leb}
+use lib.Dec.{T, leb, T-not, le→leb}
 use lib.ListN.{length, take, drop, getD, length-append, length-take, length-drop}
 use lib.Seq.{take-add, drop-drop}
 use mir.Facts.{and-yes, leb-yes, no-leb}
 use Rattle.lists.specs.Lists.{all, nonempty, joined}
-use Rattle.lists.specs.ListsLaws.{cond-yes, cond-no, all-weaken, joined-append}
+use Rattle.lists.specs.ListsLaws.{cond-yes, cond-no, joined-append}
 use Rattle.utf8.specs.Utf8.{charLen, chars}
 use Rattle.utf8.specs.Utf8Laws.{chars-short, chars-some, chars-at, chars-end, char-len-some}
 use Rattle.cut.specs.Cut.{cut}
 use Rattle.cut.specs.CutLaws.{cut-run, linesBelow, Full, cut-full}
-use Rattle.base64.specs.Base64.{base64Length}
 use Rattle.base64.specs.Base64Laws.{length-base64}
-use Rattle.word_spelling.specs.Spelling.{spell}
 use Rattle.word_spelling.specs.Cost.{cost}
 use Rattle.word_spelling.specs.SpellingLaws.{length-spell-joined}
 use Rattle.word_spelling.specs.HighCharLaws.{char-cut}
