@@ -63,7 +63,7 @@ module _ (es : List Encoding) (some : T (nonempty es)) (room column : ℕ) where
 
 module _ (es : List Encoding) (room column : ℕ) where
   -- the words of lines, of which the first may have none
-  pub afterWords : List (List ℕ) → List Word
+  afterWords : List (List ℕ) → List Word
   afterWords [] = []
   afterWords ([] ∷ more) = map (oursIn es room) more
   afterWords ((b ∷ bytes) ∷ more) = oursIn es (room - column) (b ∷ bytes) ∷ map (oursIn es room) more
