@@ -1,0 +1,4 @@
+pub mod Choice
+pub mod BlockLaws
+pub mod ChoiceLaws
+pub mod RegularLaws
