@@ -9,10 +9,10 @@ use native.Mathlib.Numerals.{add-one, unary-clauses}
 use native.Mathlib.Omega.{arith}
 use lib.Dec.{T, T-not, leb, ltb, eqb, leb→le, le→leb, eqb→eq, ltb→lt}
 use lib.ListN.{length, take, drop, getD, length-append, length-take, length-drop}
-use lib.Seq.{take-suc, take-add}
+use lib.Seq.{take-suc, take-add, take-all}
 use mir.Facts.{and-yes, or-yes, ltb-yes, no-eqb, eqb-no}
 use Rattle.lists.specs.Byte.{within}
-use Rattle.lists.specs.ListsLaws.{by-test, cond-yes, cond-no, yes-true, no-false}
+use Rattle.lists.specs.ListsLaws.{by-test, cond-yes, cond-no, yes-true, true-yes, no-false}
 use Rattle.lists.specs.ByteLaws.{within-low, within-high}
 use Rattle.utf8.specs.Utf8.{continues}
 use Rattle.word_spelling.specs.Spelling.{bare, spellByte, spell}
@@ -48,18 +48,15 @@ module _ (f : ℕ → Bool) where
   count-next s k n m h e d =
       rw (add-one k, take-suc s k 0 h) (omega (arith, e, d, count-append (take k s) (getD s k 0 ∷ []), count-one (getD s k 0)))
 
+  -- all of them
+  pub count-done : (s : List ℕ) (k n whole : ℕ) → k ≡ whole → n ≡ count f (take k s) → n ≡ count f (take whole s)
+  count-done s k n whole h e = rw (← h) e
+
   -- no more in fewer bytes
   pub count-front : (s : List ℕ) (k n : ℕ) → k ≤ n → count f (take k s) ≤ count f (take n s)
   count-front s k n h =
       let whole : k + (n - k) ≡ n = omega arith in
       rw (← whole, take-add) (omega (arith, count-append (take k s) (take (n - k) (drop k s))))
-
-bit-le : (t : Bool) → bit t ≤ 1
-bit-le true = omega arith
-bit-le false = omega arith
-
-pub bit-small : (t : Bool) (r : ℕ) → r ≡ bit t → r ≤ 1
-bit-small t r e = rw e (bit-le t)
 
 -- ---- what bytes take in Q
 
@@ -151,6 +148,13 @@ cost-front s k n h =
     let whole : k + (n - k) ≡ n = omega arith in
     rw (← whole, take-add) (omega (arith, length-spell-append (take k s) (take (n - k) (drop k s))))
 
+pub cost-none : (s : List ℕ) → 0 ≡ cost (take 0 s)
+unfolding spell
+cost-none s = refl
+
+pub cost-all : (s : List ℕ) (k n : ℕ) → length s ≤ k → n ≡ cost (take k s) → n ≡ cost s
+cost-all s k n h e = e ∙ ap cost (take-all k s h)
+
 -- one byte more
 pub cost-next : (s : List ℕ) (k n m : ℕ) → k < length s → n ≡ cost (take k s) → m ≡ byteCost (getD s k 0) → n + m ≡ cost (take (k + 1) s)
 unfolding spell
@@ -176,23 +180,19 @@ both-true : (a b : Bool) → a && b ≡ true → (a ≡ true) × (b ≡ true)
 both-true true b e = (refl, e)
 both-true false b e = let z : _≡_ {A = ℕ} 0 1 = cc in absurd (omega arith)
 
-true-yes′ : (b : Bool) → b ≡ true → T b
-true-yes′ true e = tt
-true-yes′ false e = let z : _≡_ {A = ℕ} 0 1 = cc in absurd (omega arith)
-
 pub placed-start : (s : List ℕ) → 2 ≤ length s → Placed s 2 (placed 0 0 (getD s 0 0) && placed 0 (getD s 0 0) (getD s 1 0))
 placed-start s h = record { each = λ e j k. go (both-true _ _ e) j k }
   where
     go : (placed 0 0 (getD s 0 0) ≡ true) × (placed 0 (getD s 0 0) (getD s 1 0) ≡ true) → (j : ℕ) → j < 2 → T (placed (getD (0 ∷ 0 ∷ s) j 0) (getD (0 ∷ s) j 0) (getD s j 0))
-    go p zero k = true-yes′ _ (p .0)
-    go p (suc zero) k = true-yes′ _ (p .1)
+    go p zero k = true-yes _ (p .0)
+    go p (suc zero) k = true-yes _ (p .1)
     go p (suc (suc j)) k = absurd (omega arith)
 
 pub placed-next : {s : List ℕ} {ok : Bool} (k : ℕ) → Placed s (k + 2) ok
     → Placed s (k + 1 + 2) (ok && placed (getD s k 0) (getD s (k + 1) 0) (getD s (k + 1 + 1) 0))
 placed-next {s} {ok} k p = record {
   each = λ e j h. let q = both-true ok (placed (getD s k 0) (getD s (k + 1) 0) (getD s (k + 1 + 1) 0)) e in
-    by-test (eqb j (k + 2)) (λ t. rw (eqb→eq j (k + 2) t) (last (true-yes′ _ (q .1)))) (λ t. p .each (q .0) j (omega (arith, eqb-no {a = j} {b = k + 2} t)));
+    by-test (eqb j (k + 2)) (λ t. rw (eqb→eq j (k + 2) t) (last (true-yes _ (q .1)))) (λ t. p .each (q .0) j (omega (arith, eqb-no {a = j} {b = k + 2} t)));
 }
   where
     last : T (placed (getD s k 0) (getD s (k + 1) 0) (getD s (k + 1 + 1) 0)) → T (placed (getD (0 ∷ 0 ∷ s) (k + 2) 0) (getD (0 ∷ s) (k + 2) 0) (getD s (k + 2) 0))
@@ -204,3 +204,20 @@ placed-end n h p e = record { each = λ j k. p .each e j (omega arith) }
 -- the start of the character in which the byte at a place stands, where it has at most three bytes
 abbrev pub stepBack : List ℕ → ℕ → ℕ
 stepBack s n = cond (not (continues (getD s n 0))) n (cond (not (continues (getD s (n - 1) 0))) (n - 1) (n - 2))
+
+-- by the tests that code makes, of the byte at the place and of the one before it
+module _ (s : List ℕ) (n : ℕ) {t : Bool} (e : t ≡ continues (getD s n 0)) where
+  pub back-none : not t ≡ true → n ≡ stepBack s n
+  back-none h = sym (cond-yes (not (continues (getD s n 0))) n _ (rw (← e) (true-yes (not t) h)))
+
+  tail-here : not t ≡ false → T (not (not (continues (getD s n 0))))
+  tail-here h = rw (← e, h) tt
+
+  module _ {u : Bool} (h : not t ≡ false) (d : u ≡ continues (getD s (n - 1) 0)) where
+    pub back-one : not u ≡ true → n - 1 ≡ stepBack s n
+    back-one k =
+        sym (cond-no (not (continues (getD s n 0))) n _ (tail-here h) ∙ cond-yes (not (continues (getD s (n - 1) 0))) (n - 1) (n - 2) (rw (← d) (true-yes (not u) k)))
+
+    pub back-two : not u ≡ false → n - 2 ≡ stepBack s n
+    back-two k =
+        sym (cond-no (not (continues (getD s n 0))) n _ (tail-here h) ∙ cond-no (not (continues (getD s (n - 1) 0))) (n - 1) (n - 2) (rw (← d, k) tt))

@@ -2,15 +2,15 @@
 use mathlib.Core.Path.{_≡_, refl, sym, ap, _∙_}
 use mathlib.Core.Bool.{Bool, true, false, not}
 use mathlib.Core.List.{List, [], _∷_, _++_, append-nil, nil≢cons}
-use Prim.Native.Nat.{ℕ, _+_, _-_, _*_, _/_, _≤_, _<_}
+use Prim.Native.Nat.{ℕ, _+_, _-_, _*_, _/_, _≤_, _<_, min}
 use native.Mathlib.Omega.{arith}
 use lib.Dec.{T, leb, leb→le, le→leb}
-use lib.ListN.{length, take, drop, length-append, length-take}
+use lib.ListN.{length, take, drop, getD, length-append, length-take, length-drop}
 use lib.Seq.{take-all}
 use Rattle.lists.specs.Lists.{joined}
 use Rattle.lists.specs.ListsLaws.{by-test}
-use Rattle.utf8.specs.Utf8.{chars}
-use Rattle.utf8.specs.Utf8Laws.{chars-end, chars-joined}
+use Rattle.utf8.specs.Utf8.{charLen, chars}
+use Rattle.utf8.specs.Utf8Laws.{chars-at, chars-end, chars-joined, char-len-some}
 use Rattle.base64.specs.Base64Laws.{length-base64}
 use Rattle.word_spelling.specs.Cost.{cost}
 use Rattle.word_spelling.specs.SpellingLaws.{length-spell}
@@ -96,15 +96,13 @@ last-in-b {limit} {s} {b} f e p h =
     )
 
 -- the characters that B holds
-pub also-full : {room : ℕ} {s : List ℕ} {b : ℕ} → FullInB (bytesInB room) s b → cost (take b s) ≤ room → AlsoInQ room s
-also-full {room} {s} {b} f h = also-in-q room s b h (λ e p k. last-in-b f e p k)
+pub also-full : {room limit : ℕ} {s : List ℕ} {b : ℕ} → limit ≡ bytesInB room → FullInB limit s b → cost (between s 0 b) ≤ room → AlsoInQ room s
+also-full {room} {limit} {s} {b} l f h = also-in-q room s b (rw front-bytes at h) (λ e p k. last-in-b f e p (omega arith))
 
 -- ---- in B
 
-pub word-in-b : {room : ℕ} {s : List ℕ} {e : ℕ} → FullInB (bytesInB room) s e → room < cost (take e s) → WordEnd room s 0 e B
-word-in-b {room} {s} {e} f h =
-    let same : e - 0 ≡ e = omega arith in
-    word-end-b room s 0 e (f .span) (rw (front-bytes s e) h) (omega (arith, f .small)) (λ c cs k. omega (arith, f .full c cs k))
+pub word-in-b : {room limit : ℕ} {s : List ℕ} {e : ℕ} → limit ≡ bytesInB room → FullInB limit s e → room < cost (between s 0 e) → WordEnd room s 0 e B
+word-in-b {room} {limit} {s} {e} l f h = word-end-b room s 0 e (f .span) h (omega (arith, f .small)) (λ c cs k. omega (arith, f .full c cs k))
 
 -- the whole text
 pub span-all : (s : List ℕ) → Span s 0 (length s)
@@ -124,5 +122,37 @@ full-all limit s h = record {
 }
 
 -- many bytes of the first 32 that are not ASCII
-pub highs-over : (room : ℕ) (s : List ℕ) (e : ℕ) → 32 ≤ e → 32 ≤ length s → room < 32 + 2 * count (λ b. leb 128 b) (take 32 s) → room < cost (take e s)
-highs-over room s e h k t = omega (arith, t, highs-cost (take 32 s), length-take 32 s, cost-front s 32 e h)
+pub highs-over : (room : ℕ) (s : List ℕ) (e : ℕ) → 32 ≤ e → 32 ≤ length s → room < 32 + 2 * count (λ b. leb 128 b) (take 32 s) → room < cost (between s 0 e)
+highs-over room s e h k t = rw front-bytes (omega (arith, t, highs-cost (take 32 s), length-take 32 s, cost-front s 32 e h))
+
+-- a text that B holds whole, by what it takes in Q
+pub all-in-b : {room : ℕ} (s : List ℕ) → length s ≤ bytesInB room → room < cost s → WordEnd room s 0 (length s) B
+all-in-b {room} s h k =
+    word-in-b refl (full-all (bytesInB room) s h) (rw (front-bytes s (length s), take-all (length s) s (omega arith)) k)
+
+-- ---- a scan by characters
+
+module _ {s : List ℕ} {e : ℕ} (p : Span s 0 e) where
+  -- up to the end of the text
+  pub full-end : (limit : ℕ) → e ≤ limit → length s ≤ e → FullInB limit s e
+  full-end limit h k = record { span = p; small = h; full = λ c cs j. absurd (nil≢cons (sym (chars-end s e k) ∙ j)) }
+
+  module _ (next : ℕ) (h : e < length s) (n : next ≡ min (e + charLen (getD s e 0)) (length s)) where
+    -- up to a character that does not fit
+    pub full-stop : (limit : ℕ) → e ≤ limit → limit < next → FullInB limit s e
+    full-stop limit k over = record {
+      span = p;
+      small = k;
+      full = λ c cs j. let same : take (charLen (getD s e 0)) (drop e s) ≡ c = head-same (sym (chars-at s e h) ∙ j) in
+        omega (arith, over, n, ap length (sym same), length-take (charLen (getD s e 0)) (drop e s), length-drop e s);
+    }
+      where
+        head-same : {x y : List ℕ} {xs ys : List (List ℕ)} → x ∷ xs ≡ y ∷ ys → x ≡ y
+        head-same q = cc
+
+    -- past one that does
+    pub span-on : Span s 0 next
+    span-on = span-join p (span-char s e next h n)
+
+    pub char-more : e < next
+    char-more = omega (arith, n, char-len-some (getD s e 0))

@@ -31,7 +31,7 @@ pub(crate) fn single(b: u8) -> bool
 }
 
 fn one_if(t: bool) -> u8
-    ensures { λ r. ⌜ r ≡ bit t ⌝ }
+    ensures { λ r. ⌜ (r ≡ bit t) × (r ≤ 1) ⌝ }
 {
     if t { 1 } else { 0 }
 }
@@ -89,7 +89,7 @@ fn is_placed(a: u8, b: u8, c: u8) -> bool
 // Whether the first 50 bytes are so.
 pub(crate) fn regular(s: &[u8]) -> bool
     requires { ⌜ 50 ≤ length (now s) ⌝ }
-    ensures { λ r. ⌜ r ≡ true → Regular (now (s .entry)) ⌝ }
+    ensures { λ r. ⌜ (r ≡ true → Regular (now (s .entry))) ⌝ }
 {
     let mut ok = is_placed(0, 0, s[0]) & is_placed(0, s[0], s[1]);
     let mut k = 0;

@@ -1,3 +1,6 @@
+use Rattle.word_choice.specs.BlockLaws.{cost-if}
+use native.Mathlib.Omega.{arith}
+use mathlib.Core.Path.{_≡_, refl, sym, ap, _∙_}
 use borrow.Author.Needs.{needs}
 use Rattle.word_choice.proofs.byte_cost.Statement.{statement}
 use Rattle.word_choice.proofs.byte_cost.Tie as tie
@@ -11,11 +14,11 @@ single-requires c κs = search needs
 
 -- src/lib.rt:24:1
 returns : tie.Need-returns
-returns c = ?
+returns c = (cost-if (c .before .before .args .b) _ (sym (c .if1 .taken) ∙ c .before .single .ensures), omega arith)
 
 -- src/lib.rt:24:1
 returns-2 : tie.Need-returns-2
-returns-2 c = ?
+returns-2 c = (cost-if (c .before .before .args .b) _ (sym (c .if1 .left) ∙ c .before .single .ensures), omega arith)
 
 pub byte-cost-spec : {M : Type 1} → statement M
 byte-cost-spec = tie.close (tie.spec single-requires returns returns-2)

@@ -1,3 +1,4 @@
+use mathlib.Core.Path.{refl}
 use borrow.Author.Needs.{needs}
 use Rattle.word_choice.proofs.block.is_placed.Statement.{statement}
 use Rattle.word_choice.proofs.block.is_placed.Tie as tie
@@ -11,7 +12,7 @@ is-tail-requires c κs = search needs
 
 -- src/block.rt:81:1
 returns : tie.Need-returns
-returns c = ?
+returns c = rw (c .is-tail .ensures) refl
 
 pub is-placed-spec : {M : Type 1} → statement M
 is-placed-spec = tie.close (tie.spec is-tail-requires returns)

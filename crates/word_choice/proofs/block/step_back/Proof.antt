@@ -1,3 +1,6 @@
+use Rattle.word_choice.specs.BlockLaws.{back-none, back-one, back-two}
+use mathlib.Core.Bool.{Bool, true, false, not}
+use mathlib.Core.Path.{_≡_, refl, sym, ap, _∙_}
 use borrow.Author.Needs.{needs}
 use Rattle.word_choice.proofs.block.step_back.Statement.{statement}
 use Rattle.word_choice.proofs.block.step_back.Tie as tie
@@ -15,7 +18,7 @@ is-tail-requires c κs = search needs
 
 -- src/block.rt:111:9
 returns : tie.Need-returns
-returns c = ?
+returns c = back-none (c .before .before .before .before .args .s .now) (c .before .before .before .before .args .limit) (c .before .is-tail .ensures) (c .if1 .taken)
 
 -- src/block.rt:113:18
 sub-before : tie.Need-sub-before
@@ -31,7 +34,7 @@ is-tail-requires-2 c κs = search needs
 
 -- src/block.rt:115:9
 returns-2 : tie.Need-returns-2
-returns-2 c = ?
+returns-2 c = back-one (c .before .before .before .before .before .before .before .args .s .now) (c .before .before .before .before .before .before .before .args .limit) (c .before .before .before .before .is-tail .ensures) (c .before .before .before .if1 .left) (c .before .is-tail2 .ensures) (c .if2 .taken)
 
 -- src/block.rt:117:5
 sub-result : tie.Need-sub-result
@@ -39,7 +42,7 @@ sub-result c = search needs
 
 -- src/block.rt:106:1
 returns-3 : tie.Need-returns-3
-returns-3 c = ?
+returns-3 c = back-two (c .before .before .before .before .before .before .before .args .s .now) (c .before .before .before .before .before .before .before .args .limit) (c .before .before .before .before .is-tail .ensures) (c .before .before .before .if1 .left) (c .before .is-tail2 .ensures) (c .if2 .left)
 
 pub step-back-spec : {M : Type 1} → statement M
 step-back-spec =
