@@ -3,7 +3,7 @@ use mathlib.Core.Path.{_≡_, refl, sym, ap, _∙_}
 use mathlib.Core.Bool.{Bool, true, false, not, cond, _&&_, _||_}
 use mathlib.Core.Logic.{_⊎_, inl, inr, ⊎-elim}
 use mathlib.Core.List.{List, [], _∷_, _++_}
-use Prim.Native.Nat.{ℕ, zero, suc, _+_, _-_, _≤_, _<_, min}
+use Prim.Native.Nat.{ℕ, zero, suc, _+_, _-_, _*_, _≤_, _<_, min}
 use native.Mathlib.Numerals.{add-one}
 use native.Mathlib.Omega.{arith}
 use lib.Count.{leadingZeros}
@@ -15,10 +15,11 @@ use Rattle.lists.specs.ListsLaws.{by-test, cond-yes, cond-no, cond-has}
 use Rattle.lists.specs.ByteLaws.{within-low, within-high, to-within, below, implies}
 use Rattle.utf8.specs.Utf8.{leadingOnes, charLen, continues, chars}
 use Rattle.utf8.specs.Utf8Laws.{chars-at}
-use Rattle.row.specs.WordEnd.{Span}
+use Rattle.row.specs.declared.Encoding.the-variants.{B}
+use Rattle.row.specs.WordEnd.{Span, WordEnd}
 use Rattle.row.specs.WordEndLaws.{span-none, span-char, span-join}
-use Rattle.word_choice.specs.BlockLaws.{placed, Regular, stepBack}
-use Rattle.word_choice.specs.ChoiceLaws.{FullInB}
+use Rattle.word_choice.specs.BlockLaws.{count, placed, Regular, stepBack}
+use Rattle.word_choice.specs.ChoiceLaws.{bytesInB, FullInB, word-in-b, highs-over}
 
 -- ---- one byte and the two before it
 
@@ -211,3 +212,9 @@ pub back-near : (s : List ℕ) (n : ℕ) → n ≤ stepBack s n + 2
 back-near s n =
     cond-has (λ e. n ≤ e + 2) (not (continues (getD s n 0))) n (cond (not (continues (getD s (n - 1) 0))) (n - 1) (n - 2)) (λ t. omega arith)
     (λ t. cond-has (λ e. n ≤ e + 2) (not (continues (getD s (n - 1) 0))) (n - 1) (n - 2) (λ u. omega arith) (λ u. omega arith))
+
+-- a word in B that ends there: many of the first 32 bytes are not ASCII
+pub word-back : {room limit : ℕ} {s : List ℕ} → limit ≡ bytesInB room → 34 ≤ limit → limit < 47 → 50 ≤ length s → Regular s
+    → room < 32 + 2 * count (λ b. leb 128 b) (take 32 s) → WordEnd room s 0 (stepBack s limit) B
+word-back {room} {limit} {s} l h k long reg t =
+    word-in-b l (back-full s long reg limit k) (highs-over room s (stepBack s limit) (omega (arith, back-near s limit)) (omega arith) t)

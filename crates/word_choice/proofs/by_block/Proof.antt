@@ -1,3 +1,6 @@
+use Rattle.word_choice.specs.RegularLaws.{word-back}
+use Rattle.word_choice.specs.ChoiceLaws.{also-plain}
+use native.Mathlib.Omega.{arith}
 use borrow.Author.Needs.{needs}
 use Rattle.word_choice.proofs.by_block.Statement.{statement}
 use Rattle.word_choice.proofs.by_block.Tie as tie
@@ -35,7 +38,7 @@ step-back-requires c κs = search needs
 
 -- src/lib.rt:101:17
 returns : tie.Need-returns
-returns c = ?
+returns c = rw (c .step-back .ensures) (word-back (omega arith) (c .before .before .before .if2 .taken) (omega (arith, c .before .before .before .before .before .before .before .pre .0)) (c .before .before .before .before .before .before .before .pre .1) (c .before .before .regular .ensures (c .before .if3 .taken)) (omega (arith, c .before .before .before .before .if1 .taken, c .before .before .before .before .before .highs .ensures .0)))
 
 -- src/lib.rt:104:9
 by-characters-requires : tie.Need-by-characters-requires
@@ -59,7 +62,7 @@ add-if4 c = search needs
 
 -- src/lib.rt:107:9
 returns-3 : tie.Need-returns-3
-returns-3 c = ?
+returns-3 c = also-plain (c .before .before .before .before .before .args .room) (c .before .before .before .before .before .args .text .now) (omega (arith, c .before .before .before .before .before .pre .0)) (omega (arith, c .if4 .taken, c .before .others .ensures .0))
 
 -- src/lib.rt:109:5
 by-characters-requires-2 : tie.Need-by-characters-requires-2

@@ -20,7 +20,7 @@ abbrev μ-loop : tie.MeasureT-loop
 
 -- src/block.rt:66:5
 loop-holds : tie.Need-loop-holds Inv-loop μ-loop
-loop-holds c = (count-none (λ b. leb 128 b) _, omega arith, omega arith)
+loop-holds c = (count-none (λ b. leb 128 b) (c .before .args .s .now), omega arith, omega arith)
 
 -- src/block.rt:67:28
 shared-slice-read-one-if : tie.Need-shared-slice-read-one-if Inv-loop μ-loop

@@ -21,7 +21,7 @@ abbrev μ-loop : tie.MeasureT-loop
 
 -- src/block.rt:52:5
 loop-holds : tie.Need-loop-holds Inv-loop μ-loop
-loop-holds c = (count-none (λ b. not (plain b)) _, omega arith, omega arith)
+loop-holds c = (count-none (λ b. not (plain b)) (c .before .args .s .now), omega arith, omega arith)
 
 -- src/block.rt:53:31
 shared-slice-read-is-plain : tie.Need-shared-slice-read-is-plain Inv-loop μ-loop
