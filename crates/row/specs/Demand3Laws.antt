@@ -17,7 +17,7 @@ use Rattle.row.specs.declared.Encoding.{Encoding}
 use Rattle.row.specs.declared.Encoding.the-variants.{Q}
 use Rattle.row.specs.Word.{openingIn, spellIn}
 use Rattle.row.specs.Row.{encodings, fitsRoom, runs, chosen, wordIn, rowIn, row}
-use Rattle.row.specs.Layout.{Word, wordBytes, Laid, addedText}
+use Rattle.row.specs.Layout.{Word, wordBytes, addedText}
 use Rattle.row.specs.LayoutLaws.{oursIn, lines-laid}
 use Rattle.row.specs.FitsLaws.{length-opening-in, length-word-in, spell-in-some, fits-part, some-of, char-fits, chosen-holds}
 use Rattle.row.specs.Demand3.{Proper, AllProper, RowOf, Demand3In, Demand3}
@@ -118,7 +118,7 @@ module _ (es : List Encoding) (room : ℕ) where
       (our-proper (room + 12) k r (omega arith) (f .0) (both .0), ours-proper (suc k) rs (f .1) (both .1))
 
   -- the words of a text's row
-  pub rowWords : List ℕ → List Word
+  unfoldable pub rowWords : List ℕ → List Word
   rowWords text = map (oursIn es room) (map joined (runs es room (chars text)))
 
   -- the row of a text, in any room that holds every character: a room of 12 does

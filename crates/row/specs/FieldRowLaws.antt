@@ -1,9 +1,9 @@
 -- Demand 3 for a field holds of every text of UTF-8 and its row after a name, over the encodings, the room of a word and the length of the
 -- name. Assumes nothing.
-use mathlib.Core.Path.{_≡_, refl, sym, ap, _∙_}
+use mathlib.Core.Path.{_≡_, refl, ap, _∙_}
 use mathlib.Core.Bool.{Bool}
 use mathlib.Core.List.{List, [], _∷_, _++_, map}
-use Prim.Native.Nat.{ℕ, zero, suc, _+_, _-_, _≤_, _<_}
+use Prim.Native.Nat.{ℕ, suc, _+_, _-_, _≤_}
 use native.Mathlib.Omega.{arith}
 use lib.ListN.{length, length-map}
 use lib.Dec.{T, lit≤}
@@ -63,7 +63,7 @@ module _ (es : List Encoding) (some : T (nonempty es)) (room column : ℕ) where
 
 module _ (es : List Encoding) (room column : ℕ) where
   -- the words of lines, of which the first may have none
-  pub afterWords : List (List ℕ) → List Word
+  afterWords : List (List ℕ) → List Word
   afterWords [] = []
   afterWords ([] ∷ more) = map (oursIn es room) more
   afterWords ((b ∷ bytes) ∷ more) = oursIn es (room - column) (b ∷ bytes) ∷ map (oursIn es room) more

@@ -4,7 +4,7 @@ use mathlib.Core.Path.{_≡_, refl}
 use mathlib.Core.Bool.{Bool, true, false, not, _||_}
 use mathlib.Core.Logic.{⊎-elim}
 use mathlib.Core.List.{List, [], _∷_, _++_, append-nil, List·Memᴰ, List·Memᴰ·head, List·Memᴰ·tail}
-use Prim.Native.Nat.{ℕ, _+_, _*_, _≤_, _<_}
+use Prim.Native.Nat.{ℕ, _+_, _≤_, _<_}
 use native.Mathlib.Omega.{arith}
 use lib.Dec.{T, leb→le, le→leb}
 use lib.ListN.{length, length-append}
@@ -20,7 +20,7 @@ use Rattle.word_spelling.specs.SpellingLaws.{length-spell, length-spell-append,
 use Rattle.row.specs.declared.Encoding.{Encoding}
 use Rattle.row.specs.declared.Encoding.the-variants.{Q, B}
 use Rattle.row.specs.Word.{openingIn, spellIn, word}
-use Rattle.row.specs.Row.{holds, someHolds, fitsRoom, chosen}
+use Rattle.row.specs.Row.{encodings, holds, someHolds, fitsRoom, chosen}
 
 pub or-left : (a b : Bool) → T a → T (a || b)
 or-left true b t = tt
@@ -36,11 +36,6 @@ or-right false b t = t
 spell-in-part : (e : Encoding) (a m b : List ℕ) → length (spellIn e m) ≤ length (spellIn e (a ++ (m ++ b)))
 spell-in-part Q a m b = omega (arith, length-spell-append a (m ++ b), length-spell-append m b)
 spell-in-part B a m b = omega (arith, length-base64 m, length-base64 (a ++ (m ++ b)), length-append a (m ++ b), length-append m b)
-
--- three characters for a byte, and a byte begun
-pub length-spell-in : (e : Encoding) (bytes : List ℕ) → length (spellIn e bytes) ≤ 3 * length bytes + 1
-length-spell-in Q bytes = omega (arith, length-spell bytes)
-length-spell-in B bytes = omega (arith, length-base64 bytes)
 
 pub spell-in-nil : (e : Encoding) → length (spellIn e []) ≡ 0
 unfolding spell inBase64
@@ -63,18 +58,16 @@ length-word-in e bytes = omega (arith, length-append (openingIn e) (spellIn e by
 
 -- ---- a part of what fits
 
--- what each encoding holds as well, one of them does
-some-too : (room room′ : ℕ) (bytes bytes′ : List ℕ) → ((e : Encoding) → length (spellIn e bytes) ≤ room → length (spellIn e bytes′) ≤ room′)
-    → (es : List Encoding) → T (someHolds room bytes es) → T (someHolds room′ bytes′ es)
-some-too room room′ bytes bytes′ h [] t = t
-some-too room room′ bytes bytes′ h (e ∷ es) t =
-    ⊎-elim
-    (λ u. or-left (holds room′ bytes′ e) (someHolds room′ bytes′ es) (le→leb (length (spellIn e bytes′)) room′ (h e (leb→le (length (spellIn e bytes)) room u))))
-    (λ u. or-right (holds room′ bytes′ e) (someHolds room′ bytes′ es) (some-too room room′ bytes bytes′ h es u))
-    (or-yes (holds room bytes e) (someHolds room bytes es) t)
+pub holds-part : (e : Encoding) (room : ℕ) (a m b : List ℕ) → T (holds room (a ++ (m ++ b)) e) → T (holds room m e)
+holds-part e room a m b t = le→leb (length (spellIn e m)) room (omega (arith, leb→le (length (spellIn e (a ++ (m ++ b)))) room t, spell-in-part e a m b))
 
 some-part : (room : ℕ) (a m b : List ℕ) (es : List Encoding) → T (someHolds room (a ++ (m ++ b)) es) → T (someHolds room m es)
-some-part room a m b es t = some-too room room (a ++ (m ++ b)) m (λ e h. omega (arith, h, spell-in-part e a m b)) es t
+some-part room a m b [] t = t
+some-part room a m b (e ∷ es) t =
+    ⊎-elim
+    (λ u. or-left (holds room m e) (someHolds room m es) (holds-part e room a m b u))
+    (λ u. or-right (holds room m e) (someHolds room m es) (some-part room a m b es u))
+    (or-yes (holds room (a ++ (m ++ b)) e) (someHolds room (a ++ (m ++ b)) es) t)
 
 pub fits-part : (es : List Encoding) (room k : ℕ) (d m e : List (List ℕ)) → T (fitsRoom es room k (d ++ (m ++ e))) → T (fitsRoom es room k m)
 fits-part es room k d m e t = some-part room (joined d) (joined m) (joined e) es (rw (joined-append d (m ++ e), joined-append m e) at t)
@@ -101,9 +94,9 @@ char-fits es n room h k c t = rw append-nil (each-holds es room c n (λ e. go e)
     go Q = omega (arith, length-spell c, char-length c t)
     go B = omega (arith, length-base64 c, char-length c t)
 
--- what is held in a room is held in a larger one
-pub some-roomier : (room wider : ℕ) (bytes : List ℕ) (es : List Encoding) → room ≤ wider → T (someHolds room bytes es) → T (someHolds wider bytes es)
-some-roomier room wider bytes es h t = some-too room wider bytes bytes (λ e k. omega (arith, h, k)) es t
+-- a character of any text fits a word: by its first byte it has 8 bytes at most
+pub short-fits : (k : ℕ) (c : List ℕ) → length c ≤ 8 → T (fitsRoom encodings 63 k (c ∷ []))
+short-fits k c h = rw append-nil (or-left (holds 63 c Q) _ (le→leb (length (spellIn Q c)) 63 (omega (arith, h, length-spell c))))
 
 -- ---- the encoding chosen
 

@@ -3,12 +3,17 @@ pub mod Row
 pub mod FitsLaws
 pub mod WordEnd
 pub mod WordEndLaws
+pub mod Choice
+pub mod ChoiceLaws
 pub mod RowLaws
 pub mod Layout
 pub mod LayoutLaws
 pub mod Reading
 pub mod ReadingLaws
+pub mod ReadingCases
 pub mod Demand3
 pub mod Demand3Laws
 pub mod FieldRow
 pub mod FieldRowLaws
+pub mod CounterexampleLaws
+pub mod FieldCounterexampleLaws

@@ -4,9 +4,8 @@ use mathlib.Core.Path.{_≡_, refl, ap}
 use mathlib.Core.Bool.{not}
 use mathlib.Core.List.{List, [], _∷_, _++_, append-nil, map}
 use Prim.Native.Nat.{ℕ, suc, _+_, _-_, _*_, _≤_, _<_}
-use native.Mathlib.Nat.{zero-add}
 use native.Mathlib.Omega.{arith}
-use lib.ListN.{length, drop, length-append}
+use lib.ListN.{length, length-append}
 use lib.Dec.{T, leb, T-not, leb→le, le→leb}
 use mir.Facts.{and-yes, leb-yes, leb-no}
 use borrow.Author.Tests.{le-leb, lt-leb}
@@ -23,7 +22,7 @@ use Rattle.word_spelling.specs.SpellingLaws.{length-spell, cost-some}
 use Rattle.row.specs.declared.Encoding.the-variants.{Q, B}
 use Rattle.row.specs.Word.{spellIn}
 use Rattle.row.specs.Row.{encodings, holds, fitsRoom, runs, chosen, wordIn, lines, rowIn, row, fitsAfter, runsAfter, linesAfter, rowAfterIn, rowAfter, bounded}
-use Rattle.row.specs.FitsLaws.{or-left, or-right, length-word-in, none-fits, chosen-holds}
+use Rattle.row.specs.FitsLaws.{or-left, or-right, length-word-in, short-fits, chosen-holds}
 use Rattle.row.specs.WordEndLaws.{span-none, word-end-q, first-none, cut-later}
 
 pub row-nil : (text : List ℕ) → length text ≡ 0 → row text ≡ []
@@ -73,10 +72,22 @@ word-thrice room bytes =
     by-test (holds room bytes Q)
     (λ t. omega (arith, size, ap (λ e. length (spellIn e bytes)) (cond-yes (holds room bytes Q) Q (chosen (B ∷ []) room bytes) t), length-spell bytes))
     (λ t. by-test (holds room bytes B)
-    (λ u. omega (arith, size, ap (λ e. length (spellIn e bytes)) (cond-no (holds room bytes Q) Q (chosen (B ∷ []) room bytes) t), ap (λ e. length (spellIn e bytes)) (cond-yes (holds room bytes B) B Q u),
-    leb-no {a = cost bytes} {b = room} t, leb→le (length (spellIn B bytes)) room u, length-spell bytes))
-    (λ u. omega (arith, size, ap (λ e. length (spellIn e bytes)) (cond-no (holds room bytes Q) Q (chosen (B ∷ []) room bytes) t), ap (λ e. length (spellIn e bytes)) (cond-no (holds room bytes B) B Q u),
-    length-spell bytes)))
+    (λ u. omega (
+      arith,
+      size,
+      ap (λ e. length (spellIn e bytes)) (cond-no (holds room bytes Q) Q (chosen (B ∷ []) room bytes) t),
+      ap (λ e. length (spellIn e bytes)) (cond-yes (holds room bytes B) B Q u),
+      leb-no {a = cost bytes} {b = room} t,
+      leb→le (length (spellIn B bytes)) room u,
+      length-spell bytes,
+    ))
+    (λ u. omega (
+      arith,
+      size,
+      ap (λ e. length (spellIn e bytes)) (cond-no (holds room bytes Q) Q (chosen (B ∷ []) room bytes) t),
+      ap (λ e. length (spellIn e bytes)) (cond-no (holds room bytes B) B Q u),
+      length-spell bytes,
+    )))
 
 -- what fits a word of 63 characters makes one of 75 at most
 word-short : (k : ℕ) (run : List (List ℕ)) → T (fitsRoom encodings 63 k run) → length (wordIn encodings 63 (joined run)) ≤ 75
@@ -110,11 +121,18 @@ lines-length k run (c ∷ cs) f s =
     rw (cut-more (fitsRoom encodings 63) k run c cs t)
     (omega (arith, lines-length k (run ++ (c ∷ [])) cs t (both .1), ap length (joined-append run (c ∷ [])), length-append (joined run) (joined (c ∷ [])), ap length (append-nil c), length-append c (joined cs))))
     (λ t.
-    let alone : T (fitsRoom encodings 63 (suc k) (c ∷ [])) = rw append-nil (or-left (holds 63 c Q) _ (le→leb (cost c) 63 (omega (arith, small, length-spell c)))) in
     let more = lines encodings 63 (map joined (cut (fitsRoom encodings 63) (suc k) (c ∷ []) cs)) in
     rw (cut-next (fitsRoom encodings 63) k run c cs t)
-    (omega (arith, length-append (13 ∷ 10 ∷ 32 ∷ wordIn encodings 63 (joined run)) more, word-short k run f, over-45 k run c t, small,
-    lines-length (suc k) (c ∷ []) cs alone (both .1), ap length (append-nil c), length-append c (joined cs))))
+    (omega (
+      arith,
+      length-append (13 ∷ 10 ∷ 32 ∷ wordIn encodings 63 (joined run)) more,
+      word-short k run f,
+      over-45 k run c t,
+      small,
+      lines-length (suc k) (c ∷ []) cs (short-fits (suc k) c small) (both .1),
+      ap length (append-nil c),
+      length-append c (joined cs),
+    )))
 
 -- a row takes at most 3 bytes for each byte of its text, and 15 more
 pub length-row-le : (text : List ℕ) → length (row text) ≤ 15 + 3 * length text
@@ -125,8 +143,7 @@ length-row-le text = go (chars text) (chars-short text) (ap length (chars-joined
     go [] s e = omega arith
     go (c ∷ cs) s e =
         let both = and-yes (leb (length c) 8) (all (λ c. leb (length c) 8) cs) s in
-        let alone : T (fitsRoom encodings 63 0 (c ∷ [])) = rw append-nil (or-left (holds 63 c Q) _ (le→leb (cost c) 63 (omega (arith, leb-yes {a = length c} {b = 8} (both .0), length-spell c)))) in
-        omega (arith, e, lines-length 0 (c ∷ []) cs alone (both .1), ap length (append-nil c), length-append c (joined cs))
+        omega (arith, e, lines-length 0 (c ∷ []) cs (short-fits 0 c (leb-yes (both .0))) (both .1), ap length (append-nil c), length-append c (joined cs))
 
 -- the name's line, which may have no word, and the row of the rest
 first-length : (column : ℕ) (l : List ℕ) (ls : List (List ℕ)) → length (linesAfter encodings 63 column (l ∷ ls)) ≤ 13 + 3 * length l + length (lines encodings 63 ls)
@@ -146,8 +163,7 @@ after-length column run (c ∷ cs) s =
     rw (cut-more (fitsAfter encodings 63 column) 0 run c cs t)
     (omega (arith, after-length column (run ++ (c ∷ [])) cs (both .1), ap length (joined-append run (c ∷ [])), length-append (joined run) (joined (c ∷ [])), ap length (append-nil c), length-append c (joined cs))))
     (λ t.
-    let alone : T (fitsRoom encodings 63 0 (c ∷ [])) = rw append-nil (or-left (holds 63 c Q) _ (le→leb (cost c) 63 (omega (arith, leb-yes {a = length c} {b = 8} (both .0), length-spell c)))) in
-    let more = lines-length 0 (c ∷ []) cs alone (both .1) in
+    let more = lines-length 0 (c ∷ []) cs (short-fits 0 c (leb-yes (both .0))) (both .1) in
     rw (cut-next (fitsAfter encodings 63 column) 0 run c cs t, cut-later encodings 63 column 0 0 (c ∷ []) cs)
     (omega (arith, first-length column (joined run) (map joined (cut (fitsRoom encodings 63) 0 (c ∷ []) cs)), more, ap length (append-nil c), length-append c (joined cs))))
 

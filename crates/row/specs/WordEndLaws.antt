@@ -3,30 +3,27 @@ use mathlib.Core.Path.{_≡_, refl, sym, ap, _∙_}
 use mathlib.Core.Bool.{Bool, true, false, not, _||_}
 use mathlib.Core.List.{List, [], _∷_, _++_, append-assoc, append-nil, map}
 use Prim.Native.Nat.{ℕ, zero, suc, _+_, _-_, _*_, _/_, _≤_, _<_, min}
-use native.Mathlib.Nat.{zero-add}
 use native.Mathlib.Numerals.{unary-clauses}
 use native.Mathlib.Omega.{arith}
-use lib.Dec.{T, leb, T-not, leb→le, le→leb}
+use lib.Dec.{T, leb, T-not, le→leb}
 use lib.ListN.{length, take, drop, getD, length-append, length-take, length-drop}
 use lib.Seq.{take-add, drop-drop}
 use mir.Facts.{and-yes, leb-yes, no-leb}
 use Rattle.lists.specs.Lists.{all, nonempty, joined}
-use Rattle.lists.specs.ListsLaws.{cond-yes, cond-no, all-weaken, joined-append}
+use Rattle.lists.specs.ListsLaws.{cond-yes, cond-no, joined-append}
 use Rattle.utf8.specs.Utf8.{charLen, chars}
 use Rattle.utf8.specs.Utf8Laws.{chars-short, chars-some, chars-at, chars-end, char-len-some}
 use Rattle.cut.specs.Cut.{cut}
 use Rattle.cut.specs.CutLaws.{cut-run, linesBelow, Full, cut-full}
-use Rattle.base64.specs.Base64.{base64Length}
 use Rattle.base64.specs.Base64Laws.{length-base64}
-use Rattle.word_spelling.specs.Spelling.{spell}
 use Rattle.word_spelling.specs.Cost.{cost}
-use Rattle.word_spelling.specs.SpellingLaws.{length-spell, length-spell-joined}
+use Rattle.word_spelling.specs.SpellingLaws.{length-spell-joined}
 use Rattle.word_spelling.specs.HighCharLaws.{char-cut}
 use Rattle.row.specs.declared.Encoding.{Encoding}
 use Rattle.row.specs.declared.Encoding.the-variants.{Q, B}
 use Rattle.row.specs.Word.{spellIn, word}
 use Rattle.row.specs.Row.{encodings, holds, fitsRoom, runs, chosen, lines, rowIn, row, fitsAfter, runsAfter, linesAfter, rowAfterIn, rowAfter}
-use Rattle.row.specs.FitsLaws.{or-left, or-right, fits-part, chosen-holds}
+use Rattle.row.specs.FitsLaws.{or-left, or-right, fits-part, short-fits, chosen-holds}
 use Rattle.row.specs.WordEnd.{Span, WordEnd}
 
 -- ---- the lines of a row, one after another
@@ -176,11 +173,9 @@ module _ {room : ℕ} {s : List ℕ} {i e : ℕ} {k : Encoding} (w : WordEnd roo
   pub word-small : length (spellIn k (between s i e)) ≤ room
   word-small = rw (w .kind) (chosen-holds encodings room (between s i e) (rw (w .span .bytes) at (w .fits)) .small)
 
--- a character by itself fits a later word: it has 8 bytes at most, whatever the text
 one-fits : (text c : List ℕ) (cs : List (List ℕ)) → chars text ≡ c ∷ cs → T (fitsRoom encodings 63 0 (c ∷ []))
 one-fits text c cs e =
-    let small : length c ≤ 8 = leb-yes (and-yes (leb (length c) 8) (all (λ c. leb (length c) 8) cs) (rw e at (chars-short text)) .0) in
-    rw append-nil (or-left (holds 63 c Q) _ (le→leb (cost c) 63 (omega (arith, small, length-spell c))))
+    short-fits 0 c (leb-yes (and-yes (leb (length c) 8) (all (λ c. leb (length c) 8) cs) (rw e at (chars-short text)) .0))
 
 module _ {s : List ℕ} {i e : ℕ} {k : Encoding} (w : WordEnd 63 s i e k) (h : i < length s) where
   some-run : (run : List (List ℕ)) → chars (drop i s) ≡ run ++ chars (drop e s) → Full (fitsRoom encodings 63) 0 run (chars (drop e s)) → T (nonempty run)
