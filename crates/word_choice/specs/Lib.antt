@@ -2,3 +2,4 @@ pub mod Choice
 pub mod BlockLaws
 pub mod ChoiceLaws
 pub mod RegularLaws
+pub mod EndInQLaws
