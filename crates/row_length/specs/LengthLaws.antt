@@ -103,9 +103,9 @@ module _ (column : ℕ) {s : List ℕ} {e n : ℕ} (w : WordAt (63 - column) s e
   }
 
 -- a word on a line of its own
-module _ (s : List ℕ) (i whole n : ℕ) {e m : ℕ} (h : i < length s) (w : WordAt 63 (take (length s - i) (drop i s)) e m) where
-  pub measured-on : n + length (row (drop i s)) ≡ whole → n + (15 + m) + length (row (drop (i + e) s)) ≡ whole
-  measured-on k =
+module _ (s : List ℕ) (i : ℕ) {e m : ℕ} (h : i < length s) (w : WordAt 63 (take (length s - i) (drop i s)) e m) where
+  pub measured-on : (whole n : ℕ) → n + length (row (drop i s)) ≡ whole → n + (15 + m) + length (row (drop (i + e) s)) ≡ whole
+  measured-on whole n k =
       let bytes = between (take (length s - i) (drop i s)) 0 e in
       omega (
         arith,

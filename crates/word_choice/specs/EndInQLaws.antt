@@ -22,7 +22,9 @@ use Rattle.row.specs.Word.{spellIn, word}
 use Rattle.row.specs.Row.{holds, row, rowAfter}
 use Rattle.row.specs.WordEnd.{Span, WordEnd}
 use Rattle.row.specs.WordEndLaws.{span-none, span-char, span-join, between, word-end-q, word-small, line-step, line-more}
-use Rattle.word_choice.specs.Choice.{AlsoInQ}
+use Rattle.word_choice.specs.Choice.{AlsoInQ, Chosen}
+use Rattle.word_choice.specs.declared.Choice.{Choice}
+use Rattle.word_choice.specs.declared.Choice.the-variants.{InQ, InB}
 use Rattle.word_choice.specs.ChoiceLaws.{bytesInB, front-bytes}
 
 -- bytes from place to place, one after another
@@ -127,6 +129,20 @@ word-b-size {room} {s} {e} w =
 
 pub word-at-small : {room : ℕ} {s : List ℕ} {e n : ℕ} → WordAt room s e n → n ≤ room
 word-at-small w = omega (arith, w .size, word-small (w .end))
+
+-- by the choice, in a room of 63 at most
+pub chosen-q : {room : ℕ} {s : List ℕ} {k : Choice} → room ≤ 63 → k ≡ InQ → Chosen (min room 63) s k → AlsoInQ room s
+chosen-q {room} {s} h e a = let same : min room 63 ≡ room = omega arith in rw same at (rw e at a)
+
+pub chosen-b : {room : ℕ} {s : List ℕ} {k : Choice} {e : ℕ} → room ≤ 63 → k ≡ InB e → Chosen (min room 63) s k → WordEnd room s 0 e B
+chosen-b {room} {s} h e a = let same : min room 63 ≡ room = omega arith in rw same at (rw e at a)
+
+-- a word in B holds at most 45 bytes
+pub word-b-end : {room : ℕ} {s : List ℕ} {e : ℕ} → room ≤ 63 → WordEnd room s 0 e B → e ≤ 45
+word-b-end h w = omega (arith, h, word-b-size w, word-small w)
+
+pub word-at-b : {room : ℕ} {s : List ℕ} {e : ℕ} → WordEnd room s 0 e B → WordAt room s e ((e + 2) / 3 * 4)
+word-at-b w = record { kind = B; end = w; size = omega (arith, word-b-size w) }
 
 -- what is left of a text, as it is lent
 pub rest-is : (s : List ℕ) (i : ℕ) → take (length s - i) (drop i s) ≡ drop i s
