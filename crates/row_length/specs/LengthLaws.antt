@@ -48,7 +48,7 @@ stepped-ascii s i left m h a e =
     stepped-char s i left (i + 1) m h (omega (arith, ascii-len (getD s i 0) a)) (cost-one (getD s i 0) m e ∙ ap cost (sym (one-byte s i h)))
 
 -- some, and more after them, which what is left holds together
-stepped-join : {s : List ℕ} {i left e e′ m m′ : ℕ} → Stepped s i left e m → Stepped s e left e′ m′ → m + m′ ≤ left → m + m′ ≤ 63 → Stepped s i left e′ (m + m′)
+pub stepped-join : {s : List ℕ} {i left e e′ m m′ : ℕ} → Stepped s i left e m → Stepped s e left e′ m′ → m + m′ ≤ left → m + m′ ≤ 63 → Stepped s i left e′ (m + m′)
 stepped-join {s} {i} {left} {e} {e′} p q h k = record {
   span = span-join (p .span) (q .span);
   more = omega (arith, p .more, q .more);

@@ -28,7 +28,7 @@ use Rattle.word_choice.specs.declared.Choice.the-variants.{InQ, InB}
 use Rattle.word_choice.specs.ChoiceLaws.{bytesInB, front-bytes}
 
 -- bytes from place to place, one after another
-between-join : (s : List ℕ) (i e e′ : ℕ) → i ≤ e → e ≤ e′ → between s i e′ ≡ between s i e ++ between s e e′
+pub between-join : (s : List ℕ) (i e e′ : ℕ) → i ≤ e → e ≤ e′ → between s i e′ ≡ between s i e ++ between s e e′
 between-join s i e e′ h k =
     let size : e - i + (e′ - e) ≡ e′ - i = omega arith in
     let there : i + (e - i) ≡ e = omega arith in
