@@ -1,3 +1,8 @@
+use Rattle.encoded_word.specs.WritingLaws.{put-stop, put-high, escapes-two, escapes-three, escapes-four}
+use Rattle.row_length.specs.LengthLaws.{stepped-high}
+use Rattle.buffer.specs.BufferLaws.{appended-then}
+use native.Mathlib.Omega.{arith}
+use mathlib.Core.Path.{_≡_, refl}
 use borrow.Author.Needs.{needs}
 use Rattle.encoded_word.proofs.character.put_whole.Statement.{statement}
 use Rattle.encoded_word.proofs.character.put_whole.Tie as tie
@@ -12,7 +17,7 @@ mul-m c = search needs
 
 -- src/character.rt:110:9
 returns : tie.Need-returns
-returns c = ?
+returns c = put-stop (stepped-high (omega arith) (c .before .before .before .pre .4)) (c .if1 .taken)
 
 -- src/character.rt:113:16
 add-next : tie.Need-add-next
@@ -40,7 +45,8 @@ same-length c = search needs
 
 -- src/character.rt:119:9
 returns-2 : tie.Need-returns-2
-returns-2 c = ?
+returns-2 c = let size : c .before .before .before .before .before .before .before .before .before .before .args .n ≡ 2 = c .if2 .taken in
+    put-high _ _ _ _ _ (omega arith) (c .before .before .before .before .before .before .before .before .before .before .pre .4) _ (rw size (escapes-two (c .before .before .before .before .before .before .before .before .before .before .args .s .now) (c .before .before .before .before .before .before .before .before .before .before .args .i) (omega arith))) (c .before .before .before .before .before .before .before .if1 .left) refl (c .before .before .before .put-escapes .ensures)
 
 -- src/character.rt:125:13
 add-k : tie.Need-add-k
@@ -60,7 +66,8 @@ same-length-2 c = search needs
 
 -- src/character.rt:128:9
 returns-3 : tie.Need-returns-3
-returns-3 c = ?
+returns-3 c = let size : c .before .before .before .before .before .before .before .before .before .before .before .before .before .before .before .before .args .n ≡ 3 = c .if3 .taken in
+    put-high _ _ _ _ _ (omega arith) (c .before .before .before .before .before .before .before .before .before .before .before .before .before .before .before .before .pre .4) _ (rw size (escapes-three (c .before .before .before .before .before .before .before .before .before .before .before .before .before .before .before .before .args .s .now) (c .before .before .before .before .before .before .before .before .before .before .before .before .before .before .before .before .args .i) (omega arith))) (c .before .before .before .before .before .before .before .before .before .before .before .before .before .if1 .left) refl (appended-then (c .before .before .before .before .before .before .before .before .before .put-escapes .ensures) (c .before .before .before .put-escape .ensures))
 
 -- src/character.rt:134:13
 add-l : tie.Need-add-l
@@ -80,7 +87,8 @@ same-length-3 c = search needs
 
 -- src/character.rt:104:1
 returns-4 : tie.Need-returns-4
-returns-4 c = ?
+returns-4 c = let size : c .before .before .before .before .before .before .before .before .before .before .before .before .before .before .before .before .before .before .before .before .before .args .n ≡ 4 = omega arith in
+    put-high _ _ _ _ _ (omega arith) (c .before .before .before .before .before .before .before .before .before .before .before .before .before .before .before .before .before .before .before .before .before .pre .4) _ (rw size (escapes-four (c .before .before .before .before .before .before .before .before .before .before .before .before .before .before .before .before .before .before .before .before .before .args .s .now) (c .before .before .before .before .before .before .before .before .before .before .before .before .before .before .before .before .before .before .before .before .before .args .i) (omega arith))) (c .before .before .before .before .before .before .before .before .before .before .before .before .before .before .before .before .before .before .if1 .left) refl (appended-then (appended-then (c .before .before .before .before .before .before .before .before .before .before .before .before .before .before .put-escapes .ensures) (c .before .before .before .before .before .before .before .before .put-escape .ensures)) (c .before .before .put-escape2 .ensures))
 
 pub put-whole-spec : {M : Type 1} → statement M
 put-whole-spec =

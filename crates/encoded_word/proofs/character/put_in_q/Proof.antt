@@ -1,0 +1,58 @@
+use Rattle.encoded_word.proofs.character.put_in_q.Statement.{statement}
+use Rattle.encoded_word.proofs.character.put_in_q.Tie as tie
+use Rattle.encoded_word.proofs.character.put_in_q.Reads as reads
+use Rattle.encoded_word.proofs.character.put_in_q.Lts as lts
+use Rattle.encoded_word.proofs.character.put_next.Reads as put-next-reads
+
+abbrev Inv-loop : tie.InvT-loop
+Inv-loop first out₀ start room s i₀ left₀ at₀ out i left at = ?
+
+abbrev μ-loop : tie.MeasureT-loop
+μ-loop first out₀ start room s i₀ left₀ at₀ out i left at = ?
+
+-- src/character.rt:186:5
+loop-holds : tie.Need-loop-holds Inv-loop μ-loop
+loop-holds c = ?
+
+-- src/character.rt:187:13
+put-next-requires : tie.Need-put-next-requires Inv-loop μ-loop
+put-next-requires c κs = ?
+
+-- src/character.rt:191:13
+same-length : tie.Need-same-length Inv-loop μ-loop
+same-length c = ?
+
+-- src/character.rt:191:13
+returns : tie.Need-returns Inv-loop μ-loop
+returns c = ?
+
+-- src/character.rt:186:5
+loop-less : tie.Need-loop-less Inv-loop μ-loop
+loop-less c = ?
+
+-- src/character.rt:186:5
+loop-again : tie.Need-loop-again Inv-loop μ-loop
+loop-again c = ?
+
+-- src/character.rt:173:1
+same-length-2 : tie.Need-same-length-2 Inv-loop μ-loop
+same-length-2 c = ?
+
+-- src/character.rt:173:1
+returns-2 : tie.Need-returns-2 Inv-loop μ-loop
+returns-2 c = ?
+
+pub put-in-q-spec : {M : Type 1} → statement M
+put-in-q-spec =
+    tie.close
+    (tie.spec
+    Inv-loop
+    μ-loop
+    loop-holds
+    put-next-requires
+    same-length
+    returns
+    loop-less
+    loop-again
+    same-length-2
+    returns-2)
