@@ -1,0 +1,78 @@
+use Rattle.encoded_word.proofs.line.put_lines.Statement.{statement}
+use Rattle.encoded_word.proofs.line.put_lines.Tie as tie
+use Rattle.encoded_word.proofs.line.put_lines.Reads as reads
+use Rattle.encoded_word.proofs.line.put_lines.Lts as lts
+use Rattle.encoded_word.proofs.word.put_line.Reads as put-line-reads
+
+abbrev Inv-loop : tie.InvT-loop
+Inv-loop first out₀ start text begin i₀ at₀ last out i at = ?
+
+abbrev μ-loop : tie.MeasureT-loop
+μ-loop first out₀ start text begin i₀ at₀ last out i at = ?
+
+-- src/line.rt:48:20
+sub-last : tie.Need-sub-last Inv-loop μ-loop
+sub-last c = ?
+
+-- src/line.rt:49:9
+loop-holds : tie.Need-loop-holds Inv-loop μ-loop
+loop-holds c = ?
+
+-- src/line.rt:50:46
+sub-put-line : tie.Need-sub-put-line Inv-loop μ-loop
+sub-put-line c = ?
+
+-- src/line.rt:50:46
+part-put-line-start : tie.Need-part-put-line-start Inv-loop μ-loop
+part-put-line-start c = ?
+
+-- src/line.rt:50:46
+part-put-line-end : tie.Need-part-put-line-end Inv-loop μ-loop
+part-put-line-end c = ?
+
+-- src/line.rt:50:17
+put-line-requires : tie.Need-put-line-requires Inv-loop μ-loop
+put-line-requires c κs = ?
+
+-- src/line.rt:51:13
+add-i : tie.Need-add-i Inv-loop μ-loop
+add-i c = ?
+
+-- src/line.rt:49:9
+loop-less : tie.Need-loop-less Inv-loop μ-loop
+loop-less c = ?
+
+-- src/line.rt:49:9
+loop-again : tie.Need-loop-again Inv-loop μ-loop
+loop-again c = ?
+
+-- src/line.rt:35:1
+same-length : tie.Need-same-length Inv-loop μ-loop
+same-length c = ?
+
+-- src/line.rt:35:1
+returns : tie.Need-returns Inv-loop μ-loop
+returns c = ?
+
+-- src/line.rt:35:1
+returns-2 : tie.Need-returns-2 Inv-loop μ-loop
+returns-2 c = ?
+
+pub put-lines-spec : {M : Type 1} → statement M
+put-lines-spec =
+    tie.close
+    (tie.spec
+    Inv-loop
+    μ-loop
+    sub-last
+    loop-holds
+    sub-put-line
+    part-put-line-start
+    part-put-line-end
+    put-line-requires
+    add-i
+    loop-less
+    loop-again
+    same-length
+    returns
+    returns-2)

@@ -1,0 +1,73 @@
+use borrow.Author.Needs.{needs}
+use Rattle.encoded_word.proofs.word.put_word.Statement.{statement}
+use Rattle.encoded_word.proofs.word.put_word.Tie as tie
+use Rattle.encoded_word.proofs.word.put_word.Reads as reads
+use Rattle.encoded_word.proofs.word.put_word.Lts as lts
+use Rattle.encoded_word.proofs.word.put_word_in_b.Reads as put-word-in-b-reads
+use Rattle.encoded_word.proofs.word.put_word_in_q.Reads as put-word-in-q-reads
+use Rattle.word_choice.proofs.choose.Reads as choose-reads
+
+-- src/word.rt:88:9
+choose-requires : tie.Need-choose-requires
+choose-requires c κs = search needs
+
+-- src/word.rt:90:45
+enum-told : tie.Need-enum-told
+enum-told c = search needs
+
+-- src/word.rt:90:24
+put-word-in-q-requires : tie.Need-put-word-in-q-requires
+put-word-in-q-requires c κs = search needs
+
+-- src/word.rt:91:21
+enum-known-choice : tie.Need-enum-known-choice
+enum-known-choice c = search needs
+
+-- src/word.rt:93:40
+sub-put-word-in-b : tie.Need-sub-put-word-in-b
+sub-put-word-in-b c = search needs
+
+-- src/word.rt:93:40
+part-put-word-in-b-start : tie.Need-part-put-word-in-b-start
+part-put-word-in-b-start c = search needs
+
+-- src/word.rt:93:40
+part-put-word-in-b-end : tie.Need-part-put-word-in-b-end
+part-put-word-in-b-end c = ?
+
+-- src/word.rt:93:17
+put-word-in-b-requires : tie.Need-put-word-in-b-requires
+put-word-in-b-requires c κs = ?
+
+-- src/word.rt:78:1
+same-length : tie.Need-same-length
+same-length c = search needs
+
+-- src/word.rt:78:1
+returns : tie.Need-returns
+returns c = ?
+
+-- src/word.rt:78:1
+same-length-2 : tie.Need-same-length-2
+same-length-2 c = search needs
+
+-- src/word.rt:78:1
+returns-2 : tie.Need-returns-2
+returns-2 c = ?
+
+pub put-word-spec : {M : Type 1} → statement M
+put-word-spec =
+    tie.close
+    (tie.spec
+    choose-requires
+    enum-told
+    put-word-in-q-requires
+    enum-known-choice
+    sub-put-word-in-b
+    part-put-word-in-b-start
+    part-put-word-in-b-end
+    put-word-in-b-requires
+    same-length
+    returns
+    same-length-2
+    returns-2)
