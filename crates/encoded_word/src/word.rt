@@ -95,15 +95,24 @@ pub(crate) fn put_word(
     }
 }
 
-// The same on a line of its own: after CRLF and one space.
-pub(crate) fn put_line(first: &[u8; 256], out: &mut [u8], at: usize, s: &[u8]) -> Put
-    requires { ⌜ (now first ≡ firstChars) × (at + 78 ≤ length (now out)) ⌝ }
-    ensures { λ r. ⌜ PutLine (now (s .entry)) at (now (out .entry)) (now (out .exit)) (r .end) (r .at) ⌝ }
+// Writes CRLF and one space.
+fn put_break(out: &mut [u8], at: usize) -> usize
+    requires { ⌜ at + 3 ≤ length (now out) ⌝ }
+    ensures { λ r. ⌜ Appended (13 ∷ 10 ∷ 32 ∷ []) at (now (out .entry)) (now (out .exit)) r ⌝ }
 {
     let second = at + 1;
     let third = second + 1;
     out[at] = 13;
     out[second] = 10;
     out[third] = 32;
-    put_word(first, out, third + 1, 63, s)
+    third + 1
+}
+
+// The word on a line of its own.
+pub(crate) fn put_line(first: &[u8; 256], out: &mut [u8], at: usize, s: &[u8]) -> Put
+    requires { ⌜ (now first ≡ firstChars) × (at + 78 ≤ length (now out)) ⌝ }
+    ensures { λ r. ⌜ PutLine (now (s .entry)) at (now (out .entry)) (now (out .exit)) (r .end) (r .at) ⌝ }
+{
+    let started = put_break(out, at);
+    put_word(first, out, started, 63, s)
 }
