@@ -9,8 +9,8 @@ ghost use Rattle.word_spelling.specs.FirstChars.{firstChars};
 ghost use Rattle.row.specs.Word.{word};
 ghost use Rattle.row.specs.declared.Encoding.the-variants.{B};
 ghost use Rattle.encoded_word.specs.Writing.{PutWordInQ, PutWord, PutLine};
-use crate::character::put_in_q;
 use crate::character::Put;
+use crate::character::put_in_q;
 use word_choice::Choice;
 
 // Writes `=?UTF-8?`, the encoding's letter, and `?`.
@@ -75,13 +75,7 @@ fn put_word_in_b(out: &mut [u8], at: usize, bytes: &[u8]) -> usize
 }
 
 // The word at the front of a text.
-pub(crate) fn put_word(
-    first: &[u8; 256],
-    out: &mut [u8],
-    at: usize,
-    room: usize,
-    s: &[u8],
-) -> Put
+pub(crate) fn put_word(first: &[u8; 256], out: &mut [u8], at: usize, room: usize, s: &[u8]) -> Put
     requires { ⌜ (now first ≡ firstChars) × (room ≤ 63) × (at + 75 ≤ length (now out)) ⌝ }
     ensures { λ r. ⌜ PutWord room (now (s .entry)) at (now (out .entry)) (now (out .exit)) (r .end) (r .at) ⌝ }
 {

@@ -1,3 +1,6 @@
+use Rattle.encoded_word.specs.WritingLaws.{row-written}
+use Rattle.row.specs.RowLaws.{row-after-long, bounded-short}
+use Rattle.buffer.specs.BufferLaws.{wrote-empty, wrote-nothing}
 use borrow.Author.Needs.{needs}
 use Rattle.encoded_word.proofs.write_after.Statement.{statement}
 use Rattle.encoded_word.proofs.write_after.Tie as tie
@@ -15,11 +18,11 @@ len-after-requires c κs = search needs
 
 -- src/lib.rt:24:9
 returns : tie.Need-returns
-returns c = ?
+returns c = wrote-empty (c .before .if1 .taken) (c .len-after .ensures)
 
 -- src/lib.rt:27:9
 returns-2 : tie.Need-returns-2
-returns-2 c = ?
+returns-2 c = rw (row-after-long _ _ (c .if2 .taken)) (wrote-nothing _)
 
 -- src/lib.rt:29:17
 first-chars-requires : tie.Need-first-chars-requires
@@ -43,7 +46,7 @@ same-length c = search needs
 
 -- src/lib.rt:20:1
 returns-3 : tie.Need-returns-3
-returns-3 c = ?
+returns-3 c = rw (bounded-short _ (c .before .before .before .before .before .before .before .before .before .before .before .before .before .before .before .before .if2 .left)) (row-written (c .before .before .before .before .before .before .before .before .before .before .before .before .before .before .before .before .if2 .left) (c .before .before .before .before .before .before .before .before .before .before .before .before .add-first .ensures) (c .before .before .before .before .before .before .before .put-lines .ensures) (c .before .before .add-lines .ensures))
 
 pub write-after-spec : {M : Type 1} → statement M
 write-after-spec =

@@ -71,8 +71,11 @@ loop-less c = omega (arith, line-some (c .before .before .before .before .before
 
 -- src/line.rt:75:5
 loop-again : tie.Need-loop-again Inv-loop μ-loop
-loop-again c = (line-some (c .before .before .before .before .before .before .before .before .before .before .before .before .before .before .before .args .text .now) (c .before .before .before .before .before .before .before .before .before .before .before .loop .i) (c .before .before .before .before .before .before .before .before .before .before .loop-test .taken) (c .before .before .before .before .before .before .before .put-line .ensures) .1, length-appended (c .before .before .before .before .before .before .before .put-line .ensures .wrote) ∙ c .before .before .before .before .before .before .before .before .before .before .before .loop .inv .1,
-    copied-on (c .before .before .before .before .before .before .before .before .before .before .before .before .before .before .before .args .text .now) (c .before .before .before .before .before .before .before .before .before .before .before .loop .i) (c .before .before .before .before .before .before .before .before .before .before .before .loop .inv .2) (c .before .before .before .before .before .before .before .before .before .before .loop-test .taken) (c .before .before .before .before .before .before .before .put-line .ensures) (omega (arith, line-length (c .before .before .before .before .before .before .before .put-line .ensures), c .before .before .before .before .before .before .before .before .before .before .before .loop .inv .1)) (c .before .before .before .add-slice .ensures) (omega arith))
+loop-again c = (
+  line-some (c .before .before .before .before .before .before .before .before .before .before .before .before .before .before .before .args .text .now) (c .before .before .before .before .before .before .before .before .before .before .before .loop .i) (c .before .before .before .before .before .before .before .before .before .before .loop-test .taken) (c .before .before .before .before .before .before .before .put-line .ensures) .1,
+  length-appended (c .before .before .before .before .before .before .before .put-line .ensures .wrote) ∙ c .before .before .before .before .before .before .before .before .before .before .before .loop .inv .1,
+  copied-on (c .before .before .before .before .before .before .before .before .before .before .before .before .before .before .before .args .text .now) (c .before .before .before .before .before .before .before .before .before .before .before .loop .i) (c .before .before .before .before .before .before .before .before .before .before .before .loop .inv .2) (c .before .before .before .before .before .before .before .before .before .before .loop-test .taken) (c .before .before .before .before .before .before .before .put-line .ensures) (omega (arith, line-length (c .before .before .before .before .before .before .before .put-line .ensures), c .before .before .before .before .before .before .before .before .before .before .before .loop .inv .1)) (c .before .before .before .add-slice .ensures) (omega arith),
+)
 
 -- src/line.rt:59:1
 same-length : tie.Need-same-length Inv-loop μ-loop

@@ -1,3 +1,7 @@
+use native.Mathlib.Omega.{arith}
+use mathlib.Core.List.{[], _∷_}
+use lib.ListN.{length-set}
+use Rattle.buffer.specs.BufferLaws.{stores, appended-stores}
 use borrow.Author.Needs.{needs}
 use Rattle.encoded_word.proofs.word.put_break.Statement.{statement}
 use Rattle.encoded_word.proofs.word.put_break.Tie as tie
@@ -18,11 +22,11 @@ slice-write-out c = search needs
 
 -- src/word.rt:106:5
 slice-write-out-2 : tie.Need-slice-write-out-2
-slice-write-out-2 c = ?
+slice-write-out-2 c = simp length-set (omega arith)
 
 -- src/word.rt:107:5
 slice-write-out-3 : tie.Need-slice-write-out-3
-slice-write-out-3 c = ?
+slice-write-out-3 c = simp length-set (omega arith)
 
 -- src/word.rt:108:5
 add-result : tie.Need-add-result
@@ -34,7 +38,8 @@ same-length c = search needs
 
 -- src/word.rt:99:1
 returns : tie.Need-returns
-returns c = ?
+unfolding stores
+returns c = appended-stores (13 ∷ 10 ∷ 32 ∷ []) _ _ _ (omega arith)
 
 pub put-break-spec : {M : Type 1} → statement M
 put-break-spec =

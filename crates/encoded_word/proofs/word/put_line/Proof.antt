@@ -1,3 +1,4 @@
+use Rattle.encoded_word.specs.WritingLaws.{line-written}
 use borrow.Author.Needs.{needs}
 use Rattle.encoded_word.proofs.word.put_line.Statement.{statement}
 use Rattle.encoded_word.proofs.word.put_line.Tie as tie
@@ -20,7 +21,7 @@ same-length c = search needs
 
 -- src/word.rt:112:1
 returns : tie.Need-returns
-returns c = ?
+returns c = line-written (c .before .before .before .before .before .before .put-break .ensures) (c .before .before .put-word .ensures)
 
 pub put-line-spec : {M : Type 1} → statement M
 put-line-spec = tie.close (tie.spec put-break-requires put-word-requires same-length returns)
