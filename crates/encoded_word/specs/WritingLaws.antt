@@ -26,6 +26,7 @@ use Rattle.row.specs.FitsLaws.{length-word-in}
 use Rattle.row.specs.WordEnd.{Span, WordEnd}
 use Rattle.row.specs.WordEndLaws.{span-none, span-join, between, word-small, row-end, first-step, first-none}
 use Rattle.row.specs.RowLaws.{row-after-none, length-row-after-le}
+use Rattle.word_choice.specs.Choice.{AlsoInQ}
 use Rattle.word_choice.specs.EndInQLaws.{Stepped, SoFarInQ, EndInQ, between-join, cost-join, q-start, word-in-q, rest-step, rest-more, rest-within}
 use Rattle.row_length.specs.LengthLaws.{stepped-ascii, stepped-join, stepped-high}
 use Rattle.encoded_word.specs.Writing.{PutTurn, PutInQ, PutWordInQ, PutWord, PutLine, Begun, Ran}
@@ -173,6 +174,15 @@ pub word-written-b : (bytes : List ℕ) {at a n r : ℕ} {before started mid aft
     → AppendedCapped (inBase64 bytes) a started mid n → a + length (inBase64 bytes) ≤ greatest → Appended closing n mid after r → Appended (word B bytes) at before after r
 unfolding word
 word-written-b bytes o p h c = appended-then o (appended-then (appended-of p h) c)
+
+-- by the choice
+pub put-word-q : {room : ℕ} {s : List ℕ} {at : ℕ} {before after : List ℕ} {e n : ℕ} → AlsoInQ room s → PutWordInQ room s at before after e n
+    → PutWord room s at before after e n
+put-word-q a w = record { kind = Q; end = word-in-q a (w .end); wrote = w .wrote }
+
+pub put-word-b : {room : ℕ} {s : List ℕ} {at : ℕ} {before after : List ℕ} {e n : ℕ} → WordEnd room s 0 e B → Appended (word B (between s 0 e)) at before after n
+    → PutWord room s at before after e n
+put-word-b w a = record { kind = B; end = w; wrote = a }
 
 -- a word is no longer than its room and 12
 pub word-length : {room : ℕ} {s : List ℕ} {at : ℕ} {before after : List ℕ} {e n : ℕ} → PutWord room s at before after e n → n ≤ at + 12 + room

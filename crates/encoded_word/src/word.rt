@@ -9,8 +9,8 @@ ghost use Rattle.word_spelling.specs.FirstChars.{firstChars};
 ghost use Rattle.row.specs.Word.{word};
 ghost use Rattle.row.specs.declared.Encoding.the-variants.{B};
 ghost use Rattle.encoded_word.specs.Writing.{PutWordInQ, PutWord, PutLine};
-use crate::character::put_in_q;
 use crate::character::Put;
+use crate::character::put_in_q;
 use word_choice::Choice;
 
 // Writes `=?UTF-8?`, the encoding's letter, and `?`.
@@ -75,13 +75,7 @@ fn put_word_in_b(out: &mut [u8], at: usize, bytes: &[u8]) -> usize
 }
 
 // The word at the front of a text.
-pub(crate) fn put_word(
-    first: &[u8; 256],
-    out: &mut [u8],
-    at: usize,
-    room: usize,
-    s: &[u8],
-) -> Put
+pub(crate) fn put_word(first: &[u8; 256], out: &mut [u8], at: usize, room: usize, s: &[u8]) -> Put
     requires { ⌜ (now first ≡ firstChars) × (room ≤ 63) × (at + 75 ≤ length (now out)) ⌝ }
     ensures { λ r. ⌜ PutWord room (now (s .entry)) at (now (out .entry)) (now (out .exit)) (r .end) (r .at) ⌝ }
 {
@@ -95,15 +89,24 @@ pub(crate) fn put_word(
     }
 }
 
-// The same on a line of its own: after CRLF and one space.
-pub(crate) fn put_line(first: &[u8; 256], out: &mut [u8], at: usize, s: &[u8]) -> Put
-    requires { ⌜ (now first ≡ firstChars) × (at + 78 ≤ length (now out)) ⌝ }
-    ensures { λ r. ⌜ PutLine (now (s .entry)) at (now (out .entry)) (now (out .exit)) (r .end) (r .at) ⌝ }
+// Writes CRLF and one space.
+fn put_break(out: &mut [u8], at: usize) -> usize
+    requires { ⌜ at + 3 ≤ length (now out) ⌝ }
+    ensures { λ r. ⌜ Appended (13 ∷ 10 ∷ 32 ∷ []) at (now (out .entry)) (now (out .exit)) r ⌝ }
 {
     let second = at + 1;
     let third = second + 1;
     out[at] = 13;
     out[second] = 10;
     out[third] = 32;
-    put_word(first, out, third + 1, 63, s)
+    third + 1
+}
+
+// The word on a line of its own.
+pub(crate) fn put_line(first: &[u8; 256], out: &mut [u8], at: usize, s: &[u8]) -> Put
+    requires { ⌜ (now first ≡ firstChars) × (at + 78 ≤ length (now out)) ⌝ }
+    ensures { λ r. ⌜ PutLine (now (s .entry)) at (now (out .entry)) (now (out .exit)) (r .end) (r .at) ⌝ }
+{
+    let started = put_break(out, at);
+    put_word(first, out, started, 63, s)
 }

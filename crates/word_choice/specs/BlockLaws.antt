@@ -192,7 +192,7 @@ pub placed-next : {s : List ℕ} {ok : Bool} (k : ℕ) → Placed s (k + 2) ok
     → Placed s (k + 1 + 2) (ok && placed (getD s k 0) (getD s (k + 1) 0) (getD s (k + 1 + 1) 0))
 placed-next {s} {ok} k p = record {
   each = λ e j h. let q = both-true ok (placed (getD s k 0) (getD s (k + 1) 0) (getD s (k + 1 + 1) 0)) e in
-    by-test (eqb j (k + 2)) (λ t. rw (eqb→eq j (k + 2) t) (last (true-yes _ (q .1)))) (λ t. p .each (q .0) j (omega (arith, eqb-no {a = j} {b = k + 2} t)));
+      by-test (eqb j (k + 2)) (λ t. rw (eqb→eq j (k + 2) t) (last (true-yes _ (q .1)))) (λ t. p .each (q .0) j (omega (arith, eqb-no {a = j} {b = k + 2} t)));
 }
   where
     last : T (placed (getD s k 0) (getD s (k + 1) 0) (getD s (k + 1 + 1) 0)) → T (placed (getD (0 ∷ 0 ∷ s) (k + 2) 0) (getD (0 ∷ s) (k + 2) 0) (getD s (k + 2) 0))

@@ -92,7 +92,7 @@ last-in-b {limit} {s} {b} f e p h =
       length-span (f .span),
       length-span p,
       order (f .span .run) (p .run) (chars (drop b s)) (chars (drop e s)) 0 limit (sym (f .span .joins) ∙ p .joins)
-        (λ c cs k. omega (arith, f .full c cs k, length-span (f .span))) (omega (arith, length-span p)),
+          (λ c cs k. omega (arith, f .full c cs k, length-span (f .span))) (omega (arith, length-span p)),
     )
 
 -- the characters that B holds
@@ -144,7 +144,7 @@ module _ {s : List ℕ} {e : ℕ} (p : Span s 0 e) where
       span = p;
       small = k;
       full = λ c cs j. let same : take (charLen (getD s e 0)) (drop e s) ≡ c = head-same (sym (chars-at s e h) ∙ j) in
-        omega (arith, over, n, ap length (sym same), length-take (charLen (getD s e 0)) (drop e s), length-drop e s);
+          omega (arith, over, n, ap length (sym same), length-take (charLen (getD s e 0)) (drop e s), length-drop e s);
     }
       where
         head-same : {x y : List ℕ} {xs ys : List (List ℕ)} → x ∷ xs ≡ y ∷ ys → x ≡ y

@@ -104,12 +104,13 @@ word-in-q {room} {s} {e} {n} a q = word-end-q room s 0 e (q .span) (omega (arith
         let p : Span s 0 next = span-join (q .span) (span-char s e next h refl) in
         let over : room < n + cost (between s e next) = q .full h next refl in
         let size : length c ≡ next - e = ap length (sym same) ∙ rw length-take (omega (arith, length-drop e s)) in
-        let all : cost (take next s) ≡ n + cost (between s e next) = ap cost (sym (front-bytes s next)) ∙ omega (arith, cost-join s 0 e next (omega arith) (omega (arith, char-len-some (getD s e 0))), q .size) in
-        (omega (arith, over, ap cost same, q .size),
-        by-test (leb next (bytesInB room))
-        (λ t. let small : length (spellIn B (take next s)) ≤ room = omega (arith, length-base64 (take next s), length-take next s, leb→le next (bytesInB room) t) in
-        absurd (omega (arith, over, all, leb→le (cost (take next s)) room (a .also next p (le→leb (length (spellIn B (take next s))) room small)))))
-        (λ t. omega (arith, leb-no {a = next} {b = bytesInB room} t, size, char-len-some (getD s e 0))))
+        let all : cost (take next s) ≡ n + cost (between s e next) = ap cost (sym (front-bytes s next)) ∙ omega (arith, cost-join s 0 e next (omega arith) (omega (arith, char-len-some (getD s e 0))), q .size) in (
+          omega (arith, over, ap cost same, q .size),
+          by-test (leb next (bytesInB room))
+              (λ t. let small : length (spellIn B (take next s)) ≤ room = omega (arith, length-base64 (take next s), length-take next s, leb→le next (bytesInB room) t) in
+              absurd (omega (arith, over, all, leb→le (cost (take next s)) room (a .also next p (le→leb (length (spellIn B (take next s))) room small)))))
+              (λ t. omega (arith, leb-no {a = next} {b = bytesInB room} t, size, char-len-some (getD s e 0))),
+        )
 
 -- ---- a word at the front of what is left
 

@@ -196,7 +196,7 @@ module _ (s : List ℕ) (long : 50 ≤ length s) (reg : Regular s) where
     span = b .span;
     small = k;
     full = λ c cs j. let same : take (charLen (getD s e 0)) (drop e s) ≡ c = head-same (sym (chars-at s e (omega arith)) ∙ j) in
-      omega (arith, p, ap length (sym same), length-take (charLen (getD s e 0)) (drop e s), length-drop e s, lead-len (getD s e 0) (start-lead e (omega arith) b));
+        omega (arith, p, ap length (sym same), length-take (charLen (getD s e 0)) (drop e s), length-drop e s, lead-len (getD s e 0) (start-lead e (omega arith) b));
   }
     where
       head-same : {x y : List ℕ} {xs ys : List (List ℕ)} → x ∷ xs ≡ y ∷ ys → x ≡ y

@@ -71,10 +71,11 @@ loop-less c = omega (arith, measured-within (c .before .before .before .before .
 
 -- src/lib.rt:87:5
 loop-again : tie.Need-loop-again Inv-loop μ-loop
-loop-again c = let h = c .before .before .before .before .before .loop-test .taken in
-    (measured-within (c .before .before .before .before .before .before .before .before .before .before .before .before .args .text .now) (c .before .before .before .before .before .before .loop .i) h (c .before .before .word-at .ensures),
-    omega (arith, c .before .before .before .before .before .before .loop .inv .1, word-at-small (c .before .before .word-at .ensures), measured-more (c .before .before .before .before .before .before .before .before .before .before .before .before .args .text .now) (c .before .before .before .before .before .before .loop .i) h (c .before .before .word-at .ensures)),
-    measured-on (c .before .before .before .before .before .before .before .before .before .before .before .before .args .text .now) (c .before .before .before .before .before .before .loop .i) h (c .before .before .word-at .ensures) _ _ (c .before .before .before .before .before .before .loop .inv .2))
+loop-again c = let h = c .before .before .before .before .before .loop-test .taken in (
+  measured-within (c .before .before .before .before .before .before .before .before .before .before .before .before .args .text .now) (c .before .before .before .before .before .before .loop .i) h (c .before .before .word-at .ensures),
+  omega (arith, c .before .before .before .before .before .before .loop .inv .1, word-at-small (c .before .before .word-at .ensures), measured-more (c .before .before .before .before .before .before .before .before .before .before .before .before .args .text .now) (c .before .before .before .before .before .before .loop .i) h (c .before .before .word-at .ensures)),
+  measured-on (c .before .before .before .before .before .before .before .before .before .before .before .before .args .text .now) (c .before .before .before .before .before .before .loop .i) h (c .before .before .word-at .ensures) _ _ (c .before .before .before .before .before .before .loop .inv .2),
+)
 
 -- src/lib.rt:77:1
 returns-2 : tie.Need-returns-2 Inv-loop μ-loop

@@ -1,3 +1,7 @@
+use Rattle.encoded_word.specs.WritingLaws.{begun-none, begun-empty, begun-word, word-length}
+use Rattle.buffer.specs.BufferLaws.{length-appended}
+use lib.ListN.{length-take}
+use native.Mathlib.Omega.{arith}
 use borrow.Author.Needs.{needs}
 use Rattle.encoded_word.proofs.line.add_first.Statement.{statement}
 use Rattle.encoded_word.proofs.line.add_first.Tie as tie
@@ -9,7 +13,7 @@ use Rattle.encoded_word.proofs.word.put_word.Reads as put-word-reads
 
 -- src/line.rt:20:9
 returns : tie.Need-returns
-returns c = ?
+returns c = begun-none _ _ _ (c .if1 .taken)
 
 -- src/line.rt:23:29
 slice-aggregate-put-word : tie.Need-slice-aggregate-put-word
@@ -25,7 +29,7 @@ put-word-requires c κs = search needs
 
 -- src/line.rt:27:9
 returns-2 : tie.Need-returns-2
-returns-2 c = ?
+returns-2 c = begun-empty _ _ (c .before .before .put-word .ensures) _ (c .if2 .taken)
 
 -- src/line.rt:29:9
 add-byte-requires : tie.Need-add-byte-requires
@@ -33,11 +37,11 @@ add-byte-requires c κs = search needs
 
 -- src/line.rt:30:48
 array-share-prefix-piece : tie.Need-array-share-prefix-piece
-array-share-prefix-piece c = ?
+array-share-prefix-piece c = omega (arith, word-length (c .before .before .before .before .before .before .before .put-word .ensures), length-appended (c .before .before .before .before .before .before .before .put-word .ensures .wrote))
 
 -- src/line.rt:30:48
 slice-aggregate-add-slice : tie.Need-slice-aggregate-add-slice
-slice-aggregate-add-slice c = ?
+slice-aggregate-add-slice c = rw length-take (omega (arith, word-length (c .before .before .before .before .before .before .before .before .put-word .ensures), length-appended (c .before .before .before .before .before .before .before .before .put-word .ensures .wrote)))
 
 -- src/line.rt:30:9
 add-slice-requires : tie.Need-add-slice-requires
@@ -49,7 +53,7 @@ same-length c = search needs
 
 -- src/line.rt:15:1
 returns-3 : tie.Need-returns-3
-returns-3 c = ?
+returns-3 c = begun-word _ _ (c .before .before .before .before .before .before .before .before .before .before .before .put-word .ensures) (omega (arith, c .before .before .before .before .before .before .before .before .before .if2 .left)) (omega arith) (omega (arith, word-length (c .before .before .before .before .before .before .before .before .before .before .before .put-word .ensures))) (c .before .before .before .before .before .before .before .add-byte .ensures) (c .before .before .add-slice .ensures)
 
 pub add-first-spec : {M : Type 1} → statement M
 add-first-spec =

@@ -1,56 +1,27 @@
+use Rattle.encoded_word.specs.WritingLaws.{line-written}
 use borrow.Author.Needs.{needs}
 use Rattle.encoded_word.proofs.word.put_line.Statement.{statement}
 use Rattle.encoded_word.proofs.word.put_line.Tie as tie
 use Rattle.encoded_word.proofs.word.put_line.Reads as reads
 use Rattle.encoded_word.proofs.word.put_line.Lts as lts
+use Rattle.encoded_word.proofs.word.put_break.Reads as put-break-reads
 use Rattle.encoded_word.proofs.word.put_word.Reads as put-word-reads
 
--- src/word.rt:103:18
-add-second : tie.Need-add-second
-add-second c = search needs
+-- src/word.rt:116:9
+put-break-requires : tie.Need-put-break-requires
+put-break-requires c κs = search needs
 
--- src/word.rt:104:17
-add-third : tie.Need-add-third
-add-third c = search needs
-
--- src/word.rt:105:5
-slice-write-out : tie.Need-slice-write-out
-slice-write-out c = search needs
-
--- src/word.rt:106:5
-slice-write-out-2 : tie.Need-slice-write-out-2
-slice-write-out-2 c = ?
-
--- src/word.rt:107:5
-slice-write-out-3 : tie.Need-slice-write-out-3
-slice-write-out-3 c = ?
-
--- src/word.rt:108:26
-add-put-word : tie.Need-add-put-word
-add-put-word c = search needs
-
--- src/word.rt:108:5
+-- src/word.rt:117:5
 put-word-requires : tie.Need-put-word-requires
-put-word-requires c κs = ?
+put-word-requires c κs = search needs
 
--- src/word.rt:99:1
+-- src/word.rt:112:1
 same-length : tie.Need-same-length
-same-length c = ?
+same-length c = search needs
 
--- src/word.rt:99:1
+-- src/word.rt:112:1
 returns : tie.Need-returns
-returns c = ?
+returns c = line-written (c .before .before .before .before .before .before .put-break .ensures) (c .before .before .put-word .ensures)
 
 pub put-line-spec : {M : Type 1} → statement M
-put-line-spec =
-    tie.close
-    (tie.spec
-    add-second
-    add-third
-    slice-write-out
-    slice-write-out-2
-    slice-write-out-3
-    add-put-word
-    put-word-requires
-    same-length
-    returns)
+put-line-spec = tie.close (tie.spec put-break-requires put-word-requires same-length returns)

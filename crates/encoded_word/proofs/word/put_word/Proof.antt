@@ -1,3 +1,7 @@
+use Rattle.encoded_word.specs.WritingLaws.{put-word-q, put-word-b}
+use Rattle.word_choice.specs.EndInQLaws.{chosen-q, chosen-b, word-b-end}
+use lib.ListN.{length-take}
+use native.Mathlib.Omega.{arith}
 use borrow.Author.Needs.{needs}
 use Rattle.encoded_word.proofs.word.put_word.Statement.{statement}
 use Rattle.encoded_word.proofs.word.put_word.Tie as tie
@@ -33,11 +37,11 @@ part-put-word-in-b-start c = search needs
 
 -- src/word.rt:93:40
 part-put-word-in-b-end : tie.Need-part-put-word-in-b-end
-part-put-word-in-b-end c = ?
+part-put-word-in-b-end c = chosen-b (c .before .before .before .before .before .before .before .pre .1) (c .before .before .choice .given .1) (c .before .before .before .before .choose .ensures) .span .within
 
 -- src/word.rt:93:17
 put-word-in-b-requires : tie.Need-put-word-in-b-requires
-put-word-in-b-requires c κs = ?
+put-word-in-b-requires c κs = let w = chosen-b (c .before .before .before .before .before .before .before .before .pre .1) (c .before .before .before .choice .given .1) (c .before .before .before .before .before .choose .ensures) in (rw length-take (omega (arith, word-b-end (c .before .before .before .before .before .before .before .before .pre .1) w)), c .before .before .before .before .before .before .before .before .pre .2)
 
 -- src/word.rt:78:1
 same-length : tie.Need-same-length
@@ -45,7 +49,7 @@ same-length c = search needs
 
 -- src/word.rt:78:1
 returns : tie.Need-returns
-returns c = ?
+returns c = put-word-q (chosen-q (c .before .before .before .before .before .before .before .before .before .pre .1) (c .before .before .before .before .enum-told .given .1) (c .before .before .before .before .before .before .choose .ensures)) (c .before .before .put-word-in-q .ensures)
 
 -- src/word.rt:78:1
 same-length-2 : tie.Need-same-length-2
@@ -53,7 +57,7 @@ same-length-2 c = search needs
 
 -- src/word.rt:78:1
 returns-2 : tie.Need-returns-2
-returns-2 c = ?
+returns-2 c = put-word-b (chosen-b (c .before .before .before .before .before .before .before .before .before .before .before .pre .1) (c .before .before .before .before .before .before .choice .given .1) (c .before .before .before .before .before .before .before .before .choose .ensures)) (c .before .before .put-word-in-b .ensures)
 
 pub put-word-spec : {M : Type 1} → statement M
 put-word-spec =

@@ -1,3 +1,4 @@
+use Rattle.encoded_word.specs.WritingLaws.{word-written}
 use borrow.Author.Needs.{needs}
 use Rattle.encoded_word.proofs.word.put_word_in_q.Statement.{statement}
 use Rattle.encoded_word.proofs.word.put_word_in_q.Tie as tie
@@ -25,7 +26,7 @@ same-length c = search needs
 
 -- src/word.rt:55:1
 returns : tie.Need-returns
-returns c = ?
+returns c = word-written (c .before .before .before .before .before .before .before .before .before .before .put-opening .ensures) (c .before .before .before .before .before .before .put-in-q .ensures) (c .before .before .put-closing .ensures)
 
 pub put-word-in-q-spec : {M : Type 1} → statement M
 put-word-in-q-spec =
