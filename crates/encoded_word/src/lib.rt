@@ -1,6 +1,6 @@
 // Rows of encoded words (RFC 2047, charset UTF-8, encodings Q and B): the row of a text is written, and measured.
 mod character;
-mod line;
+mod lines;
 mod spelling;
 mod word;
 
@@ -8,9 +8,9 @@ ghost use mathlib.Core.Path.{_≡_};
 ghost use lib.ListN.{length};
 ghost use Rattle.buffer.specs.Buffer.{Wrote, AppendedCapped};
 ghost use Rattle.row.specs.Row.{row, rowAfter, bounded};
-use line::add_first;
-use line::add_lines;
-use line::put_lines;
+use lines::add_first;
+use lines::add_lines;
+use lines::put_lines;
 
 // The longest text that has a row, in bytes.
 const LIMIT: usize = 4294967296;

@@ -6,9 +6,9 @@ use Rattle.encoded_word.proofs.write_after.Statement.{statement}
 use Rattle.encoded_word.proofs.write_after.Tie as tie
 use Rattle.encoded_word.proofs.write_after.Reads as reads
 use Rattle.encoded_word.proofs.write_after.Lts as lts
-use Rattle.encoded_word.proofs.line.add_first.Reads as add-first-reads
-use Rattle.encoded_word.proofs.line.add_lines.Reads as add-lines-reads
-use Rattle.encoded_word.proofs.line.put_lines.Reads as put-lines-reads
+use Rattle.encoded_word.proofs.lines.add_first.Reads as add-first-reads
+use Rattle.encoded_word.proofs.lines.add_lines.Reads as add-lines-reads
+use Rattle.encoded_word.proofs.lines.put_lines.Reads as put-lines-reads
 use Rattle.row_length.proofs.len_after.Reads as len-after-reads
 use Rattle.word_spelling.proofs.first_chars.Reads as first-chars-reads
 

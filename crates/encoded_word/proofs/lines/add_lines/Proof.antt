@@ -8,10 +8,10 @@ use native.Mathlib.Omega.{arith}
 use lib.ListN.{length, drop, length-take}
 use Prim.Native.Nat.{_+_, _-_, _≤_}
 use mathlib.Core.Path.{_≡_, refl, sym, _∙_}
-use Rattle.encoded_word.proofs.line.add_lines.Statement.{statement}
-use Rattle.encoded_word.proofs.line.add_lines.Tie as tie
-use Rattle.encoded_word.proofs.line.add_lines.Reads as reads
-use Rattle.encoded_word.proofs.line.add_lines.Lts as lts
+use Rattle.encoded_word.proofs.lines.add_lines.Statement.{statement}
+use Rattle.encoded_word.proofs.lines.add_lines.Tie as tie
+use Rattle.encoded_word.proofs.lines.add_lines.Reads as reads
+use Rattle.encoded_word.proofs.lines.add_lines.Lts as lts
 use Rattle.buffer.proofs.add_slice.Reads as add-slice-reads
 use Rattle.encoded_word.proofs.word.put_line.Reads as put-line-reads
 

@@ -4,10 +4,10 @@ use Rattle.buffer.specs.BufferLaws.{length-reached}
 use native.Mathlib.Omega.{arith}
 use lib.ListN.{length}
 use Prim.Native.Nat.{_+_, _-_, _≤_}
-use Rattle.encoded_word.proofs.line.put_lines.Statement.{statement}
-use Rattle.encoded_word.proofs.line.put_lines.Tie as tie
-use Rattle.encoded_word.proofs.line.put_lines.Reads as reads
-use Rattle.encoded_word.proofs.line.put_lines.Lts as lts
+use Rattle.encoded_word.proofs.lines.put_lines.Statement.{statement}
+use Rattle.encoded_word.proofs.lines.put_lines.Tie as tie
+use Rattle.encoded_word.proofs.lines.put_lines.Reads as reads
+use Rattle.encoded_word.proofs.lines.put_lines.Lts as lts
 use Rattle.encoded_word.proofs.word.put_line.Reads as put-line-reads
 
 abbrev Inv-loop : tie.InvT-loop

@@ -3,10 +3,10 @@ use Rattle.buffer.specs.BufferLaws.{length-appended}
 use lib.ListN.{length-take}
 use native.Mathlib.Omega.{arith}
 use borrow.Author.Needs.{needs}
-use Rattle.encoded_word.proofs.line.add_first.Statement.{statement}
-use Rattle.encoded_word.proofs.line.add_first.Tie as tie
-use Rattle.encoded_word.proofs.line.add_first.Reads as reads
-use Rattle.encoded_word.proofs.line.add_first.Lts as lts
+use Rattle.encoded_word.proofs.lines.add_first.Statement.{statement}
+use Rattle.encoded_word.proofs.lines.add_first.Tie as tie
+use Rattle.encoded_word.proofs.lines.add_first.Reads as reads
+use Rattle.encoded_word.proofs.lines.add_first.Lts as lts
 use Rattle.buffer.proofs.add_byte.Reads as add-byte-reads
 use Rattle.buffer.proofs.add_slice.Reads as add-slice-reads
 use Rattle.encoded_word.proofs.word.put_word.Reads as put-word-reads
