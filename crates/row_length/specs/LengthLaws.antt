@@ -57,15 +57,18 @@ stepped-join {s} {i} {left} {e} {e′} p q h k = record {
   single = λ l. absurd (omega arith);
 }
 
+-- the test of the room and of the text for four
+pub roomy-four : (left n : ℕ) → leb 12 left && leb 4 n ≡ true → (12 ≤ left) × (4 ≤ n)
+roomy-four left n e = let p = both (leb 12 left) (leb 4 n) e in (leb-true 12 left (p .0), leb-true 4 n (p .1))
+
 -- four that are ASCII, in what holds any four, by the table of first characters
 pub stepped-four : (s first : List ℕ) (i left x y z w : ℕ) → first ≡ firstChars → leb 12 left && leb 4 (length s - i) ≡ true → getD s i 0 < 128
     → ltb (getD s (i + 1) 0) 128 && ltb (getD s (i + 1 + 1) 0) 128 && ltb (getD s (i + 1 + 1 + 1) 0) 128 ≡ true
     → (x ≡ costIn first (getD s i 0)) × (x ≤ 3) → (y ≡ costIn first (getD s (i + 1) 0)) × (y ≤ 3) → (z ≡ costIn first (getD s (i + 1 + 1) 0)) × (z ≤ 3)
     → (w ≡ costIn first (getD s (i + 1 + 1 + 1) 0)) × (w ≤ 3) → Stepped s i left (i + 1 + 1 + 1 + 1) (x + y + z + w)
 stepped-four s first i left x y z w e t a bcd hx hy hz hw =
-    let r = both (leb 12 left) (leb 4 (length s - i)) t in
-    let roomy = leb-true 12 left (r .0) in
-    let h = leb-true 4 (length s - i) (r .1) in
+    let roomy = roomy-four left (length s - i) t .0 in
+    let h = roomy-four left (length s - i) t .1 in
     let p = both (ltb (getD s (i + 1) 0) 128 && ltb (getD s (i + 1 + 1) 0) 128) (ltb (getD s (i + 1 + 1 + 1) 0) 128) bcd in
     let q = both (ltb (getD s (i + 1) 0) 128) (ltb (getD s (i + 1 + 1) 0) 128) (p .0) in
     let b = ltb-true (getD s (i + 1) 0) 128 (q .0) in
