@@ -1,3 +1,7 @@
+use Rattle.encoded_word.specs.WritingLaws.{begun-empty, begun-word, word-length}
+use Rattle.buffer.specs.BufferLaws.{length-appended}
+use lib.ListN.{length-take}
+use native.Mathlib.Omega.{arith}
 use borrow.Author.Needs.{needs}
 use Rattle.encoded_word.proofs.lines.add_clipped.Statement.{statement}
 use Rattle.encoded_word.proofs.lines.add_clipped.Tie as tie
@@ -21,7 +25,7 @@ put-word-requires c κs = search needs
 
 -- src/lines.rt:33:9
 returns : tie.Need-returns
-returns c = ?
+returns c = begun-empty _ _ (c .before .before .put-word .ensures) _ (c .if1 .taken)
 
 -- src/lines.rt:35:9
 add-byte-requires : tie.Need-add-byte-requires
@@ -29,11 +33,11 @@ add-byte-requires c κs = search needs
 
 -- src/lines.rt:36:48
 array-share-prefix-piece : tie.Need-array-share-prefix-piece
-array-share-prefix-piece c = ?
+array-share-prefix-piece c = omega (arith, word-length (c .before .before .before .before .before .before .before .put-word .ensures), length-appended (c .before .before .before .before .before .before .before .put-word .ensures .wrote))
 
 -- src/lines.rt:36:48
 slice-aggregate-add-slice : tie.Need-slice-aggregate-add-slice
-slice-aggregate-add-slice c = ?
+slice-aggregate-add-slice c = rw length-take (omega (arith, word-length (c .before .before .before .before .before .before .before .before .put-word .ensures), length-appended (c .before .before .before .before .before .before .before .before .put-word .ensures .wrote)))
 
 -- src/lines.rt:36:9
 add-slice-requires : tie.Need-add-slice-requires
@@ -45,7 +49,7 @@ same-length c = search needs
 
 -- src/lines.rt:24:1
 returns-2 : tie.Need-returns-2
-returns-2 c = ?
+returns-2 c = begun-word _ _ (c .before .before .before .before .before .before .before .before .before .before .before .put-word .ensures) (omega (arith, c .before .before .before .before .before .before .before .before .before .if1 .left)) (omega arith) (omega (arith, word-length (c .before .before .before .before .before .before .before .before .before .before .before .put-word .ensures))) (c .before .before .before .before .before .before .before .add-byte .ensures) (c .before .before .add-slice .ensures)
 
 pub add-clipped-spec : {M : Type 1} → statement M
 add-clipped-spec =

@@ -1,3 +1,5 @@
+use Rattle.encoded_word.specs.WritingLaws.{begun-none, straight}
+use lib.ListN.{length}
 use borrow.Author.Needs.{needs}
 use Rattle.encoded_word.proofs.lines.add_first.Statement.{statement}
 use Rattle.encoded_word.proofs.lines.add_first.Tie as tie
@@ -8,11 +10,11 @@ use Rattle.encoded_word.proofs.lines.put_first.Reads as put-first-reads
 
 -- src/lines.rt:46:9
 returns : tie.Need-returns
-returns c = ?
+returns c = begun-none _ _ _ (c .if1 .taken)
 
 -- src/lines.rt:49:9
 put-first-requires : tie.Need-put-first-requires
-put-first-requires c κs = ?
+put-first-requires c κs = let t = straight (c .before .before .before .before .before .args .column) (length (c .before .before .before .before .before .args .text .now)) (length (c .before .before .before .before .before .args .out .now)) (c .before .if2 .taken) in (c .before .before .before .before .before .pre, t .0, t .1, t .2)
 
 -- src/lines.rt:49:9
 same-length : tie.Need-same-length

@@ -1,3 +1,8 @@
+use Rattle.encoded_word.specs.WritingLaws.{begun-here}
+use Rattle.buffer.specs.BufferLaws.{appended-byte, length-appended}
+use lib.ListN.{length-set}
+use mathlib.Core.List.{[], _∷_}
+use mathlib.Core.Path.{_∙_}
 use borrow.Author.Needs.{needs}
 use Rattle.encoded_word.proofs.lines.put_first.Statement.{statement}
 use Rattle.encoded_word.proofs.lines.put_first.Tie as tie
@@ -19,11 +24,11 @@ put-word-requires c κs = search needs
 
 -- src/lines.rt:14:1
 same-length : tie.Need-same-length
-same-length c = ?
+same-length c = length-appended (c .before .before .put-word .ensures .wrote) ∙ length-set (c .before .before .before .before .before .before .args .out .now) 0 32
 
 -- src/lines.rt:14:1
 returns : tie.Need-returns
-returns c = ?
+returns c = begun-here (c .before .before .before .before .before .before .pre .1) (c .before .before .before .before .before .before .pre .2) (appended-byte 0 32 _) (c .before .before .put-word .ensures)
 
 pub put-first-spec : {M : Type 1} → statement M
 put-first-spec =
