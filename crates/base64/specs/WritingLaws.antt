@@ -1,14 +1,12 @@
--- Base64 as code writes it: a digit without a branch, and the digits of a text from a place on. Assumes nothing.
+-- Base64 as code writes it: the table of its digits, and the digits of a text from a place on. Assumes nothing.
 use mathlib.Core.Path.{_≡_, refl, sym, ap, _∙_}
-use mathlib.Core.Bool.{Bool, true, false, cond}
 use mathlib.Core.List.{List, [], _∷_, _++_}
-use Prim.Native.Nat.{ℕ, _+_, _-_, _≤_, _<_, min}
+use Prim.Native.Nat.{ℕ, zero, suc, _+_, _-_, _≤_, _<_, min}
+use native.Mathlib.Nat.{add-zero, zero-add, add-suc, suc-add, le-of-suc-le-suc, not-suc-le-zero}
 use native.Mathlib.Numerals.{add-one}
 use native.Mathlib.Omega.{arith}
-use lib.Dec.{T, leb, leb→le}
 use lib.ListN.{length, take, drop, getD, drop-of-length-le, length-take, length-drop}
 use lib.Seq.{drop-cons, drop-drop, take-all}
-use Rattle.lists.specs.ByteLaws.{below, equal}
 use Rattle.buffer.specs.Buffer.{overlay, Appended, AppendedCapped}
 use Rattle.buffer.specs.BufferLaws.{wrote-from, overlay-front, length-overlay}
 use Rattle.base64.specs.Base64.{digit64, quad, quadOfTwo, quadOfOne, inBase64, base64Length}
@@ -16,27 +14,23 @@ use Rattle.base64.specs.Base64Laws.{length-base64}
 
 -- ---- a digit
 
--- what a value from `least` on is moved by
-abbrev moved : ℕ → ℕ → ℕ → ℕ
-moved v least step = cond (leb least v) step 0
+-- the digits of n values, from k on
+abbrev digitsFrom : ℕ → ℕ → List ℕ
+digitsFrom k zero = []
+digitsFrom k (suc n) = digit64 k ∷ digitsFrom (suc k) n
 
-pub moved-le : (v least step r : ℕ) → r ≡ moved v least step → r ≤ step
-moved-le v least step r e = rw e (go (leb least v))
-  where
-    go : (b : Bool) → cond b step 0 ≤ step
-    go true = omega arith
-    go false = omega arith
+-- the table of the digits
+unfoldable pub digits64 : List ℕ
+digits64 = digitsFrom 0 64
 
-module _ (v : ℕ) (h : v < 64) {a b c d : ℕ} (ha : a ≡ moved v 26 6) (hb : b ≡ moved v 63 3) (hc : c ≡ moved v 52 75) (hd : d ≡ moved v 62 15) where
-  pub moved-down : c + d ≤ v + 65 + a + b
-  moved-down =
-      rw (ha, hb, hc, hd)
-      (leb→le (moved v 52 75 + moved v 62 15) (v + 65 + moved v 26 6 + moved v 63 3)
-      (below (λ k. leb (moved k 52 75 + moved k 62 15) (k + 65 + moved k 26 6 + moved k 63 3)) 64 tt v h))
+digits-from : (k n j : ℕ) → j < n → getD (digitsFrom k n) j 0 ≡ digit64 (k + j)
+digits-from k zero j h = absurd (not-suc-le-zero h)
+digits-from k (suc n) zero h = ap digit64 (sym (add-zero k))
+digits-from k (suc n) (suc j) h = digits-from (suc k) n j (le-of-suc-le-suc h) ∙ ap digit64 (suc-add k j ∙ sym (add-suc k j))
 
-  pub moved-digit : v + 65 + a + b - c - d ≡ digit64 v
-  unfolding digit64
-  moved-digit = rw (ha, hb, hc, hd) (equal (λ k. k + 65 + moved k 26 6 + moved k 63 3 - moved k 52 75 - moved k 62 15) digit64 64 tt v h)
+pub digits-at : (v : ℕ) → v < 64 → getD digits64 v 0 ≡ digit64 v
+unfolding digits64
+digits-at v h = digits-from 0 64 v h ∙ ap digit64 (zero-add v)
 
 -- ---- a text from a place on
 

@@ -5,9 +5,14 @@ use mathlib.Core.List.{List, [], _∷_, _++_, append-assoc, append-nil}
 use Prim.Native.Nat.{ℕ, _+_, _-_, _*_, _≤_, _<_, min}
 use native.Mathlib.Omega.{arith}
 use lib.ListN.{length, take, drop, getD, length-append, length-take}
-use lib.Dec.{leb, ltb, eqb}
+use lib.Dec.{T-not, leb, ltb, eqb, ltb→lt, le→leb}
+use mir.Facts.{ltb-no}
+use native.Mathlib.Nat.{zero-add}
 use borrow.Author.Tests.{leb-true, ltb-true, eqb-false, not-true}
-use Rattle.utf8.specs.Utf8.{charLen}
+use Rattle.lists.specs.Lists.{joined}
+use Rattle.lists.specs.ListsLaws.{by-test, joined-append}
+use Rattle.utf8.specs.Utf8.{charLen, chars}
+use Rattle.utf8.specs.Utf8Laws.{chars-at, char-len-le}
 use Rattle.buffer.specs.Buffer.{Appended, AppendedCapped, Reached, ReachedCapped, Wrote, greatest}
 use Rattle.buffer.specs.BufferLaws.{overlay-front, wrote-from, wrote-of, appended-none, appended-then, appended-of, length-appended, reached-start, reached-then, reached-last, reached-join, reached-within, capped-then, capped-turn}
 use Rattle.base64.specs.Base64.{inBase64}
@@ -21,8 +26,8 @@ use Rattle.word_spelling.specs.HighCharLaws.{both, one-byte, escapes-next, whol
 use Rattle.row.specs.declared.Encoding.{Encoding}
 use Rattle.row.specs.declared.Encoding.the-variants.{Q, B}
 use Rattle.row.specs.Word.{openingIn, spellIn, word}
-use Rattle.row.specs.Row.{row, rowAfter}
-use Rattle.row.specs.FitsLaws.{length-word-in}
+use Rattle.row.specs.Row.{encodings, holds, fitsRoom, row, rowAfter}
+use Rattle.row.specs.FitsLaws.{or-left, length-word-in}
 use Rattle.row.specs.WordEnd.{Span, WordEnd}
 use Rattle.row.specs.WordEndLaws.{span-none, span-join, between, word-small, row-end, first-step, first-none}
 use Rattle.row.specs.RowLaws.{row-after-none, length-row-after-le}
@@ -227,6 +232,35 @@ module _ (column : ℕ) (s : List ℕ) where
           within = w .end .span .within;
           reached = reached-then text (row (drop e s)) (reached-start (rowAfter column s) 0 before) (first-step column (w .end) h) (appended-of all (omega arith));
         }
+
+-- a room of 24 holds any character in Q
+some-fits : (room : ℕ) (s : List ℕ) {e : ℕ} {k : Encoding} → WordEnd room s 0 e k → 24 ≤ room → 0 < length s → 0 < e
+some-fits room s {e} w h l =
+    by-test (ltb 0 e) (λ t. ltb→lt 0 e t)
+    (λ t. let none : e ≡ 0 = omega (arith, ltb-no {a = 0} {b = e} t) in
+    let c = take (charLen (getD s 0 0)) s in
+    let next : chars (drop e s) ≡ c ∷ chars (drop (charLen (getD s 0 0)) s) = rw none (chars-at s 0 l ∙ rw zero-add refl) in
+    let p = w .span in
+    let bytes : joined (p .run ++ (c ∷ [])) ≡ c = rw (joined-append (p .run) (c ∷ []), p .bytes, none, append-nil) refl in
+    let cheap : cost c ≤ room = omega (arith, length-spell c, length-take (charLen (getD s 0 0)) s, char-len-le (getD s 0 0)) in
+    absurd (T-not (fitsRoom encodings room 0 (p .run ++ (c ∷ []))) (w .full c _ next)
+    (rw bytes (or-left (holds room c Q) _ (le→leb (cost c) room cheap)))))
+
+-- straight into the buffer
+pub begun-here : {column : ℕ} {s : List ℕ} {e r : ℕ} {before mid after : List ℕ} → column ≤ 39 → 0 < length s → Appended (32 ∷ []) 0 before mid 1
+    → PutWord (63 - column) s 1 mid after e r → Begun column s before after e r
+begun-here {column} {s} {e} {before = before} h l v w = record {
+  within = w .end .span .within;
+  reached = reached-then (32 ∷ word (w .kind) (between s 0 e)) (row (drop e s)) (reached-start (rowAfter column s) 0 before)
+    (first-step column (w .end) (some-fits (63 - column) s (w .end) (omega arith) l)) (appended-then v (w .wrote));
+}
+
+-- the tests for that
+pub straight : (column n m : ℕ) → leb column 39 && ltb 0 n && leb 76 m ≡ true → (column ≤ 39) × (0 < n) × (76 ≤ m)
+straight column n m e =
+    let p = both (leb column 39 && ltb 0 n) (leb 76 m) e in
+    let q = both (leb column 39) (ltb 0 n) (p .0) in
+    (leb-true column 39 (q .0), ltb-true 0 n (q .1), leb-true 76 m (p .1))
 
 -- ---- lines
 

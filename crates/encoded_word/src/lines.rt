@@ -1,6 +1,6 @@
 // The lines of a row.
 ghost use mathlib.Core.Path.{_≡_};
-ghost use Prim.Native.Nat.{_≤_};
+ghost use Prim.Native.Nat.{_≤_, _<_};
 ghost use lib.ListN.{length, drop};
 ghost use Rattle.buffer.specs.Buffer.{AppendedCapped};
 ghost use Rattle.word_spelling.specs.FirstChars.{firstChars};
@@ -10,15 +10,21 @@ use crate::character::Put;
 use crate::word::put_line;
 use crate::word::put_word;
 
-// What stands on the line of a name and its colon, which have `column` characters, clipped: a space and a word, or nothing. The word is
-// written beside the buffer, and then copied as far as it fits.
-pub(crate) fn add_first(first: &[u8; 256], out: &mut [u8], column: usize, text: &[u8]) -> Put
-    requires { ⌜ now first ≡ firstChars ⌝ }
+// A space and a word on the line of a name and its colon, which have `column` characters: any character fits there.
+fn put_first(first: &[u8; 256], out: &mut [u8], column: usize, text: &[u8]) -> Put
+    requires { ⌜ (now first ≡ firstChars) × (column ≤ 39) × (0 < length (now text)) × (76 ≤ length (now out)) ⌝ }
     ensures { λ r. ⌜ Begun column (now (text .entry)) (now (out .entry)) (now (out .exit)) (r .end) (r .at) ⌝ }
 {
-    if 63 <= column {
-        return Put { end: 0, at: 0 };
-    }
+    out[0] = 32;
+    put_word(first, out, 1, 63 - column, text)
+}
+
+// What stands on the line of a name and its colon, clipped: a space and a word, or nothing. The word is written beside the buffer, and then
+// copied as far as it fits.
+fn add_clipped(first: &[u8; 256], out: &mut [u8], column: usize, text: &[u8]) -> Put
+    requires { ⌜ (now first ≡ firstChars) × (column ≤ 63) ⌝ }
+    ensures { λ r. ⌜ Begun column (now (text .entry)) (now (out .entry)) (now (out .exit)) (r .end) (r .at) ⌝ }
+{
     let mut piece = [0u8; 75];
     let w = put_word(first, &mut piece, 0, 63 - column, text);
     let e = w.end;
@@ -29,6 +35,20 @@ pub(crate) fn add_first(first: &[u8; 256], out: &mut [u8], column: usize, text: 
     let spaced = buffer::add_byte(out, 0, 32);
     let after = buffer::add_slice(out, spaced, &piece[..n]);
     Put { end: e, at: after }
+}
+
+// What stands on the line of a name and its colon, which have `column` characters.
+pub(crate) fn add_first(first: &[u8; 256], out: &mut [u8], column: usize, text: &[u8]) -> Put
+    requires { ⌜ now first ≡ firstChars ⌝ }
+    ensures { λ r. ⌜ Begun column (now (text .entry)) (now (out .entry)) (now (out .exit)) (r .end) (r .at) ⌝ }
+{
+    if 63 <= column {
+        return Put { end: 0, at: 0 };
+    }
+    if (column <= 39) & (0 < text.len()) & (76 <= out.len()) {
+        return put_first(first, out, column, text);
+    }
+    add_clipped(first, out, column, text)
 }
 
 // Lines from the place `begin` of the text on, as long as the buffer has room for the next whatever it is.

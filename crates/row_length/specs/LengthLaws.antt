@@ -5,8 +5,8 @@ use mathlib.Core.List.{List, [], _∷_, _++_}
 use Prim.Native.Nat.{ℕ, _+_, _-_, _*_, _≤_, _<_, min}
 use native.Mathlib.Omega.{arith}
 use lib.ListN.{length, take, drop, getD, length-append, length-take, length-drop}
-use lib.Dec.{ltb}
-use borrow.Author.Tests.{ltb-true}
+use lib.Dec.{leb, ltb}
+use borrow.Author.Tests.{leb-true, ltb-true}
 use Rattle.utf8.specs.Utf8.{charLen}
 use Rattle.utf8.specs.Utf8Laws.{char-len-some}
 use Rattle.word_spelling.specs.Spelling.{spell}
@@ -57,12 +57,18 @@ stepped-join {s} {i} {left} {e} {e′} p q h k = record {
   single = λ l. absurd (omega arith);
 }
 
--- four that are ASCII, by the table of first characters
-pub stepped-four : (s first : List ℕ) (i left x y z w : ℕ) → first ≡ firstChars → 4 ≤ length s - i → getD s i 0 < 128
+-- the test of the room and of the text for four
+pub roomy-four : (left n : ℕ) → leb 12 left && leb 4 n ≡ true → (12 ≤ left) × (4 ≤ n)
+roomy-four left n e = let p = both (leb 12 left) (leb 4 n) e in (leb-true 12 left (p .0), leb-true 4 n (p .1))
+
+-- four that are ASCII, in what holds any four, by the table of first characters
+pub stepped-four : (s first : List ℕ) (i left x y z w : ℕ) → first ≡ firstChars → leb 12 left && leb 4 (length s - i) ≡ true → getD s i 0 < 128
     → ltb (getD s (i + 1) 0) 128 && ltb (getD s (i + 1 + 1) 0) 128 && ltb (getD s (i + 1 + 1 + 1) 0) 128 ≡ true
     → (x ≡ costIn first (getD s i 0)) × (x ≤ 3) → (y ≡ costIn first (getD s (i + 1) 0)) × (y ≤ 3) → (z ≡ costIn first (getD s (i + 1 + 1) 0)) × (z ≤ 3)
-    → (w ≡ costIn first (getD s (i + 1 + 1 + 1) 0)) × (w ≤ 3) → x + y + z + w ≤ left → Stepped s i left (i + 1 + 1 + 1 + 1) (x + y + z + w)
-stepped-four s first i left x y z w e h a bcd hx hy hz hw f =
+    → (w ≡ costIn first (getD s (i + 1 + 1 + 1) 0)) × (w ≤ 3) → Stepped s i left (i + 1 + 1 + 1 + 1) (x + y + z + w)
+stepped-four s first i left x y z w e t a bcd hx hy hz hw =
+    let roomy = roomy-four left (length s - i) t .0 in
+    let h = roomy-four left (length s - i) t .1 in
     let p = both (ltb (getD s (i + 1) 0) 128 && ltb (getD s (i + 1 + 1) 0) 128) (ltb (getD s (i + 1 + 1 + 1) 0) 128) bcd in
     let q = both (ltb (getD s (i + 1) 0) 128) (ltb (getD s (i + 1 + 1) 0) 128) (p .0) in
     let b = ltb-true (getD s (i + 1) 0) 128 (q .0) in
@@ -72,7 +78,9 @@ stepped-four s first i left x y z w e h a bcd hx hy hz hw f =
     let s2 = stepped-ascii s (i + 1) left y (omega arith) b (cost-in (getD s (i + 1) 0) e (omega arith) (hy .0)) in
     let s3 = stepped-ascii s (i + 1 + 1) left z (omega arith) c (cost-in (getD s (i + 1 + 1) 0) e (omega arith) (hz .0)) in
     let s4 = stepped-ascii s (i + 1 + 1 + 1) left w (omega arith) d (cost-in (getD s (i + 1 + 1 + 1) 0) e (omega arith) (hw .0)) in
-    stepped-join (stepped-join (stepped-join s1 s2 (omega arith) (omega (arith, hx .1, hy .1))) s3 (omega arith) (omega (arith, hx .1, hy .1, hz .1))) s4 f (omega (arith, hx .1, hy .1, hz .1, hw .1))
+    let s12 = stepped-join s1 s2 (omega (arith, hx .1, hy .1)) (omega (arith, hx .1, hy .1)) in
+    let s123 = stepped-join s12 s3 (omega (arith, hx .1, hy .1, hz .1)) (omega (arith, hx .1, hy .1, hz .1)) in
+    stepped-join s123 s4 (omega (arith, hx .1, hy .1, hz .1, hw .1)) (omega (arith, hx .1, hy .1, hz .1, hw .1))
 
 -- ---- the row
 

@@ -53,24 +53,22 @@ fn high(first: &[u8; 256], s: &[u8], i: usize, left: usize) -> Step
     any_char(first, s, i, left)
 }
 
-// An ASCII character, or four where what is left holds them together.
+// An ASCII character, or four where what is left holds any four, so that the loop need not wait for what they take.
 fn ascii(first: &[u8; 256], s: &[u8], i: usize, left: usize) -> Step
     requires { ⌜ (now first ≡ firstChars) × (i < length (now s)) × (getD (now s) i 0 < 128) ⌝ }
     ensures { λ r. ⌜ Stepped (now (s .entry)) i left (r .end) (r .cost) ⌝ }
 {
     let m1 = byte_cost(first, s[i]);
     let j = i + 1;
-    if 4 <= s.len() - i {
+    if (12 <= left) & (4 <= s.len() - i) {
         let k = j + 1;
         let l = k + 1;
         if (s[j] < 128) & (s[k] < 128) & (s[l] < 128) {
             let m = m1 + byte_cost(first, s[j]) + byte_cost(first, s[k]) + byte_cost(first, s[l]);
-            if m <= left {
-                return Step {
-                    end: l + 1,
-                    cost: m,
-                };
-            }
+            return Step {
+                end: l + 1,
+                cost: m,
+            };
         }
     }
     Step { end: j, cost: m1 }

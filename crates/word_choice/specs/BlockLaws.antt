@@ -8,8 +8,8 @@ use native.Mathlib.Nat.{not-suc-le-zero}
 use native.Mathlib.Numerals.{add-one, unary-clauses}
 use native.Mathlib.Omega.{arith}
 use lib.Dec.{T, T-not, leb, ltb, eqb, leb→le, le→leb, eqb→eq, ltb→lt}
-use lib.ListN.{length, take, drop, getD, length-append, length-take, length-drop}
-use lib.Seq.{take-suc, take-add, take-all}
+use lib.ListN.{length, take, drop, getD, length-append, length-take, length-drop, take-append-drop}
+use lib.Seq.{take-suc, take-add, take-all, drop-drop, getD-drop}
 use mir.Facts.{and-yes, or-yes, ltb-yes, no-eqb, eqb-no}
 use Rattle.lists.specs.Byte.{within}
 use Rattle.lists.specs.ListsLaws.{by-test, cond-yes, cond-no, yes-true, true-yes, no-false}
@@ -48,6 +48,47 @@ module _ (f : ℕ → Bool) where
   count-next s k n m h e d =
       rw (add-one k, take-suc s k 0 h) (omega (arith, e, d, count-append (take k s) (getD s k 0 ∷ []), count-one (getD s k 0)))
 
+  -- the same from a place on
+  pub count-next-at : (s : List ℕ) (at k n m : ℕ) → at + k < length s → n ≡ count f (take k (drop at s)) → m ≡ bit (f (getD s (at + k) 0))
+      → n + m ≡ count f (take (k + 1) (drop at s))
+  count-next-at s at k n m h e d = count-next (drop at s) k n m (rw length-drop (omega arith)) e (d ∙ ap (λ (b : ℕ). bit (f b)) (sym (getD-drop at s k 0)))
+
+  -- all of a text
+  pub count-all : (s : List ℕ) (k n : ℕ) → length s ≤ k → n ≡ count f (take k s) → n ≡ count f s
+  count-all s k n h e = e ∙ ap (count f) (take-all k s h)
+
+  -- a text by parts
+  count-parts : (s : List ℕ) (k : ℕ) → count f s ≡ count f (take k s) + count f (drop k s)
+  count-parts s k = ap (count f) (sym (take-append-drop k s)) ∙ count-append (take k s) (drop k s)
+
+  pub count-three : (s : List ℕ) → count f (take 48 s) ≡ count f (take 16 (drop 0 s)) + count f (take 16 (drop 32 s)) + count f (take 16 (drop 16 s))
+  count-three s =
+      omega (
+        arith,
+        ap (count f) (take-add 16 32 s),
+        count-append (take 16 s) (take 32 (drop 16 s)),
+        ap (count f) (take-add 16 16 (drop 16 s)),
+        count-append (take 16 (drop 16 s)) (take 16 (drop 16 (drop 16 s))),
+        ap (λ (l : List ℕ). count f (take 16 l)) (drop-drop 16 16 s),
+      )
+
+  -- the last 16 bytes have those after a place that is not before them
+  last-16 : (s : List ℕ) (k : ℕ) → 16 ≤ length s → length s - 16 ≤ k → count f (drop k s) ≤ count f (take 16 (drop (length s - 16) s))
+  last-16 s k h l =
+      let n = length s - 16 in
+      let there : n + (k - n) ≡ k = omega arith in
+      let all : take 16 (drop n s) ≡ drop n s = take-all 16 (drop n s) (rw length-drop (omega arith)) in
+      rw (all, ← there, ← drop-drop (k - n) n s) (omega (arith, count-parts (drop n s) (k - n)))
+
+  -- the first 16 and the last, and 16 between
+  pub count-two-parts : (s : List ℕ) → 16 ≤ length s → length s ≤ 32 → count f s ≤ count f (take 16 (drop 0 s)) + count f (take 16 (drop (length s - 16) s))
+  count-two-parts s h k = omega (arith, count-parts s 16, last-16 s 16 h (omega arith))
+
+  pub count-three-parts : (s : List ℕ) → 32 ≤ length s → length s ≤ 48
+      → count f s ≤ count f (take 16 (drop 0 s)) + count f (take 16 (drop (length s - 16) s)) + count f (take 16 (drop 16 s))
+  count-three-parts s h k =
+      omega (arith, count-parts s 16, count-parts (drop 16 s) 16, ap (count f) (drop-drop 16 16 s), last-16 s 32 (omega arith) (omega arith))
+
   -- all of them
   pub count-done : (s : List ℕ) (k n whole : ℕ) → k ≡ whole → n ≡ count f (take k s) → n ≡ count f (take whole s)
   count-done s k n whole h e = rw (← h) e
@@ -64,6 +105,14 @@ module _ (f : ℕ → Bool) where
 unfoldable pub plain : ℕ → Bool
 plain b = within 65 90 b || within 97 122 b || within 48 57 b || eqb b 32
 
+-- any other byte
+abbrev pub other : ℕ → Bool
+other b = not (plain b)
+
+-- a byte that takes three characters
+abbrev pub dear : ℕ → Bool
+dear b = not (bare b || eqb b 32)
+
 single-cost : (b : ℕ) → T (bare b || eqb b 32) → byteCost b ≡ 1
 single-cost b t = ⊎-elim (λ u. ap length (spell-bare b u)) (λ u. rw (eqb→eq b 32 u) (ap length spell-space)) (or-yes (bare b) (eqb b 32) t)
 
@@ -73,12 +122,6 @@ other-cost b t = let p = neither (bare b) (eqb b 32) t in ap length (spell-hex b
     neither : (x y : Bool) → T (not (x || y)) → T (not x) × T (not y)
     neither true y t = absurd t
     neither false y t = (tt, t)
-
--- by the test that code makes
-pub cost-if : (b : ℕ) (t : Bool) → t ≡ (bare b || eqb b 32) → cond t 1 3 ≡ byteCost b
-cost-if b t e =
-    by-test (bare b || eqb b 32) (λ u. rw (e, yes-true (bare b || eqb b 32) u) (sym (single-cost b u)))
-    (λ u. rw (e, no-false (bare b || eqb b 32) u) (sym (other-cost b u)))
 
 plain-single : (b : ℕ) → T (plain b) → T (bare b || eqb b 32)
 unfolding plain bare
@@ -94,7 +137,7 @@ plain-single b t = go (within 65 90 b) (within 97 122 b) (within 48 57 b) _ _ _ 
     go false false true v w x y z s t = tt
     go false false false v w x y z s t = or-right (v || w || x || y || z) s t
 
-plain-cost : (b : ℕ) → byteCost b ≤ 1 + 2 * bit (not (plain b))
+plain-cost : (b : ℕ) → byteCost b ≤ 1 + 2 * bit (other b)
 plain-cost b =
     by-test (plain b) (λ t. rw (yes-true (plain b) t) (omega (arith, single-cost b (plain-single b t))))
     (λ t. rw (no-false (plain b) t) (omega (arith, length-spell-byte b)))
@@ -130,8 +173,19 @@ cost-cons : (b : ℕ) (l : List ℕ) → cost (b ∷ l) ≡ byteCost b + cost l
 unfolding spell
 cost-cons b l = length-append (spellByte b) (spell l)
 
+dear-cost : (b : ℕ) → byteCost b ≡ 1 + 2 * bit (dear b)
+dear-cost b =
+    by-test (bare b || eqb b 32) (λ t. rw (yes-true (bare b || eqb b 32) t) (omega (arith, single-cost b t)))
+    (λ t. rw (no-false (bare b || eqb b 32) t) (omega (arith, other-cost b t)))
+
+-- 3 for each byte that takes three
+pub escaped-cost : (l : List ℕ) → cost l ≡ length l + 2 * count dear l
+unfolding count spell
+escaped-cost [] = omega arith
+escaped-cost (b ∷ l) = omega (arith, cost-cons b l, dear-cost b, escaped-cost l)
+
 -- at most 3 for each byte that is neither a letter, a digit nor a space
-pub others-cost : (l : List ℕ) → cost l ≤ length l + 2 * count (λ b. not (plain b)) l
+pub others-cost : (l : List ℕ) → cost l ≤ length l + 2 * count other l
 unfolding count spell
 others-cost [] = omega arith
 others-cost (b ∷ l) = omega (arith, cost-cons b l, plain-cost b, others-cost l)
@@ -147,19 +201,6 @@ pub cost-front : (s : List ℕ) (k n : ℕ) → k ≤ n → cost (take k s) ≤ 
 cost-front s k n h =
     let whole : k + (n - k) ≡ n = omega arith in
     rw (← whole, take-add) (omega (arith, length-spell-append (take k s) (take (n - k) (drop k s))))
-
-pub cost-none : (s : List ℕ) → 0 ≡ cost (take 0 s)
-unfolding spell
-cost-none s = refl
-
-pub cost-all : (s : List ℕ) (k n : ℕ) → length s ≤ k → n ≡ cost (take k s) → n ≡ cost s
-cost-all s k n h e = e ∙ ap cost (take-all k s h)
-
--- one byte more
-pub cost-next : (s : List ℕ) (k n m : ℕ) → k < length s → n ≡ cost (take k s) → m ≡ byteCost (getD s k 0) → n + m ≡ cost (take (k + 1) s)
-unfolding spell
-cost-next s k n m h e d =
-    rw (add-one k, take-suc s k 0 h) (omega (arith, e, d, length-spell-append (take k s) (getD s k 0 ∷ []), cost-cons (getD s k 0) []))
 
 -- ---- where characters start
 

@@ -19,7 +19,7 @@ use Rattle.row.specs.Row.{holds}
 use Rattle.row.specs.WordEnd.{Span, WordEnd}
 use Rattle.row.specs.WordEndLaws.{span-none, span-char, span-join, length-span, between, word-end-b}
 use Rattle.word_choice.specs.Choice.{AlsoInQ}
-use Rattle.word_choice.specs.BlockLaws.{plain, count, count-front, others-cost, highs-cost, cost-front}
+use Rattle.word_choice.specs.BlockLaws.{other, count, count-front, others-cost, highs-cost, cost-front}
 
 -- the most bytes that a word in B holds
 abbrev pub bytesInB : ℕ → ℕ
@@ -61,12 +61,16 @@ module _ (room : ℕ) (s : List ℕ) where
       let all : take (length s) s ≡ s = take-all (length s) s (omega arith) in
       also-in-q room s (length s) (rw all h) (λ e p k. p .within)
 
+  -- few bytes of the whole text that are neither letters, digits nor spaces
+  pub also-few : (n : ℕ) → count other s ≤ n → length s + 2 * n ≤ room → AlsoInQ room s
+  also-few n h k = also-whole (omega (arith, others-cost s))
+
   -- few bytes of the first 48 that are neither letters, digits nor spaces
-  pub also-plain : bytesInB room ≤ 48 → bytesInB room + 2 * count (λ b. not (plain b)) (take 48 s) ≤ room → AlsoInQ room s
+  pub also-plain : bytesInB room ≤ 48 → bytesInB room + 2 * count other (take 48 s) ≤ room → AlsoInQ room s
   also-plain h k =
       let n = bytesInB room in
       also-in-q room s n
-      (omega (arith, k, others-cost (take n s), length-take n s, count-front (λ b. not (plain b)) s n 48 h)) (λ e p j. j)
+      (omega (arith, k, others-cost (take n s), length-take n s, count-front other s n 48 h)) (λ e p j. j)
 
 -- of two places where characters end, up to the limit, the last cannot be passed
 order : (p q x y : List (List ℕ)) (k limit : ℕ) → p ++ x ≡ q ++ y → ((c : List ℕ) (cs : List (List ℕ)) → x ≡ c ∷ cs → limit < k + length (joined p) + length c)

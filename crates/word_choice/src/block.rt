@@ -1,12 +1,12 @@
 // Tests of the first bytes of a text, all of them, without an early exit.
 ghost use mathlib.Core.Path.{_≡_};
-ghost use mathlib.Core.Bool.{true, not, _||_};
-ghost use Prim.Native.Nat.{_≤_, _<_};
+ghost use mathlib.Core.Bool.{true, _||_};
+ghost use Prim.Native.Nat.{_+_, _≤_, _<_};
 ghost use lib.Dec.{leb, eqb};
-ghost use lib.ListN.{length, take};
+ghost use lib.ListN.{length, take, drop};
 ghost use Rattle.word_spelling.specs.Spelling.{bare};
 ghost use Rattle.utf8.specs.Utf8.{continues};
-ghost use Rattle.word_choice.specs.BlockLaws.{plain, bit, count, placed, Regular, stepBack};
+ghost use Rattle.word_choice.specs.BlockLaws.{plain, other, dear, bit, count, placed, Regular, stepBack};
 
 // Whether a byte is a letter, a digit or a space.
 fn is_plain(b: u8) -> bool
@@ -16,7 +16,7 @@ fn is_plain(b: u8) -> bool
 }
 
 // Whether a byte takes one character of a word in Q.
-pub(crate) fn single(b: u8) -> bool
+fn single(b: u8) -> bool
     ensures { λ r. ⌜ r ≡ (bare b || eqb b 32) ⌝ }
 {
     (65 <= b) & (b <= 90)
@@ -42,15 +42,29 @@ fn wide(b: u8) -> usize
     b as usize
 }
 
-// How many of the first 48 bytes are neither letters, digits nor spaces.
-pub(crate) fn others(s: &[u8]) -> usize
-    requires { ⌜ 48 ≤ length (now s) ⌝ }
-    ensures { λ r. ⌜ (r ≡ count (λ b. not (plain b)) (take 48 (now (s .entry)))) × (r ≤ 48) ⌝ }
+// How many of the 16 bytes from a place on are neither letters, digits nor spaces.
+pub(crate) fn others(s: &[u8], at: usize) -> usize
+    requires { ⌜ at + 16 ≤ length (now s) ⌝ }
+    ensures { λ r. ⌜ (r ≡ count other (take 16 (drop at (now (s .entry))))) × (r ≤ 16) ⌝ }
 {
     let mut n = 0u8;
     let mut k = 0;
-    while k < 48 {
-        n += one_if(!is_plain(s[k]));
+    while k < 16 {
+        n += one_if(!is_plain(s[at + k]));
+        k += 1;
+    }
+    wide(n)
+}
+
+// How many of 45 bytes at most take three characters of a word in Q.
+pub(crate) fn escaped(s: &[u8]) -> usize
+    requires { ⌜ length (now s) ≤ 45 ⌝ }
+    ensures { λ r. ⌜ (r ≡ count dear (now (s .entry))) × (r ≤ 45) ⌝ }
+{
+    let mut n = 0u8;
+    let mut k = 0;
+    while k < s.len() {
+        n += one_if(!single(s[k]));
         k += 1;
     }
     wide(n)

@@ -5,13 +5,14 @@ mod block;
 ghost use mathlib.Core.Path.{_≡_};
 ghost use Prim.Native.Nat.{_≤_, min};
 ghost use lib.ListN.{length};
-ghost use Rattle.word_spelling.specs.Cost.{byteCost, cost};
+ghost use Rattle.word_spelling.specs.Cost.{cost};
 ghost use Rattle.word_choice.specs.Choice.{Chosen};
+ghost use Rattle.word_choice.specs.BlockLaws.{other, count};
 ghost use Rattle.word_choice.specs.ChoiceLaws.{bytesInB, FullInB};
+use block::escaped;
 use block::highs;
 use block::others;
 use block::regular;
-use block::single;
 use block::step_back;
 
 // The encoding of a word, and in B the place where it ends. In Q it ends where the next character does not fit.
@@ -20,25 +21,25 @@ pub enum Choice {
     InB(usize),
 }
 
-// How many characters of a word a byte takes in Q.
-fn byte_cost(b: u8) -> usize
-    ensures { λ r. ⌜ (r ≡ byteCost b) × (r ≤ 3) ⌝ }
-{
-    if single(b) { 1 } else { 3 }
-}
-
 // How many characters of a word a text takes in Q.
 fn costs(text: &[u8]) -> usize
     requires { ⌜ length (now text) ≤ 45 ⌝ }
     ensures { λ r. ⌜ r ≡ cost (now (text .entry)) ⌝ }
 {
-    let mut n = 0;
-    let mut i = 0;
-    while i < text.len() {
-        n += byte_cost(text[i]);
-        i += 1;
+    text.len() + 2 * escaped(text)
+}
+
+// At most so many bytes of a text are neither letters, digits nor spaces: those of its first 16 and its last, and of 16 between where it has
+// more than 32. Bytes in two of these parts count twice.
+fn most_others(text: &[u8]) -> usize
+    requires { ⌜ (16 ≤ length (now text)) × (length (now text) ≤ 48) ⌝ }
+    ensures { λ r. ⌜ (count other (now (text .entry)) ≤ r) × (r ≤ 48) ⌝ }
+{
+    let ends = others(text, 0) + others(text, text.len() - 16);
+    if text.len() <= 32 {
+        return ends;
     }
-    n
+    ends + others(text, 16)
 }
 
 // A text that a word in B holds whole.
@@ -52,6 +53,11 @@ fn whole(text: &[u8], room: usize) -> Choice
     if 32 <= text.len() {
         if room < 32 + 2 * highs(text) {
             return Choice::InB(text.len());
+        }
+    }
+    if 16 <= text.len() {
+        if text.len() + 2 * most_others(text) <= room {
+            return Choice::InQ;
         }
     }
     if costs(text) <= room {
@@ -103,7 +109,8 @@ fn by_block(text: &[u8], room: usize) -> Choice
         }
         return by_characters(text, room);
     }
-    if limit + 2 * others(text) <= room {
+    let n = others(text, 0) + others(text, 16) + others(text, 32);
+    if limit + 2 * n <= room {
         return Choice::InQ;
     }
     by_characters(text, room)
