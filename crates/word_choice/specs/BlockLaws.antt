@@ -197,8 +197,9 @@ placed-start s {t} {u} e h d k = record { each = λ z j l. go j l }
     go (suc zero) l = rw d at (yes u k)
     go (suc (suc j)) l = absurd (omega arith)
 
-pub not-regular : {s : List ℕ} → false ≡ true → Regular s
-not-regular e = let z : _≡_ {A = ℕ} 0 1 = cc in absurd (omega arith)
+-- a test that failed tells nothing
+pub untrue : {P : Type 0} → false ≡ true → P
+untrue e = let z : _≡_ {A = ℕ} 0 1 = cc in absurd (omega arith)
 
 pub placed-next : {s : List ℕ} {ok : Bool} (k : ℕ) → Placed s (k + 2) ok
     → Placed s (k + 1 + 2) (ok && placed (getD s k 0) (getD s (k + 1) 0) (getD s (k + 1 + 1) 0))

@@ -1,3 +1,5 @@
+use Rattle.word_choice.specs.BlockLaws.{back-steps}
+use mathlib.Core.Path.{_∙_}
 use borrow.Author.Needs.{needs}
 use Rattle.word_choice.proofs.block.step_back.Statement.{statement}
 use Rattle.word_choice.proofs.block.step_back.Tie as tie
@@ -53,7 +55,7 @@ sub-result-2 c = search needs
 
 -- src/block.rt:127:1
 returns : tie.Need-returns
-returns c = ?
+returns c = back-steps (c .before .before .before .before .before .before .before .before .before .args .s .now) (c .before .before .before .before .before .before .before .before .before .args .limit) _ _ _ _ (c .before .before .before .before .before .before .before .before .before .pre .0) (c .before .before .before .before .before .before .is-tail .ensures) (c .before .before .before .before .is-tail2 .ensures) (c .before .before .wide .ensures ∙ c .before .before .before .one-if .ensures .0) (c .wide2 .ensures ∙ c .before .one-if2 .ensures .0)
 
 pub step-back-spec : {M : Type 1} → statement M
 step-back-spec =
