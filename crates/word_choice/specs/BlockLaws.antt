@@ -8,8 +8,8 @@ use native.Mathlib.Nat.{not-suc-le-zero}
 use native.Mathlib.Numerals.{add-one, unary-clauses}
 use native.Mathlib.Omega.{arith}
 use lib.Dec.{T, T-not, leb, ltb, eqb, leb→le, le→leb, eqb→eq, ltb→lt}
-use lib.ListN.{length, take, drop, getD, length-append, length-take, length-drop, take-append-drop}
-use lib.Seq.{take-suc, take-add, take-all, drop-drop, getD-drop}
+use lib.ListN.{length, take, drop, getD, length-append, length-take}
+use lib.Seq.{take-suc, take-add, take-all}
 use mir.Facts.{and-yes, or-yes, ltb-yes, no-eqb, eqb-no}
 use Rattle.lists.specs.Byte.{within}
 use Rattle.lists.specs.ListsLaws.{by-test, cond-yes, cond-no, yes-true, true-yes, no-false}
@@ -48,46 +48,9 @@ module _ (f : ℕ → Bool) where
   count-next s k n m h e d =
       rw (add-one k, take-suc s k 0 h) (omega (arith, e, d, count-append (take k s) (getD s k 0 ∷ []), count-one (getD s k 0)))
 
-  -- the same from a place on
-  pub count-next-at : (s : List ℕ) (at k n m : ℕ) → at + k < length s → n ≡ count f (take k (drop at s)) → m ≡ bit (f (getD s (at + k) 0))
-      → n + m ≡ count f (take (k + 1) (drop at s))
-  count-next-at s at k n m h e d = count-next (drop at s) k n m (rw length-drop (omega arith)) e (d ∙ ap (λ (b : ℕ). bit (f b)) (sym (getD-drop at s k 0)))
-
   -- all of a text
   pub count-all : (s : List ℕ) (k n : ℕ) → length s ≤ k → n ≡ count f (take k s) → n ≡ count f s
   count-all s k n h e = e ∙ ap (count f) (take-all k s h)
-
-  -- a text by parts
-  count-parts : (s : List ℕ) (k : ℕ) → count f s ≡ count f (take k s) + count f (drop k s)
-  count-parts s k = ap (count f) (sym (take-append-drop k s)) ∙ count-append (take k s) (drop k s)
-
-  pub count-three : (s : List ℕ) → count f (take 48 s) ≡ count f (take 16 (drop 0 s)) + count f (take 16 (drop 32 s)) + count f (take 16 (drop 16 s))
-  count-three s =
-      omega (
-        arith,
-        ap (count f) (take-add 16 32 s),
-        count-append (take 16 s) (take 32 (drop 16 s)),
-        ap (count f) (take-add 16 16 (drop 16 s)),
-        count-append (take 16 (drop 16 s)) (take 16 (drop 16 (drop 16 s))),
-        ap (λ (l : List ℕ). count f (take 16 l)) (drop-drop 16 16 s),
-      )
-
-  -- the last 16 bytes have those after a place that is not before them
-  last-16 : (s : List ℕ) (k : ℕ) → 16 ≤ length s → length s - 16 ≤ k → count f (drop k s) ≤ count f (take 16 (drop (length s - 16) s))
-  last-16 s k h l =
-      let n = length s - 16 in
-      let there : n + (k - n) ≡ k = omega arith in
-      let all : take 16 (drop n s) ≡ drop n s = take-all 16 (drop n s) (rw length-drop (omega arith)) in
-      rw (all, ← there, ← drop-drop (k - n) n s) (omega (arith, count-parts (drop n s) (k - n)))
-
-  -- the first 16 and the last, and 16 between
-  pub count-two-parts : (s : List ℕ) → 16 ≤ length s → length s ≤ 32 → count f s ≤ count f (take 16 (drop 0 s)) + count f (take 16 (drop (length s - 16) s))
-  count-two-parts s h k = omega (arith, count-parts s 16, last-16 s 16 h (omega arith))
-
-  pub count-three-parts : (s : List ℕ) → 32 ≤ length s → length s ≤ 48
-      → count f s ≤ count f (take 16 (drop 0 s)) + count f (take 16 (drop (length s - 16) s)) + count f (take 16 (drop 16 s))
-  count-three-parts s h k =
-      omega (arith, count-parts s 16, count-parts (drop 16 s) 16, ap (count f) (drop-drop 16 16 s), last-16 s 32 (omega arith) (omega arith))
 
   -- all of them
   pub count-done : (s : List ℕ) (k n whole : ℕ) → k ≡ whole → n ≡ count f (take k s) → n ≡ count f (take whole s)
@@ -221,13 +184,22 @@ both-true : (a b : Bool) → a && b ≡ true → (a ≡ true) × (b ≡ true)
 both-true true b e = (refl, e)
 both-true false b e = let z : _≡_ {A = ℕ} 0 1 = cc in absurd (omega arith)
 
-pub placed-start : (s : List ℕ) → 2 ≤ length s → Placed s 2 (placed 0 0 (getD s 0 0) && placed 0 (getD s 0 0) (getD s 1 0))
-placed-start s h = record { each = λ e j k. go (both-true _ _ e) j k }
+pub placed-start : (s : List ℕ) {t u : Bool} → t ≡ placed 0 0 (getD s 0 0) → not t ≡ false → u ≡ placed 0 (getD s 0 0) (getD s 1 0) → not u ≡ false
+    → Placed s 2 true
+placed-start s {t} {u} e h d k = record { each = λ z j l. go j l }
   where
-    go : (placed 0 0 (getD s 0 0) ≡ true) × (placed 0 (getD s 0 0) (getD s 1 0) ≡ true) → (j : ℕ) → j < 2 → T (placed (getD (0 ∷ 0 ∷ s) j 0) (getD (0 ∷ s) j 0) (getD s j 0))
-    go p zero k = true-yes _ (p .0)
-    go p (suc zero) k = true-yes _ (p .1)
-    go p (suc (suc j)) k = absurd (omega arith)
+    yes : (b : Bool) → not b ≡ false → T b
+    yes true e = tt
+    yes false e = let z : _≡_ {A = ℕ} 0 1 = cc in absurd (omega arith)
+
+    go : (j : ℕ) → j < 2 → T (placed (getD (0 ∷ 0 ∷ s) j 0) (getD (0 ∷ s) j 0) (getD s j 0))
+    go zero l = rw e at (yes t h)
+    go (suc zero) l = rw d at (yes u k)
+    go (suc (suc j)) l = absurd (omega arith)
+
+-- a test that failed tells nothing
+pub untrue : {P : Type 0} → false ≡ true → P
+untrue e = let z : _≡_ {A = ℕ} 0 1 = cc in absurd (omega arith)
 
 pub placed-next : {s : List ℕ} {ok : Bool} (k : ℕ) → Placed s (k + 2) ok
     → Placed s (k + 1 + 2) (ok && placed (getD s k 0) (getD s (k + 1) 0) (getD s (k + 1 + 1) 0))
@@ -247,18 +219,11 @@ abbrev pub stepBack : List ℕ → ℕ → ℕ
 stepBack s n = cond (not (continues (getD s n 0))) n (cond (not (continues (getD s (n - 1) 0))) (n - 1) (n - 2))
 
 -- by the tests that code makes, of the byte at the place and of the one before it
-module _ (s : List ℕ) (n : ℕ) {t : Bool} (e : t ≡ continues (getD s n 0)) where
-  pub back-none : not t ≡ true → n ≡ stepBack s n
-  back-none h = sym (cond-yes (not (continues (getD s n 0))) n _ (rw (← e) (true-yes (not t) h)))
-
-  tail-here : not t ≡ false → T (not (not (continues (getD s n 0))))
-  tail-here h = rw (← e, h) tt
-
-  module _ {u : Bool} (h : not t ≡ false) (d : u ≡ continues (getD s (n - 1) 0)) where
-    pub back-one : not u ≡ true → n - 1 ≡ stepBack s n
-    back-one k =
-        sym (cond-no (not (continues (getD s n 0))) n _ (tail-here h) ∙ cond-yes (not (continues (getD s (n - 1) 0))) (n - 1) (n - 2) (rw (← d) (true-yes (not u) k)))
-
-    pub back-two : not u ≡ false → n - 2 ≡ stepBack s n
-    back-two k =
-        sym (cond-no (not (continues (getD s n 0))) n _ (tail-here h) ∙ cond-no (not (continues (getD s (n - 1) 0))) (n - 1) (n - 2) (rw (← d, k) tt))
+pub back-steps : (s : List ℕ) (n a b : ℕ) (t u : Bool) → 2 ≤ n → t ≡ continues (getD s n 0) → u ≡ continues (getD s (n - 1) 0) → a ≡ bit t → b ≡ bit (t && u)
+    → n - a - b ≡ stepBack s n
+back-steps s n a b t u h e d p q = rw (← e, ← d, p, q) (go t u)
+  where
+    go : (t u : Bool) → n - bit t - bit (t && u) ≡ cond (not t) n (cond (not u) (n - 1) (n - 2))
+    go true true = omega arith
+    go true false = omega arith
+    go false u = omega arith

@@ -61,10 +61,6 @@ module _ (room : ℕ) (s : List ℕ) where
       let all : take (length s) s ≡ s = take-all (length s) s (omega arith) in
       also-in-q room s (length s) (rw all h) (λ e p k. p .within)
 
-  -- few bytes of the whole text that are neither letters, digits nor spaces
-  pub also-few : (n : ℕ) → count other s ≤ n → length s + 2 * n ≤ room → AlsoInQ room s
-  also-few n h k = also-whole (omega (arith, others-cost s))
-
   -- few bytes of the first 48 that are neither letters, digits nor spaces
   pub also-plain : bytesInB room ≤ 48 → bytesInB room + 2 * count other (take 48 s) ≤ room → AlsoInQ room s
   also-plain h k =

@@ -135,6 +135,9 @@ word-at-small w = omega (arith, w .size, word-small (w .end))
 pub chosen-q : {room : ℕ} {s : List ℕ} {k : Choice} → room ≤ 63 → k ≡ InQ → Chosen (min room 63) s k → AlsoInQ room s
 chosen-q {room} {s} h e a = let same : min room 63 ≡ room = omega arith in rw same at (rw e at a)
 
+pub sure-q : {room : ℕ} {s : List ℕ} → room ≤ 63 → AlsoInQ (min room 63) s → AlsoInQ room s
+sure-q {room} h a = let same : min room 63 ≡ room = omega arith in rw same at a
+
 pub chosen-b : {room : ℕ} {s : List ℕ} {k : Choice} {e : ℕ} → room ≤ 63 → k ≡ InB e → Chosen (min room 63) s k → WordEnd room s 0 e B
 chosen-b {room} {s} h e a = let same : min room 63 ≡ room = omega arith in rw same at (rw e at a)
 

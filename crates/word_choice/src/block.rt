@@ -1,9 +1,9 @@
 // Tests of the first bytes of a text, all of them, without an early exit.
 ghost use mathlib.Core.Path.{_≡_};
 ghost use mathlib.Core.Bool.{true, _||_};
-ghost use Prim.Native.Nat.{_+_, _≤_, _<_};
+ghost use Prim.Native.Nat.{_≤_, _<_};
 ghost use lib.Dec.{leb, eqb};
-ghost use lib.ListN.{length, take, drop};
+ghost use lib.ListN.{length, take};
 ghost use Rattle.word_spelling.specs.Spelling.{bare};
 ghost use Rattle.utf8.specs.Utf8.{continues};
 ghost use Rattle.word_choice.specs.BlockLaws.{plain, other, dear, bit, count, placed, Regular, stepBack};
@@ -42,15 +42,15 @@ fn wide(b: u8) -> usize
     b as usize
 }
 
-// How many of the 16 bytes from a place on are neither letters, digits nor spaces.
-pub(crate) fn others(s: &[u8], at: usize) -> usize
-    requires { ⌜ at + 16 ≤ length (now s) ⌝ }
-    ensures { λ r. ⌜ (r ≡ count other (take 16 (drop at (now (s .entry))))) × (r ≤ 16) ⌝ }
+// How many of the first 48 bytes are neither letters, digits nor spaces.
+pub(crate) fn others(s: &[u8]) -> usize
+    requires { ⌜ 48 ≤ length (now s) ⌝ }
+    ensures { λ r. ⌜ (r ≡ count other (take 48 (now (s .entry)))) × (r ≤ 48) ⌝ }
 {
     let mut n = 0u8;
     let mut k = 0;
-    while k < 16 {
-        n += one_if(!is_plain(s[at + k]));
+    while k < 48 {
+        n += one_if(!is_plain(s[k]));
         k += 1;
     }
     wide(n)
@@ -105,7 +105,14 @@ pub(crate) fn regular(s: &[u8]) -> bool
     requires { ⌜ 50 ≤ length (now s) ⌝ }
     ensures { λ r. ⌜ (r ≡ true → Regular (now (s .entry))) ⌝ }
 {
-    let mut ok = is_placed(0, 0, s[0]) & is_placed(0, s[0], s[1]);
+    let a = s[0];
+    if !is_placed(0, 0, a) {
+        return false;
+    }
+    if !is_placed(0, a, s[1]) {
+        return false;
+    }
+    let mut ok = true;
     let mut k = 0;
     while k < 48 {
         let l = k + 1;
@@ -121,12 +128,8 @@ pub(crate) fn step_back(s: &[u8], limit: usize) -> usize
     requires { ⌜ (2 ≤ limit) × (limit < length (now s)) ⌝ }
     ensures { λ r. ⌜ r ≡ stepBack (now (s .entry)) limit ⌝ }
 {
-    if !is_tail(s[limit]) {
-        return limit;
-    }
     let before = limit - 1;
-    if !is_tail(s[before]) {
-        return before;
-    }
-    limit - 2
+    let inside = is_tail(s[limit]);
+    let further = inside & is_tail(s[before]);
+    limit - wide(one_if(inside)) - wide(one_if(further))
 }

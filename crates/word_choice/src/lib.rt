@@ -3,11 +3,12 @@
 mod block;
 
 ghost use mathlib.Core.Path.{_≡_};
+ghost use mathlib.Core.Bool.{true};
 ghost use Prim.Native.Nat.{_≤_, min};
 ghost use lib.ListN.{length};
 ghost use Rattle.word_spelling.specs.Cost.{cost};
 ghost use Rattle.word_choice.specs.Choice.{Chosen};
-ghost use Rattle.word_choice.specs.BlockLaws.{other, count};
+ghost use Rattle.word_choice.specs.declared.Choice.the-variants.{InQ};
 ghost use Rattle.word_choice.specs.ChoiceLaws.{bytesInB, FullInB};
 use block::escaped;
 use block::highs;
@@ -29,19 +30,6 @@ fn costs(text: &[u8]) -> usize
     text.len() + 2 * escaped(text)
 }
 
-// At most so many bytes of a text are neither letters, digits nor spaces: those of its first 16 and its last, and of 16 between where it has
-// more than 32. Bytes in two of these parts count twice.
-fn most_others(text: &[u8]) -> usize
-    requires { ⌜ (16 ≤ length (now text)) × (length (now text) ≤ 48) ⌝ }
-    ensures { λ r. ⌜ (count other (now (text .entry)) ≤ r) × (r ≤ 48) ⌝ }
-{
-    let ends = others(text, 0) + others(text, text.len() - 16);
-    if text.len() <= 32 {
-        return ends;
-    }
-    ends + others(text, 16)
-}
-
 // A text that a word in B holds whole.
 fn whole(text: &[u8], room: usize) -> Choice
     requires { ⌜ (room ≤ 63) × (length (now text) ≤ bytesInB room) ⌝ }
@@ -53,11 +41,6 @@ fn whole(text: &[u8], room: usize) -> Choice
     if 32 <= text.len() {
         if room < 32 + 2 * highs(text) {
             return Choice::InB(text.len());
-        }
-    }
-    if 16 <= text.len() {
-        if text.len() + 2 * most_others(text) <= room {
-            return Choice::InQ;
         }
     }
     if costs(text) <= room {
@@ -109,11 +92,25 @@ fn by_block(text: &[u8], room: usize) -> Choice
         }
         return by_characters(text, room);
     }
-    let n = others(text, 0) + others(text, 16) + others(text, 32);
-    if limit + 2 * n <= room {
+    if limit + 2 * others(text) <= room {
         return Choice::InQ;
     }
     by_characters(text, room)
+}
+
+// Whether Q is surely chosen for the word at the front of a text, in a room of so many characters, at most 63: its first byte is ASCII, and
+// few of its first bytes are neither letters, digits nor spaces. A short test, for callers to make first.
+pub fn surely_in_q(text: &[u8], width: usize) -> bool
+    ensures { λ r. ⌜ (r ≡ true → Chosen (min width 63) (now (text .entry)) InQ) ⌝ }
+{
+    if text.len() < 48 {
+        return false;
+    }
+    if 128 <= text[0] {
+        return false;
+    }
+    let room = buffer::clip(width, 63);
+    room / 4 * 3 + 2 * others(text) <= room
 }
 
 // The choice for the word at the front of a text, in a room of so many characters, at most 63.

@@ -1,7 +1,7 @@
-use Rattle.word_choice.specs.BlockLaws.{other, bit, count, count-none, count-next-at, count-done}
+use Rattle.word_choice.specs.BlockLaws.{other, bit, count, count-none, count-next, count-done}
 use borrow.Author.Needs.{needs}
 use native.Mathlib.Omega.{arith}
-use lib.ListN.{length, take, drop}
+use lib.ListN.{length, take}
 use Prim.Native.Nat.{ℕ, _-_, _≤_}
 use mathlib.Core.Bool.{Bool, not}
 use mathlib.Core.Path.{_≡_, sym, ap, _∙_}
@@ -14,18 +14,14 @@ use Rattle.word_choice.proofs.block.one_if.Reads as one-if-reads
 use Rattle.word_choice.proofs.block.wide.Reads as wide-reads
 
 abbrev Inv-loop : tie.InvT-loop
-Inv-loop s at n₀ k₀ n k = (n ≡ count other (take k (drop at s))) × (n ≤ k) × (k ≤ 16)
+Inv-loop s n₀ k₀ n k = (n ≡ count other (take k s)) × (n ≤ k) × (k ≤ 48)
 
 abbrev μ-loop : tie.MeasureT-loop
-μ-loop s at n₀ k₀ n k = 16 - k
+μ-loop s n₀ k₀ n k = 48 - k
 
 -- src/block.rt:52:5
 loop-holds : tie.Need-loop-holds Inv-loop μ-loop
-loop-holds c = (count-none other (drop (c .before .args .at) (c .before .args .s .now)), omega arith, omega arith)
-
--- src/block.rt:53:33
-add-is-plain : tie.Need-add-is-plain Inv-loop μ-loop
-add-is-plain c = omega (arith, c .before .before .before .pre)
+loop-holds c = (count-none other (c .before .args .s .now), omega arith, omega arith)
 
 -- src/block.rt:53:31
 shared-slice-read-is-plain : tie.Need-shared-slice-read-is-plain Inv-loop μ-loop
@@ -53,7 +49,7 @@ loop-less c = omega arith
 
 -- src/block.rt:52:5
 loop-again : tie.Need-loop-again Inv-loop μ-loop
-loop-again c = (count-next-at other (c .before .before .before .before .before .before .args .s .now) (c .before .before .before .before .before .before .args .at) (c .before .before .before .before .loop .k) _ _ (omega (arith, c .before .before .before .before .before .before .pre)) (c .before .before .before .before .loop .inv .0) (c .one-if .ensures .0 ∙ ap (λ (t : Bool). bit (not t)) (c .before .is-plain .ensures)), omega (arith, c .one-if .ensures .1), omega arith)
+loop-again c = (count-next other (c .before .before .before .before .before .before .args .s .now) (c .before .before .before .before .loop .k) _ _ (omega (arith, c .before .before .before .before .before .before .pre)) (c .before .before .before .before .loop .inv .0) (c .one-if .ensures .0 ∙ ap (λ (t : Bool). bit (not t)) (c .before .is-plain .ensures)), omega (arith, c .one-if .ensures .1), omega arith)
 
 -- src/block.rt:56:5
 wide-requires : tie.Need-wide-requires Inv-loop μ-loop
@@ -61,7 +57,7 @@ wide-requires c κs = search needs
 
 -- src/block.rt:46:1
 returns : tie.Need-returns Inv-loop μ-loop
-returns c = (c .wide .ensures ∙ count-done other (drop (c .before .before .before .before .args .at) (c .before .before .before .before .args .s .now)) (c .before .before .loop .k) _ 16 (omega arith) (c .before .before .loop .inv .0), omega (arith, c .wide .ensures))
+returns c = (c .wide .ensures ∙ count-done other (c .before .before .before .before .args .s .now) (c .before .before .loop .k) _ 48 (omega arith) (c .before .before .loop .inv .0), omega (arith, c .wide .ensures))
 
 pub others-spec : {M : Type 1} → statement M
 others-spec =
@@ -70,7 +66,6 @@ others-spec =
     Inv-loop
     μ-loop
     loop-holds
-    add-is-plain
     shared-slice-read-is-plain
     is-plain-requires
     one-if-requires
