@@ -252,7 +252,7 @@ pub begun-here : {column : ℕ} {s : List ℕ} {e r : ℕ} {before mid after : L
 begun-here {column} {s} {e} {before = before} h l v w = record {
   within = w .end .span .within;
   reached = reached-then (32 ∷ word (w .kind) (between s 0 e)) (row (drop e s)) (reached-start (rowAfter column s) 0 before)
-    (first-step column (w .end) (some-fits (63 - column) s (w .end) (omega arith) l)) (appended-then v (w .wrote));
+      (first-step column (w .end) (some-fits (63 - column) s (w .end) (omega arith) l)) (appended-then v (w .wrote));
 }
 
 -- the tests for that
