@@ -18,8 +18,8 @@
 # make clean        removes target/ and dist/
 #
 # All that is proved needs the Rattle kit (rt); lib, relay and their tests a C
-# compiler, pipe-test and interop also Python 3; model, fuzz, fuzz-batch and bench
-# cargo.
+# compiler, pipe-test and interop also Python 3; model, bench and what begins with
+# fuzz cargo.
 
 IN = examples/bulletin.txt
 PREFIX = /usr/local

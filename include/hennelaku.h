@@ -202,7 +202,10 @@ uint32_t hennelaku_version(void);
  *
  * In plain text and Downgraded- fields the first encoded word stands after the
  * colon and one space, as far as 76 characters allow; where no character fits
- * there, the colon ends its line. Every other word has a line of its own.
+ * there, the colon ends its line. Every other word has a line of its own. Each
+ * word is in Q or in B of RFC 2047, whichever holds more characters of what is
+ * left of the text, in Q where they hold as many. So no row of words of both
+ * kinds has fewer words; in those fields, none so set has fewer lines.
  *
  * After any other number no byte of either buffer has changed, and both
  * lengths are 0.

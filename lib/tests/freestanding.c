@@ -46,7 +46,7 @@ void run(void)
         (const uint8_t *)header, sizeof header - 1,
         out_envelope, sizeof out_envelope, out_header, sizeof out_header);
     int right = a.number == HENNELAKU_OK && a.envelope_len == 54
-             && a.header_len == 146 && out_envelope[11] == 'e'
+             && a.header_len == 140 && out_envelope[11] == 'e'
              && hennelaku_version() == HENNELAKU_VERSION
              && hennelaku_smtp_reply(a.number).code == 250
              && hennelaku_number_text(a.number)[0] == 'd';

@@ -40,19 +40,19 @@ static void test_whole_case(void)
     outcome o = call(HENNELAKU_SPOOL, AREA_GUARDED, e, h, 1000, 1000);
 
     expect_answer(&o, taken());
-    if (o.answer.envelope_len != 54 || o.answer.header_len != 146) {
+    if (o.answer.envelope_len != 54 || o.answer.header_len != 140) {
         blame("lengths %zu and %zu", o.answer.envelope_len,
               o.answer.header_len);
     }
     outcome_free(&o);
-    report("whole case: lengths 54 and 146");
-    expect_refusal(HENNELAKU_SPOOL, AREA_GUARDED, e, h, 54, 145,
-                   no_header_room(146));
-    report("whole case: header buffer of 145 is 8 at 146");
-    expect_refusal(HENNELAKU_SPOOL, AREA_GUARDED, e, h, 53, 146,
+    report("whole case: lengths 54 and 140");
+    expect_refusal(HENNELAKU_SPOOL, AREA_GUARDED, e, h, 54, 139,
+                   no_header_room(140));
+    report("whole case: header buffer of 139 is 8 at 140");
+    expect_refusal(HENNELAKU_SPOOL, AREA_GUARDED, e, h, 53, 140,
                    no_envelope_room(54));
     report("whole case: envelope buffer of 53 is 7 at 54");
-    expect_refusal(HENNELAKU_SPOOL, AREA_GUARDED, e, h, 53, 145,
+    expect_refusal(HENNELAKU_SPOOL, AREA_GUARDED, e, h, 53, 139,
                    no_envelope_room(54));
     report("whole case: both short is 7");
 }
@@ -254,17 +254,25 @@ static void test_null(void)
                 2, HENNELAKU_ENVELOPE, 0, 0);
 }
 
-/* The header that grows most of those that are known: tiny addresses, each of
- * them removed. */
+/* The header that grows most of those that are known: fields of 59 bytes with
+ * eleven tiny addresses, each of them removed. An address and the comma after it
+ * take 68 bytes: 28 and 12 besides its word, which is in Q, of 12 characters.
+ * The original text has 35 bytes in B on the name's line, and in Q the 19 that
+ * are left. */
+#define GROWING_LEN 59
+#define GROWN_LEN \
+    (3 + 11 * 68 - 1 + 2 + 14 + 13 + 48 + 15 + 3 * 19 + 2)
+
 static void test_bounds(void)
 {
     text h = text_new(HENNELAKU_MAX_HEADER);
+    size_t fields = 0;
     size_t i;
     outcome o;
 
-    while (h.room - h.len >= 1000) {
+    for (; h.room - h.len >= GROWING_LEN; fields++) {
         text_add(&h, "To:" E_ACUTE "@_");
-        for (i = 0; i < 198; i++) {
+        for (i = 0; i < 10; i++) {
             text_add(&h, "," E_ACUTE "@_");
         }
         text_add(&h, "\r\n");
@@ -273,41 +281,54 @@ static void test_bounds(void)
              text_bytes(&h), HENNELAKU_ENVELOPE_ROOM_MAX,
              HENNELAKU_HEADER_ROOM_MAX);
     expect_answer(&o, taken());
-    if (o.answer.header_len <= 17 * h.len) {
-        blame("it grew only to %zu bytes", o.answer.header_len);
+    if (h.len != fields * GROWING_LEN
+        || o.answer.header_len != fields * GROWN_LEN
+        || o.answer.header_len <= 15 * h.len) {
+        blame("%zu bytes grew to %zu", h.len, o.answer.header_len);
     }
     outcome_free(&o);
     report("the header that grows most stays within the bounds");
     text_free(&h);
 }
 
-/* A line of 998 bytes whose path is to be replaced. */
-static void add_replaced(text *t, const char *verb)
+/* A line of 998 bytes whose path is to be replaced. Its words are in Q, and B
+ * holds no more of them: on the name's line one that ends so many letters after
+ * the first six _, then words of 42 bytes in 62 characters. Each next character
+ * has four bytes and fits in neither. */
+static void add_replaced(text *t, const char *verb, size_t letters)
 {
     size_t start = t->len;
+    size_t end = 998 - strlen("@_> ALT-ADDRESS=_@_");
 
     text_add(t, verb);
-    text_add(t, E_ACUTE "@");
-    while (t->len - start < 600) {
-        text_add(t, "\xF0\x9F\x98\x80");
+    text_add(t, "______");
+    text_fill(t, 'a', letters);
+    while (end - (t->len - start) >= 42) {
+        text_add(t, "\xF0\x9F\x98\x80______");
+        text_fill(t, 'a', 32);
     }
-    text_add(t, "> ALT-ADDRESS=_@");
-    text_fill(t, '_', 998 - (t->len - start));
-    text_add(t, "\r\n");
+    text_add(t, "\xF0\x9F\x98\x80______");
+    text_fill(t, 'a', end - (t->len - start));
+    text_add(t, "@_> ALT-ADDRESS=_@_\r\n");
 }
+
+/* Each field has 23 for its name, the colon and CRLF, or 21; 13 and its first
+ * word; 22 words of 62; and a last word of 63, or 62. */
+#define FIRST_FIELDS_LEN \
+    (23 + 13 + 41 + 22 * 77 + 15 + 63 + 21 + 13 + 44 + 22 * 77 + 15 + 62)
 
 static void test_first_fields(void)
 {
     text e = text_new(2000);
     outcome o;
 
-    add_replaced(&e, "MAIL FROM:<");
-    add_replaced(&e, "RCPT TO:<");
+    add_replaced(&e, "MAIL FROM:<", 20);
+    add_replaced(&e, "RCPT TO:<", 23);
     o = call(HENNELAKU_SPOOL, AREA_BEFORE_PAGE, text_bytes(&e), bytes_of(""),
              e.len, HENNELAKU_HEADER_ROOM_FOR(0));
     expect_answer(&o, taken());
-    if (o.answer.header_len < 7000) {
-        blame("they have only %zu bytes", o.answer.header_len);
+    if (o.answer.header_len != FIRST_FIELDS_LEN) {
+        blame("they have %zu bytes", o.answer.header_len);
     }
     outcome_free(&o);
     report("long new first fields stay within the bounds");

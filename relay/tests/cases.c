@@ -5,6 +5,8 @@
 /* Escapes end a literal, so that a letter after one is no hex digit. */
 #define E_5 E_ACUTE E_ACUTE E_ACUTE E_ACUTE E_ACUTE
 #define E_10 E_5 E_5
+#define SUN "\xE6\x97\xA5"
+#define SUN_15 SUN SUN SUN SUN SUN SUN SUN SUN SUN SUN SUN SUN SUN SUN SUN
 #define GRIN "\xF0\x9F\x98\x80"
 
 #define E_WORD "=C3=A9"
@@ -12,26 +14,38 @@
 #define E_WORD_10 E_WORD_5 E_WORD_5
 #define GRIN_WORD "=F0=9F=98=80"
 
-/* A word on a line of its own, and one on the name's line. */
+/* Characters in base64, so many of each. */
+#define E_3_BASE64 "w6nDqcOp"
+#define GRIN_3_BASE64 "8J+YgPCfmIDwn5iA"
+#define SUN_BASE64 "5pel"
+#define SUN_15_BASE64 \
+    SUN_BASE64 SUN_BASE64 SUN_BASE64 SUN_BASE64 SUN_BASE64 \
+    SUN_BASE64 SUN_BASE64 SUN_BASE64 SUN_BASE64 SUN_BASE64 \
+    SUN_BASE64 SUN_BASE64 SUN_BASE64 SUN_BASE64 SUN_BASE64
+
+/* A word on a line of its own, and one on the name's line; the same in B. */
 #define OPEN "\r\n =?UTF-8?Q?"
 #define HERE " =?UTF-8?Q?"
+#define OPEN_B "\r\n =?UTF-8?B?"
+#define HERE_B " =?UTF-8?B?"
 #define CLOSE "?="
 
 #define E_MAIL "MAIL FROM:<" E_ACUTE "@example.org> ALT-ADDRESS=e+2Bx@example.org\r\n"
 #define E_RCPT "RCPT TO:<" E_ACUTE "@example.net> ALT-ADDRESS=e@example.net\r\n"
 
 #define A_10 "aaaaaaaaaa"
-#define A_70 A_10 A_10 A_10 A_10 A_10 A_10 A_10
+#define A_30 A_10 A_10 A_10
+#define A_40 A_30 A_10
+#define A_70 A_40 A_30
 
 #define DOWNGRADED_MAIL_FROM \
-    "Downgraded-Mail-From:" HERE \
-    "=3C=C3=A9=40example=2Eorg_=3Ce+x=40example" CLOSE \
-    OPEN "=2Eorg=3E=3E" CLOSE "\r\n"
+    "Downgraded-Mail-From:" HERE_B \
+    "PMOpQGV4YW1wbGUub3JnIDxlK3hAZXhhbXBsZS5v" CLOSE \
+    OPEN "rg=3E=3E" CLOSE "\r\n"
 
 #define DOWNGRADED_RCPT_TO \
-    "Downgraded-Rcpt-To:" HERE \
-    "=3C=C3=A9=40example=2Enet_=3Ce=40example=2En" CLOSE \
-    OPEN "et=3E=3E" CLOSE "\r\n"
+    "Downgraded-Rcpt-To:" HERE_B \
+    "PMOpQGV4YW1wbGUubmV0IDxlQGV4YW1wbGUubmV0Pj4=" CLOSE "\r\n"
 
 #define TAKEN {HENNELAKU_OK, HENNELAKU_NO_INPUT, 0, 0, 0, 0}
 
@@ -65,8 +79,11 @@ const test_case cases[] = {
      TAKEN,
      "mail from:<> SIZE=10 BODY=8BITMIME\r\nrcpt to:<postMASTER>\r\n", ""},
     {"an encoded word in ASCII is copied", PLAIN,
-     "Subject: =?UTF-8?Q?=C3=A9?=\r\n", TAKEN, PLAIN,
-     "Subject: =?UTF-8?Q?=C3=A9?=\r\n"},
+     "Subject: =?UTF-8?Q?=C3=A9?= =?UTF-8?B?w6k=?=\r\n", TAKEN, PLAIN,
+     "Subject: =?UTF-8?Q?=C3=A9?= =?UTF-8?B?w6k=?=\r\n"},
+    {"an encoded word beside non-ASCII is encoded again", PLAIN,
+     "Subject: =?UTF-8?B?w6k=?= " E_ACUTE "\r\n", TAKEN, PLAIN,
+     "Subject:" HERE "=3D=3FUTF-8=3FB=3Fw6k=3D=3F=3D_" E_WORD CLOSE "\r\n"},
 
     /* Comments in parentheses. */
     {"a comment between a phrase and an address", PLAIN,
@@ -116,31 +133,61 @@ const test_case cases[] = {
     {"Received: non-ASCII besides a clause",
      IN_LINES(6, 0, "Received: a for <", E_ACUTE "@x> " E_ACUTE "\r\n")},
 
-    /* Encoded words, by a phrase. */
-    {"ten and abc in one word", PLAIN, "From:" E_10 "abc<a@x>\r\n", TAKEN, PLAIN,
-     "From:" OPEN E_WORD_10 "abc" CLOSE "\r\n <a@x>\r\n"},
-    {"eleven in two words", PLAIN, "From:" E_10 E_ACUTE "<a@x>\r\n", TAKEN, PLAIN,
-     "From:" OPEN E_WORD_10 CLOSE OPEN E_WORD CLOSE "\r\n <a@x>\r\n"},
-    {"abcd and ten in two words", PLAIN, "From:abcd" E_10 "<a@x>\r\n", TAKEN,
-     PLAIN, "From:" OPEN "abcd" E_WORD_5 E_WORD E_WORD E_WORD E_WORD CLOSE
-     OPEN E_WORD CLOSE "\r\n <a@x>\r\n"},
-    {"six of four bytes: five, then one", PLAIN,
+    /* Encoded words, by a phrase: in Q or in B. */
+    {"ten and abc in one word of Q", PLAIN, "From:" E_10 "abc<a@x>\r\n", TAKEN,
+     PLAIN, "From:" OPEN E_WORD_10 "abc" CLOSE "\r\n <a@x>\r\n"},
+    {"eleven in one word of B", PLAIN, "From:" E_10 E_ACUTE "<a@x>\r\n", TAKEN,
+     PLAIN, "From:" OPEN_B E_3_BASE64 E_3_BASE64 E_3_BASE64 "w6nDqQ==" CLOSE
+     "\r\n <a@x>\r\n"},
+    {"abcd and ten in one word of B", PLAIN, "From:abcd" E_10 "<a@x>\r\n", TAKEN,
+     PLAIN, "From:" OPEN_B "YWJjZMOpw6nDqcOpw6nDqcOpw6nDqcOp" CLOSE
+     "\r\n <a@x>\r\n"},
+    {"six of four bytes in one word of B", PLAIN,
      "From:" GRIN GRIN GRIN GRIN GRIN GRIN "<a@x>\r\n", TAKEN, PLAIN,
-     "From:" OPEN GRIN_WORD GRIN_WORD GRIN_WORD GRIN_WORD GRIN_WORD CLOSE
+     "From:" OPEN_B GRIN_3_BASE64 GRIN_3_BASE64 CLOSE "\r\n <a@x>\r\n"},
+    {"23 of two bytes: 22 in B, then one in Q", PLAIN,
+     "From:" E_10 E_10 E_ACUTE E_ACUTE E_ACUTE "<a@x>\r\n", TAKEN, PLAIN,
+     "From:" OPEN_B E_3_BASE64 E_3_BASE64 E_3_BASE64 E_3_BASE64 E_3_BASE64
+     E_3_BASE64 E_3_BASE64 "w6k=" CLOSE OPEN E_WORD CLOSE "\r\n <a@x>\r\n"},
+    {"60 letters in Q, 30 of three bytes in B", PLAIN,
+     "From:" A_30 A_30 SUN_15 SUN_15 "<a@x>\r\n", TAKEN, PLAIN,
+     "From:" OPEN A_30 A_30 CLOSE OPEN_B SUN_15_BASE64 CLOSE
+     OPEN_B SUN_15_BASE64 CLOSE "\r\n <a@x>\r\n"},
+    {"as many in Q as in B: Q, also where more follow", PLAIN,
+     "From:" A_30 "aa______" GRIN GRIN "<a@x>\r\n", TAKEN, PLAIN,
+     "From:" OPEN A_30 "aa=5F=5F=5F=5F=5F=5F" GRIN_WORD CLOSE
      OPEN GRIN_WORD CLOSE "\r\n <a@x>\r\n"},
 
-    /* The first word on the name's line, by fields in plain text. */
-    {"Subject: nine on its line, then two", PLAIN,
+    /* The first word on the name's line, by fields in plain text and others. A
+     * name of n bytes that is encapsulated leaves a room of 51 - n there. */
+    {"Subject: eleven on its line, in B", PLAIN,
      "Subject:" E_10 E_ACUTE "\r\n", TAKEN, PLAIN,
-     "Subject:" HERE E_WORD_5 E_WORD E_WORD E_WORD E_WORD CLOSE
-     OPEN E_WORD E_WORD CLOSE "\r\n"},
-    {"a name of 45 leaves room for one", PLAIN,
-     A_10 A_10 A_10 A_10 "aaaaa: " E_ACUTE E_ACUTE "\r\n", TAKEN, PLAIN,
-     "Downgraded-" A_10 A_10 A_10 A_10 "aaaaa:" HERE E_WORD CLOSE
-     OPEN E_WORD CLOSE "\r\n"},
-    {"a name of 46 leaves none", PLAIN,
-     A_10 A_10 A_10 A_10 "aaaaaa: " E_ACUTE "\r\n", TAKEN, PLAIN,
-     "Downgraded-" A_10 A_10 A_10 A_10 "aaaaaa:" OPEN E_WORD CLOSE "\r\n"},
+     "Subject:" HERE_B E_3_BASE64 E_3_BASE64 E_3_BASE64 "w6nDqQ==" CLOSE
+     "\r\n"},
+    {"room for 6: one of two bytes in Q", PLAIN,
+     A_40 "aaaaa: " E_ACUTE E_ACUTE "\r\n", TAKEN, PLAIN,
+     "Downgraded-" A_40 "aaaaa:" HERE E_WORD CLOSE OPEN E_WORD CLOSE "\r\n"},
+    {"room for 5: one of two bytes in B", PLAIN,
+     A_40 "aaaaaa: " E_ACUTE E_ACUTE "\r\n", TAKEN, PLAIN,
+     "Downgraded-" A_40 "aaaaaa:" HERE_B "w6k=" CLOSE OPEN E_WORD CLOSE "\r\n"},
+    {"room for 4: one of three bytes in B", PLAIN,
+     A_40 "aaaaaaa: " SUN "\r\n", TAKEN, PLAIN,
+     "Downgraded-" A_40 "aaaaaaa:" HERE_B SUN_BASE64 CLOSE "\r\n"},
+    {"room for 3: none of two bytes", PLAIN,
+     A_40 "aaaaaaaa: " E_ACUTE "\r\n", TAKEN, PLAIN,
+     "Downgraded-" A_40 "aaaaaaaa:" OPEN E_WORD CLOSE "\r\n"},
+    {"room for 12: one of four bytes in Q", PLAIN,
+     A_30 "aaaaaaaaa: " GRIN "\r\n", TAKEN, PLAIN,
+     "Downgraded-" A_30 "aaaaaaaaa:" HERE GRIN_WORD CLOSE "\r\n"},
+    {"room for 11: one of four bytes in B", PLAIN,
+     A_40 ": " GRIN "\r\n", TAKEN, PLAIN,
+     "Downgraded-" A_40 ":" HERE_B "8J+YgA==" CLOSE "\r\n"},
+    {"room for 8: one of four bytes in B", PLAIN,
+     A_40 "aaa: " GRIN "\r\n", TAKEN, PLAIN,
+     "Downgraded-" A_40 "aaa:" HERE_B "8J+YgA==" CLOSE "\r\n"},
+    {"room for 7: none of four bytes", PLAIN,
+     A_40 "aaaa: " GRIN "\r\n", TAKEN, PLAIN,
+     "Downgraded-" A_40 "aaaa:" OPEN GRIN_WORD CLOSE "\r\n"},
     {"fold taken out, space as _", PLAIN,
      "cOMMENTS: \t" E_ACUTE " a\r\n\tb.=?\r\n", TAKEN, PLAIN,
      "cOMMENTS:" HERE E_WORD "_a=09b=2E=3D=3F" CLOSE "\r\n"},
@@ -156,8 +203,8 @@ const test_case cases[] = {
      "Cc: \"J. " E_ACUTE "\" <" E_ACUTE "@x <e@x>>, c d <c@x>\r\n", TAKEN,
      PLAIN,
      "Cc:" OPEN "J=2E_" E_WORD CLOSE "\r\n <e@x>,\r\n c\r\n d\r\n <c@x>\r\n"
-     "Downgraded-Cc:" HERE "=22J=2E_=C3=A9=22_=3C=C3=A9=40x_=3Ce=40x=3E=3E=2C"
-     CLOSE OPEN "_c_d_=3Cc=40x=3E" CLOSE "\r\n"},
+     "Downgraded-Cc:" HERE_B "IkouIMOpIiA8w6lAeCA8ZUB4Pj4sIGMgZCA8Y0B4Pg==" CLOSE
+     "\r\n"},
     {"phrase alone needs no copy", PLAIN, "From: " E_ACUTE " <a@x>\r\n", TAKEN,
      PLAIN, "From:" OPEN E_WORD CLOSE "\r\n <a@x>\r\n"},
     {"group", PLAIN, "To: " E_ACUTE ": a@x, <b@x>;, c:;\r\n", TAKEN, PLAIN,

@@ -6,7 +6,7 @@ use crate::call::Setting;
 use crate::comment::{self, comment_end, Part};
 use crate::header::is_blank;
 use crate::sink::Sink;
-use crate::words::{row, Row};
+use crate::words::row;
 
 /// "No word or address exceeds 900 bytes." [1]: no run of a comment either, unless it is dropped.
 const LONGEST: usize = 900;
@@ -243,6 +243,8 @@ pub fn replaces(text: &[u8], setting: Setting) -> Option<bool> {
 /// "The rewritten value is a row of pieces, each written straight after the piece before it as CRLF, space, piece"
 struct Pieces<'a, S: Sink> {
     sink: &'a mut S,
+    /// The text of a phrase.
+    text: Vec<u8>,
 }
 
 impl<S: Sink> Pieces<'_, S> {
@@ -268,16 +270,16 @@ impl<S: Sink> Parts for Pieces<'_, S> {
             words(phrase, |word| self.piece(word));
             return;
         }
-        let mut row = Row::on_next_line();
+        self.text.clear();
         let mut first = true;
         words(phrase, |word| {
             if !first {
-                row.add(self.sink, b" ");
+                self.text.push(b' ');
             }
             first = false;
-            add_unquoted(&mut row, self.sink, word);
+            add_unquoted(&mut self.text, word);
         });
-        row.end(self.sink);
+        row(self.sink, &self.text);
     }
 
     /// "Address: bare or in `< >`; an alternative replaces the first."
@@ -337,21 +339,21 @@ fn words(phrase: &[u8], mut each: impl FnMut(&[u8])) {
 }
 
 /// A word "without quoting and escapes".
-fn add_unquoted(row: &mut Row, sink: &mut impl Sink, word: &[u8]) {
+fn add_unquoted(text: &mut Vec<u8>, word: &[u8]) {
     let mut rest = match word {
         [b'"', inside @ .., b'"'] => inside,
-        _ => return row.add(sink, word),
+        _ => return text.extend_from_slice(word),
     };
     while let Some(backslash) = rest.iter().position(|&b| b == b'\\') {
-        row.add(sink, &rest[..backslash]);
+        text.extend_from_slice(&rest[..backslash]);
         // The byte behind a backslash stands for itself, also if it is another backslash.
-        row.add(sink, &rest[backslash + 1..backslash + 2]);
+        text.push(rest[backslash + 1]);
         rest = &rest[backslash + 2..];
     }
-    row.add(sink, rest);
+    text.extend_from_slice(rest);
 }
 
 /// The pieces of a text that fits.
 pub fn pieces(sink: &mut impl Sink, text: &[u8], setting: Setting) {
-    let _ = list(text, setting, &mut Pieces { sink });
+    let _ = list(text, setting, &mut Pieces { sink, text: Vec::new() });
 }

@@ -9,7 +9,7 @@ use crate::offset;
 use crate::received;
 use crate::sink::{Counter, Sink, Writer};
 use crate::utf8::find;
-use crate::words::Row;
+use crate::words::row_after_name;
 
 #[derive(Clone, Copy, PartialEq, Eq, Debug)]
 pub struct Answer {
@@ -119,18 +119,27 @@ fn write_name(sink: &mut impl Sink, field: &Field) {
 }
 
 /// "`Downgraded-` before the name, colon, encoded words of the text"
-fn encapsulate(sink: &mut impl Sink, field: &Field) {
-    write_words(sink, b"Downgraded-", field);
+fn encapsulate(sink: &mut impl Sink, field: &Field, text: &[u8]) {
+    write_words(sink, b"Downgraded-", field, text);
 }
 
 /// Name, colon, encoded words of the text. "A field ends with CRLF." [5.4]: the name counts with its `Downgraded-`.
-fn write_words(sink: &mut impl Sink, before_name: &[u8], field: &Field) {
+fn write_words(sink: &mut impl Sink, before_name: &[u8], field: &Field, text: &[u8]) {
     sink.put(before_name);
     write_name(sink, field);
-    let mut row = Row::after_name(before_name.len() + field.name.len());
-    header::unfolded(field.folded_text(), |part| row.add(sink, part));
-    row.end(sink);
+    row_after_name(sink, before_name.len() + field.name.len(), text);
     sink.put(b"\r\n");
+}
+
+/// The text of a field, in the scratch where it has folds.
+fn text<'a>(field: &Field<'a>, scratch: &'a mut Vec<u8>) -> &'a [u8] {
+    let folded = field.folded_text();
+    if !folded.contains(&b'\r') {
+        return folded;
+    }
+    scratch.clear();
+    header::unfolded(folded, |part| scratch.extend_from_slice(part));
+    scratch
 }
 
 /// What the outgoing header is made from.
@@ -156,9 +165,9 @@ impl Job<'_> {
                 return Err(field.start);
             }
             match kind {
-                Kind::Address => self.write_address_field(sink, &field),
+                Kind::Address => write_address_field(sink, self.setting, &field, text(&field, &mut self.scratch)),
                 // "Plain text: name, colon, encoded words of the text."
-                Kind::Plain => write_words(sink, b"", &field),
+                Kind::Plain => write_words(sink, b"", &field, text(&field, &mut self.scratch)),
                 Kind::HeldOutsideComments => {
                     write_name(sink, &field);
                     comment::write_value(sink, field.value);
@@ -172,33 +181,27 @@ impl Job<'_> {
                 // Held above.
                 Kind::Held => {}
                 // "Every other name is encapsulated"
-                Kind::Other => encapsulate(sink, &field),
+                Kind::Other => encapsulate(sink, &field, text(&field, &mut self.scratch)),
             }
             done = field.end;
         }
         sink.put(&header[done..]);
         Ok(())
     }
+}
 
-    fn write_address_field(&mut self, sink: &mut impl Sink, field: &Field) {
-        let mut text = field.folded_text();
-        if text.contains(&b'\r') {
-            self.scratch.clear();
-            header::unfolded(text, |part| self.scratch.extend_from_slice(part));
-            text = &self.scratch;
-        }
-        match address_list::replaces(text, self.setting) {
-            // "Text that does not fit is encapsulated."
-            None => encapsulate(sink, field),
-            Some(replaces) => {
-                write_name(sink, field);
-                address_list::pieces(sink, text, self.setting);
-                sink.put(b"\r\n");
-                // "If any address was replaced or removed, a `Downgraded-` field with encoded words of the original
-                // text follows the rewritten field."
-                if replaces {
-                    encapsulate(sink, field);
-                }
+fn write_address_field(sink: &mut impl Sink, setting: Setting, field: &Field, text: &[u8]) {
+    match address_list::replaces(text, setting) {
+        // "Text that does not fit is encapsulated."
+        None => encapsulate(sink, field, text),
+        Some(replaces) => {
+            write_name(sink, field);
+            address_list::pieces(sink, text, setting);
+            sink.put(b"\r\n");
+            // "If any address was replaced or removed, a `Downgraded-` field with encoded words of the original
+            // text follows the rewritten field."
+            if replaces {
+                encapsulate(sink, field, text);
             }
         }
     }

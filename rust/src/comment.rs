@@ -3,7 +3,7 @@
 
 use crate::sink::Sink;
 use crate::utf8::char_len;
-use crate::words::Row;
+use crate::words::row;
 
 /// Behind the `)` of the comment whose `(` stands at `at`; none where it is unclosed. "comments inside comments to any
 /// depth"; "in all comments a backslash escapes any next character". [1.17]: a quote is a character like others.
@@ -54,21 +54,24 @@ pub fn parts(comment: &[u8], mut each: impl FnMut(Part)) {
 /// "encoded words of that run without escapes and folds". [1.18]: of a fold the blank after the CRLF stays, and a
 /// backslash before a fold escapes that blank.
 pub fn write_run(sink: &mut impl Sink, run: &[u8]) {
-    let mut row = Row::on_next_line();
     let mut rest = run;
+    let mut text = Vec::new();
     while let Some(at) = rest.iter().position(|&b| b == b'\\' || b == b'\r') {
-        row.add(sink, &rest[..at]);
+        text.extend_from_slice(&rest[..at]);
         let escaped = rest[at] == b'\\';
         rest = &rest[at + escaped as usize..];
         rest = rest.strip_prefix(b"\r\n").unwrap_or(rest);
         if escaped {
             let (character, behind) = rest.split_at(char_len(rest[0]));
-            row.add(sink, character);
+            text.extend_from_slice(character);
             rest = behind;
         }
     }
-    row.add(sink, rest);
-    row.end(sink);
+    if text.is_empty() {
+        return row(sink, rest);
+    }
+    text.extend_from_slice(rest);
+    row(sink, &text);
 }
 
 /// A value of a field other than an address field, cut into its comments (`each` gets true) and what stands between

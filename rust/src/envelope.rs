@@ -6,7 +6,7 @@ use crate::call::Setting;
 use crate::offset;
 use crate::sink::Sink;
 use crate::utf8::{find, is_utf8};
-use crate::words::Row;
+use crate::words::row_after_name;
 
 /// "One MAIL line, then 1 to 100 RCPT lines"
 const LINES: usize = 101;
@@ -224,13 +224,8 @@ impl Envelope<'_> {
         let new = decode_xtext(&self.bytes[swap.value..swap.value_end], &mut room).unwrap_or_default();
         sink.put(name);
         sink.put(b":");
-        let mut row = Row::after_name(name.len());
-        row.add(sink, b"<");
-        row.add(sink, &self.bytes[swap.path..swap.path_end]);
-        row.add(sink, b" <");
-        row.add(sink, new);
-        row.add(sink, b">>");
-        row.end(sink);
+        let text = [b"<", &self.bytes[swap.path..swap.path_end], b" <", new, b">>"].concat();
+        row_after_name(sink, name.len(), &text);
         sink.put(b"\r\n");
     }
 }

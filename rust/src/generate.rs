@@ -855,7 +855,7 @@ fn name(r: &mut Random, out: &mut Vec<u8>, held: bool) -> bool {
                 0 => 77,
                 1..=4 => r.from(75, 76),
                 // About where no character fits beside the name any more.
-                5..=24 => r.from(36, 54),
+                5..=34 => r.from(36, 54),
                 _ => r.from(1, 20),
             };
             for _ in 0..len {

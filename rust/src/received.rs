@@ -165,4 +165,7 @@ impl Sink for LongestLine {
         self.line += size;
         self.longest = self.longest.max(self.line);
     }
+    fn base64(&mut self, characters: &[u8], size: usize) {
+        self.spell(characters, size);
+    }
 }

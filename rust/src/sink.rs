@@ -1,12 +1,14 @@
 //! Where output goes: counted first, then written.
 //! Written from document 01, Answers by number: "A refusal changes no byte of either buffer".
 
-use crate::words::{SIZE, SPELLING};
+use crate::words::{write_base64, SIZE, SPELLING};
 
 pub trait Sink {
     fn put(&mut self, bytes: &[u8]);
-    /// Whole characters in the spelling of encoded words; they take `size` bytes.
+    /// Whole characters in the spelling of Q words; they take `size` bytes.
     fn spell(&mut self, characters: &[u8], size: usize);
+    /// The same in B.
+    fn base64(&mut self, characters: &[u8], size: usize);
 }
 
 /// Measures.
@@ -23,6 +25,11 @@ impl Sink for Counter {
 
     #[inline]
     fn spell(&mut self, _characters: &[u8], size: usize) {
+        self.len += size;
+    }
+
+    #[inline]
+    fn base64(&mut self, _characters: &[u8], size: usize) {
         self.len += size;
     }
 }
@@ -50,6 +57,11 @@ impl Sink for Writer<'_> {
             out[at..at + 4].copy_from_slice(&SPELLING[b as usize]);
             at += SIZE[b as usize] as usize;
         }
+        self.at += size;
+    }
+    #[inline]
+    fn base64(&mut self, characters: &[u8], size: usize) {
+        write_base64(characters, &mut self.buffer[self.at..self.at + size]);
         self.at += size;
     }
 }

@@ -3,7 +3,7 @@
 use crate::call::{ENVELOPE, HEADER, NEITHER};
 use crate::rfc5322::is_address_list;
 use crate::sink::Writer;
-use crate::words::row;
+use crate::words::{base64_size, first_q_word, first_word, row, row_after_name, write_base64, Encoding, ROOM};
 use crate::{downgrade, downgrade_batch, Answer};
 
 const MAIL: &str = "MAIL FROM:<a@x>\r\n";
@@ -61,7 +61,7 @@ fn lines(header: &str) -> Vec<String> {
 /// An address field that is encapsulated.
 fn unfit(text: &str) {
     let got = out(&format!("To: {text}\r\n"));
-    assert!(got.starts_with("Downgraded-To: =?UTF-8?Q?"), "{text:?} gave {got:?}");
+    assert!(got.starts_with("Downgraded-To: =?UTF-8?"), "{text:?} gave {got:?}");
 }
 
 /// An address field that is rewritten as these lines.
@@ -71,50 +71,92 @@ fn fits(text: &str, pieces: &[&str]) {
     assert!(is_address_list(value.as_bytes()), "{value:?}");
     let mut got = lines(&format!("To: {text}\r\n"));
     assert_eq!(got.remove(0), "To:", "{text:?}");
-    if let Some(copy) = got.iter().position(|line| line.starts_with("Downgraded-To: =?UTF-8?Q?")) {
+    if let Some(copy) = got.iter().position(|line| line.starts_with("Downgraded-To: =?UTF-8?")) {
         got.truncate(copy);
     }
     assert_eq!(got, pieces, "{text:?}");
 }
 
-/// "A row is read from its bytes alone, front to back." The text and the words' bytes; none for a fault.
+/// "A row is read from its bytes alone, front to back." The text and the words' bytes; none for a fault. [10]: "document
+/// 01's reading then takes `=?UTF-8?B?` words too, by base64".
 fn read_row(row: &[u8]) -> Option<(Vec<u8>, Vec<Vec<u8>>)> {
-    let (mut text, mut words, mut at, mut closed) = (Vec::new(), Vec::new(), 0, false);
-    while at < row.len() {
-        let rest = &row[at..];
-        if rest.starts_with(b"\r\n") {
-            at += 2;
+    let (mut words, mut rest, mut closed) = (Vec::new(), row, false);
+    while !rest.is_empty() {
+        if let Some(behind) = rest.strip_prefix(b"\r\n").or(rest.strip_prefix(b" ")) {
+            rest = behind;
             closed = false;
-        } else if rest[0] == b' ' {
-            at += 1;
-            closed = false;
-        } else if rest.starts_with(b"=?UTF-8?Q?") && !closed {
-            at += 10;
-            let mut word = Vec::new();
-            loop {
-                match row.get(at)? {
-                    b'_' => (word.push(32), at += 1).1,
-                    b'=' => {
-                        let hex = std::str::from_utf8(row.get(at + 1..at + 3)?).ok()?;
-                        word.push(u8::from_str_radix(hex, 16).ok()?);
-                        at += 3;
-                    }
-                    b'?' if row.get(at + 1) == Some(&b'=') => {
-                        at += 2;
-                        closed = true;
-                        break;
-                    }
-                    &b @ 33..=126 if b != b'?' => (word.push(b), at += 1).1,
-                    _ => return None,
-                }
+            continue;
+        }
+        let (open, text) = rest.split_at_checked(10)?;
+        let (word, behind) = match open {
+            // "straight after the `?=` of another it is a fault"
+            _ if closed => return None,
+            b"=?UTF-8?Q?" => read_q(text)?,
+            b"=?UTF-8?B?" => read_b(text)?,
+            _ => return None,
+        };
+        words.push(word);
+        rest = behind;
+        closed = true;
+    }
+    Some((words.concat(), words))
+}
+
+/// The bytes of a Q word, from behind its opening bracket, and what stands behind its closing one.
+fn read_q(text: &[u8]) -> Option<(Vec<u8>, &[u8])> {
+    let (mut word, mut rest) = (Vec::new(), text);
+    loop {
+        rest = match rest {
+            [b'_', rest @ ..] => (word.push(32), rest).1,
+            [b'=', high, low, rest @ ..] => {
+                let digit = |b: &u8| (*b as char).to_digit(16);
+                word.push((digit(high)? * 16 + digit(low)?) as u8);
+                rest
             }
-            text.extend_from_slice(&word);
-            words.push(word);
-        } else {
-            return None;
+            [b'?', b'=', rest @ ..] => return Some((word, rest)),
+            [b'?' | b'=', ..] => return None,
+            [b @ 33..=126, rest @ ..] => (word.push(*b), rest).1,
+            _ => return None,
         }
     }
-    Some((text, words))
+}
+
+/// The same for a B word. [10.6]: "groups of four digits, `=` only as padding at the end, spare bits zero; anything else
+/// [..] is a fault; nothing at all between the brackets reads as nothing."
+fn read_b(text: &[u8]) -> Option<(Vec<u8>, &[u8])> {
+    let digit = |b: u8| {
+        let value = match b {
+            b'A'..=b'Z' => b - b'A',
+            b'a'..=b'z' => b - b'a' + 26,
+            b'0'..=b'9' => b - b'0' + 52,
+            b'+' => 62,
+            b'/' => 63,
+            _ => return None,
+        };
+        Some(u32::from(value))
+    };
+    let (mut word, mut rest) = (Vec::new(), text);
+    loop {
+        let (four, behind) = match rest {
+            [b'?', b'=', behind @ ..] => return Some((word, behind)),
+            _ => rest.split_at_checked(4)?,
+        };
+        let padding = four.iter().rev().take_while(|&&b| b == b'=').count();
+        let digits: Vec<u32> = four[..4 - padding].iter().map(|&b| digit(b)).collect::<Option<_>>()?;
+        let bits = digits.iter().fold(0, |bits, digit| bits << 6 | digit) << (6 * padding);
+        let bytes = match padding {
+            0 => 3,
+            1 if bits & 0xFF == 0 => 2,
+            2 if bits & 0xFFFF == 0 => 1,
+            _ => return None,
+        };
+        word.extend_from_slice(&bits.to_be_bytes()[1..1 + bytes]);
+        // Padding ends the digits.
+        if padding > 0 && !behind.starts_with(b"?=") {
+            return None;
+        }
+        rest = behind;
+    }
 }
 
 /// The words of a row, which has to read back as this text in whole characters.
@@ -158,25 +200,25 @@ const WHOLE_HEADER: &str = "Subject: é\r\nX-Note: ok\r\n";
 #[test]
 fn whole_case() {
     let (answer, envelope, header) = call(WHOLE_ENVELOPE.as_bytes(), WHOLE_HEADER.as_bytes());
-    // [5.7]
-    assert_eq!(answer, Answer { number: 0, input: NEITHER, place: 0, offset: 0, envelope_len: 54, header_len: 146 });
+    // [10.9]
+    assert_eq!(answer, Answer { number: 0, input: NEITHER, place: 0, offset: 0, envelope_len: 54, header_len: 140 });
     assert_eq!(envelope, "MAIL FROM:<e+x@example.org>\r\nRCPT TO:<b@example.net>\r\n");
     assert_eq!(
         header,
-        "Downgraded-Mail-From: =?UTF-8?Q?=3C=C3=A9=40example=2Eorg_=3Ce+x=40example?=\r\n \
-         =?UTF-8?Q?=2Eorg=3E=3E?=\r\nSubject: =?UTF-8?Q?=C3=A9?=\r\nX-Note: ok\r\n"
+        "Downgraded-Mail-From: =?UTF-8?B?PMOpQGV4YW1wbGUub3JnIDxlK3hAZXhhbXBsZS5v?=\r\n \
+         =?UTF-8?Q?rg=3E=3E?=\r\nSubject: =?UTF-8?Q?=C3=A9?=\r\nX-Note: ok\r\n"
     );
 }
 
 #[test]
 fn buffers_of_just_the_length() {
     for (envelope_room, header_room, want) in [
-        (54, 146, (0, 0, 54, 146)),
-        (54, 145, (8, 146, 0, 0)),
-        (53, 146, (7, 54, 0, 0)),
-        (53, 145, (7, 54, 0, 0)),
+        (54, 140, (0, 0, 54, 140)),
+        (54, 139, (8, 140, 0, 0)),
+        (53, 140, (7, 54, 0, 0)),
+        (53, 139, (7, 54, 0, 0)),
         (0, 0, (7, 54, 0, 0)),
-        (54, 0, (8, 146, 0, 0)),
+        (54, 0, (8, 140, 0, 0)),
     ] {
         let mut envelope_buffer = vec![0xEE; envelope_room];
         let mut header_buffer = vec![0xEE; header_room];
@@ -189,18 +231,34 @@ fn buffers_of_just_the_length() {
     }
 }
 
+/// The parts of a text that words of Q alone would hold.
+fn cut_by_q(text: &str) -> Vec<&str> {
+    let (mut parts, mut rest) = (Vec::new(), text);
+    while !rest.is_empty() {
+        let (part, behind) = rest.split_at(first_q_word(rest.as_bytes(), ROOM).len);
+        parts.push(part);
+        rest = behind;
+    }
+    parts
+}
+
 #[test]
 fn word_cases() {
+    // [10.8]: "Document 01's word cases stay as those of Q alone".
     let ten = "é".repeat(10);
-    assert_eq!(row_words(&(ten.clone() + "abc")).len(), 1);
-    assert_eq!(row_words(&(ten.clone() + "abc"))[0].len(), 75);
-    assert_eq!(row_words(&(ten.clone() + "abcd")).len(), 2);
-    let eleven = row_words(&"é".repeat(11));
-    assert_eq!(eleven, [format!("=?UTF-8?Q?{}?=", "=C3=A9".repeat(10)), "=?UTF-8?Q?=C3=A9?=".into()]);
-    let abcd = row_words(&("abcd".to_string() + &ten));
-    assert_eq!(abcd, [format!("=?UTF-8?Q?abcd{}?=", "=C3=A9".repeat(9)), "=?UTF-8?Q?=C3=A9?=".into()]);
-    let six = row_words(&"😀".repeat(6));
-    assert_eq!(six, [format!("=?UTF-8?Q?{}?=", "=F0=9F=98=80".repeat(5)), "=?UTF-8?Q?=F0=9F=98=80?=".into()]);
+    let abc = ten.clone() + "abc";
+    assert_eq!(cut_by_q(&abc), [&abc]);
+    assert_eq!(first_q_word(abc.as_bytes(), ROOM).size, 63);
+    assert_eq!(cut_by_q(&(ten.clone() + "abcd")), [&abc, "d"]);
+    assert_eq!(cut_by_q(&"é".repeat(11)), [&ten, "é"]);
+    assert_eq!(cut_by_q(&("abcd".to_string() + &ten)), ["abcdééééééééé", "é"]);
+    assert_eq!(cut_by_q(&"😀".repeat(6)), ["😀😀😀😀😀", "😀"]);
+    // What the call writes for them.
+    assert_eq!(row_words(&abc), [format!("=?UTF-8?Q?{}abc?=", "=C3=A9".repeat(10))]);
+    assert_eq!(row_words(&(abc + "d")).len(), 1);
+    assert_eq!(row_words(&"é".repeat(11)), ["=?UTF-8?B?w6nDqcOpw6nDqcOpw6nDqcOpw6nDqQ==?="]);
+    assert_eq!(row_words(&("abcd".to_string() + &ten)), ["=?UTF-8?B?YWJjZMOpw6nDqcOpw6nDqcOpw6nDqcOp?="]);
+    assert_eq!(row_words(&"😀".repeat(6)), ["=?UTF-8?B?8J+YgPCfmIDwn5iA8J+YgPCfmIDwn5iA?="]);
 }
 
 #[test]
@@ -888,16 +946,22 @@ fn first_word_beside_the_name() {
     assert_eq!((full.len(), full.matches("=?UTF-8?Q?").count()), (78, 1));
     let over = out(&format!("Subject: é{}\r\n", "x".repeat(50)));
     assert_eq!(over, full.replace("?=\r\n", "?=\r\n =?UTF-8?Q?x?=\r\n"));
-    // A first character of each size, and names up to where it fits no more.
-    for (first, longest) in [("x", 50), (",", 48), ("é", 45), ("漢", 42), ("😀", 39)] {
+    // A first character of each size, names up to where it fits no more, and those up to which it fits by Q.
+    for (first, longest, longest_by_q) in [("x", 50, 50), (",", 48, 48), ("é", 47, 45), ("漢", 47, 42), ("😀", 43, 39)]
+    {
         for len in 1..=76 {
             let name = "n".repeat(len);
-            let text = format!("{first}é");
+            // No more than the first character fits.
+            let text = format!("{first}{}", "😀".repeat(9));
             let field = out(&format!("{name}: {text}\r\n"));
             // [5.2]: no space after the colon. [5.3]: one character goes there, also if no line is saved.
-            let beside = field.starts_with(&format!("Downgraded-{name}: =?UTF-8?Q?"));
-            let below = field.starts_with(&format!("Downgraded-{name}:\r\n =?UTF-8?Q?"));
+            let beside = field.starts_with(&format!("Downgraded-{name}: =?UTF-8?"));
+            let below = field.starts_with(&format!("Downgraded-{name}:\r\n =?UTF-8?"));
             assert_eq!((beside, below), (len <= longest, len > longest), "{first} {len}");
+            // [10.4]: "by neither encoding"
+            if len > longest_by_q && len <= longest {
+                assert!(field.starts_with(&format!("Downgraded-{name}: =?UTF-8?B?")), "{first} {len}");
+            }
             field_words(&name, &format!("Downgraded-{name}"), &text);
         }
     }
@@ -920,41 +984,129 @@ fn rows_of_address_fields_begin_on_the_next_line() {
     assert_eq!(row_words(&"x".repeat(64)).len(), 2);
 }
 
-/// The fewest lines of a field: the least number of words from each place on, tried in every way.
-fn fewest_lines(name_len: usize, text: &str) -> usize {
-    let sizes: Vec<usize> = text
-        .chars()
-        .map(|c| match c {
-            ' ' | '!' | '*' | '+' | '-' | '/' => 1,
-            _ if c.is_ascii_alphanumeric() => 1,
-            _ => 3 * c.len_utf8(),
-        })
-        .collect();
+/// For each character how many characters Q spells it with, and how many bytes it has.
+fn character_sizes(text: &str) -> Vec<(usize, usize)> {
+    let q = |c: char| match c {
+        ' ' | '!' | '*' | '+' | '-' | '/' => 1,
+        _ if c.is_ascii_alphanumeric() => 1,
+        _ => 3 * c.len_utf8(),
+    };
+    text.chars().map(|c| (q(c), c.len_utf8())).collect()
+}
+
+/// Where a word that begins with the first of these characters may end in this room, in Q or in B: every way.
+fn word_ends(sizes: &[(usize, usize)], room: usize) -> Vec<usize> {
+    let (mut q, mut bytes, mut ends) = (0, 0, Vec::new());
+    for (at, size) in sizes.iter().enumerate() {
+        q += size.0;
+        bytes += size.1;
+        if q > room && bytes.div_ceil(3) * 4 > room {
+            break;
+        }
+        ends.push(at + 1);
+    }
+    ends
+}
+
+/// The fewest words from each character on, each on a line of its own, over all rows of Q and B words.
+fn fewest_words(sizes: &[(usize, usize)]) -> Vec<usize> {
     let mut words = vec![0; sizes.len() + 1];
     for start in (0..sizes.len()).rev() {
-        words[start] = (start + 1..=sizes.len())
-            .filter(|&end| sizes[start..end].iter().sum::<usize>() <= 63)
-            .map(|end| 1 + words[end])
-            .min()
-            .unwrap();
+        words[start] = word_ends(&sizes[start..], 63).iter().map(|end| 1 + words[start + end]).min().unwrap();
     }
-    (1..=sizes.len())
-        .filter(|&end| sizes[..end].iter().sum::<usize>() + name_len + 14 <= 76)
-        .map(|end| 1 + words[end])
-        .chain([1 + words[0]])
-        .min()
-        .unwrap()
+    words
+}
+
+/// The fewest lines of a field, the name's line with them: the first word on it or on the next line.
+fn fewest_lines(name_len: usize, sizes: &[(usize, usize)], words: &[usize]) -> usize {
+    let room = 62usize.saturating_sub(name_len);
+    word_ends(sizes, room).iter().map(|&end| 1 + words[end]).chain([1 + words[0]]).min().unwrap()
+}
+
+/// Small random numbers for tests.
+fn numbers(seed: u32) -> impl FnMut(usize) -> usize {
+    let mut state = seed;
+    move |limit| {
+        state = state.wrapping_mul(1_664_525).wrapping_add(1_013_904_223);
+        (state >> 8) as usize % limit
+    }
+}
+
+/// A text of one script, now and then with a character of another.
+fn script_text(next: &mut impl FnMut(usize) -> usize, script: usize, len: usize) -> String {
+    let scripts = [
+        "αβγδεζηθικλμνξοπρστυφχψωάέήί ΑΒΓΔ ,.",
+        "абвгдежзийклмнопрстуфхцчшщъыьэюя АБВГ ,.",
+        "日本語気象庁発表海上風警報あいうえおカキクケコ、。",
+        "ابتثجحخدذرزسشصضطظعغفقكلمنهوي ،.",
+        "😀😁🌊⛵🚢🌬️🌀 a",
+        "Strømvarsel før kysten, kuling på Øst-Sjælland: âéîõü ",
+        "Gale warning for the coast, wind north-west 8 = 17.2 m/s (é) until 18:00 _?",
+    ];
+    let pools: Vec<Vec<char>> = scripts.iter().map(|script| script.chars().collect()).collect();
+    let mut pool = script % pools.len();
+    let mut text = String::new();
+    for _ in 0..len {
+        // A script of its own, or changing now and then.
+        if script >= pools.len() && next(20) == 0 {
+            pool = next(pools.len());
+        }
+        text.push(pools[pool][next(pools[pool].len())]);
+    }
+    text
+}
+
+/// How many words a row has that must read back as the text, whole characters in each, on lines of at most 76.
+fn count_words(row: &str, before: usize, text: &str) -> usize {
+    let (read, words) = read_row(row.as_bytes()).unwrap();
+    assert_eq!(read, text.as_bytes());
+    assert!(words.iter().all(|word| !word.is_empty() && std::str::from_utf8(word).is_ok()));
+    // Each word after one space, on a line of its own or after the colon.
+    for (at, line) in row.split("\r\n").enumerate() {
+        let before = if at == 0 { before } else { 0 };
+        let word = line.strip_prefix(" =?UTF-8?").is_some_and(|word| !word.contains(' ') && before + line.len() <= 76);
+        assert!(word || (at == 0 && line.is_empty()), "{line:?}");
+    }
+    words.len()
+}
+
+fn written(write: impl Fn(&mut Writer)) -> String {
+    let mut buffer = vec![0; 20_000];
+    let mut writer = Writer { buffer: &mut buffer, at: 0 };
+    write(&mut writer);
+    let len = writer.at;
+    buffer.truncate(len);
+    String::from_utf8(buffer).unwrap()
 }
 
 #[test]
-fn no_other_row_has_fewer_lines() {
+fn no_row_of_either_encoding_has_fewer_words() {
+    let mut next = numbers(1);
+    for round in 0..6000 {
+        let len = if round % 20 == 0 { 20 + next(1981) } else { 20 + next(180) };
+        let text = script_text(&mut next, round % 14, len);
+        let sizes = character_sizes(&text);
+        let words = fewest_words(&sizes);
+        let own_lines = written(|writer| row(writer, text.as_bytes()));
+        assert!(own_lines.starts_with("\r\n "));
+        assert_eq!(count_words(&own_lines, 0, &text), words[0], "{text}");
+        // [10.7]: "lines" has the name's line in it.
+        for name_len in [1 + next(87), 7, 40 + next(22)] {
+            let field = written(|writer| row_after_name(writer, name_len, text.as_bytes()));
+            let words_written = count_words(&field, name_len + 1, &text);
+            let lines = words_written + field.starts_with("\r\n") as usize;
+            assert_eq!(lines, fewest_lines(name_len, &sizes, &words), "{name_len} {text}");
+            // [5.3]: a character that fits goes there.
+            assert_eq!(field.starts_with(' '), !word_ends(&sizes, 62usize.saturating_sub(name_len)).is_empty());
+        }
+    }
+}
+
+#[test]
+fn fields_of_the_call_have_the_fewest_lines() {
     // [5.6]: the name's line counts.
     let characters = ["x", " ", ",", "é", "漢", "😀"];
-    let mut state = 1u32;
-    let mut next = |limit: usize| {
-        state = state.wrapping_mul(1_664_525).wrapping_add(1_013_904_223);
-        (state >> 8) as usize % limit
-    };
+    let mut next = numbers(2);
     for _ in 0..3000 {
         let name = "n".repeat(1 + next(60));
         let mut text = "x".repeat(next(2));
@@ -964,7 +1116,142 @@ fn no_other_row_has_fewer_lines() {
         text += "é";
         let text = text.trim_start();
         let lines = out(&format!("{name}: {text}\r\n")).matches("\r\n").count();
-        assert_eq!(lines, fewest_lines(11 + name.len(), text), "{name} {text}");
+        let sizes = character_sizes(text);
+        assert_eq!(lines, fewest_lines(11 + name.len(), &sizes, &fewest_words(&sizes)), "{name} {text}");
+    }
+}
+
+#[test]
+fn choice_of_the_encoding() {
+    let word = |text: &str, room: usize| {
+        let word = first_word(text.as_bytes(), room);
+        (word.encoding, text[..word.len].chars().count(), word.size)
+    };
+    // [10.1]: the rooms of both, on either side of each limit.
+    for room in 0..=63 {
+        for (character, len, spelled) in [("a", 1, 1), (",", 1, 3), ("é", 2, 6), ("漢", 3, 9), ("😀", 4, 12)] {
+            let text = character.repeat(100);
+            let (q, b) = (room / spelled, 3 * (room / 4) / len);
+            let want = if b > q { (Encoding::B, b, base64_size(b * len)) } else { (Encoding::Q, q, q * spelled) };
+            assert_eq!(word(&text, room), want, "{character} {room}");
+        }
+    }
+    assert_eq!(word(&"é".repeat(100), 63), (Encoding::B, 22, 60));
+    // [10.4]
+    for room in [4, 5] {
+        assert_eq!(word("éé", room), (Encoding::B, 1, 4));
+        assert_eq!(word("日é", room), (Encoding::B, 1, 4));
+        assert_eq!(word("😀", room), (Encoding::Q, 0, 0));
+    }
+    for room in 8..12 {
+        assert_eq!(word("😀a", room), (Encoding::B, 2, 8));
+        assert_eq!(word("😀é", room), (Encoding::B, 2, 8));
+        assert_eq!(word("😀😀", room), (Encoding::B, 1, 8));
+    }
+    // [10.2], [10.3]: where all that is left fits either way, Q, though it is longer; of what is left, not of the room.
+    assert_eq!(word("é", 63), (Encoding::Q, 1, 6));
+    assert_eq!(word(&"é".repeat(10), 63), (Encoding::Q, 10, 60));
+    assert_eq!(word(&"é".repeat(10), 59), (Encoding::B, 10, 28));
+    assert_eq!(word(&("é".repeat(10) + "abc"), 63), (Encoding::Q, 13, 63));
+    assert_eq!(word(&("é".repeat(10) + "abcd"), 63), (Encoding::B, 14, 32));
+    // Q though the later words grow, when both hold the same number now: 42 letters and one of three bytes.
+    let equal = "a".repeat(42) + "日" + &"日".repeat(20);
+    assert_eq!(word(&equal, 63), (Encoding::Q, 44, 60));
+    let equal = "a".repeat(44) + "ééé";
+    assert_eq!(word(&equal, 63), (Encoding::Q, 47, 62));
+    let equal = "a".repeat(43) + "日日日";
+    assert_eq!(word(&equal, 62), (Encoding::Q, 45, 61));
+    let equal = "a".repeat(38) + "日日日日";
+    assert_eq!(word(&equal, 63), (Encoding::Q, 40, 56));
+    // The closing remark of the readings: mixed 3, by Q 6, by B 4.
+    let mixed = "a".repeat(60) + &"日".repeat(30);
+    let words = row_words(&mixed);
+    assert_eq!(words.len(), 3);
+    assert_eq!(words.iter().map(|word| &word[8..9]).collect::<Vec<_>>(), ["Q", "B", "B"]);
+    assert_eq!(cut_by_q(&mixed).len(), 6);
+    // Both kinds in any order.
+    let words = row_words(&("日".repeat(15) + &"a".repeat(63) + &"日".repeat(8)));
+    assert_eq!(words.iter().map(|word| &word[8..9]).collect::<Vec<_>>(), ["B", "Q", "B"]);
+}
+
+#[test]
+fn both_encodings_in_every_row() {
+    // [10.5]
+    let long = "ж".repeat(12);
+    let b = "=?UTF-8?B?0LbQttC20LbQttC20LbQttC20LbQttC2?=";
+    assert_eq!(out(&format!("Subject: {long}\r\n")), format!("Subject: {b}\r\n"));
+    assert_eq!(out(&format!("X: {long}\r\n")), format!("Downgraded-X: {b}\r\n"));
+    assert_eq!(out(&format!("Date: ({long})\r\n")), format!("Date: (\r\n {b}\r\n )\r\n"));
+    assert_eq!(out(&format!("Received: ({long})\r\n")), format!("Received: (\r\n {b}\r\n )\r\n"));
+    fits(&format!("{long} <a@x>"), &[b, "<a@x>"]);
+    fits(
+        &format!("\"{}\\{}\" <a@x>", &long[..10], "\\".to_string() + &long[10..]),
+        &["=?UTF-8?B?0LbQttC20LbQtlzQttC20LbQttC20LbQtg==?=", "<a@x>"],
+    );
+    fits(&format!("a@x ({long})"), &["a@x", "(", b, ")"]);
+    fits(
+        &format!("a@x (\\{}\r\n {})", &long[..12], &long[12..]),
+        &["a@x", "(", "=?UTF-8?B?0LbQttC20LbQttC2INC20LbQttC20LbQtg==?=", ")"],
+    );
+    let removed = format!("{}@x", &long[..22]);
+    let b_at_x = "=?UTF-8?B?0LbQttC20LbQttC20LbQttC20LbQtkB4?=";
+    let words = "Internationalized Address";
+    fits(&removed, &[words, b_at_x, "Removed:;"]);
+    fits(&format!("g: {removed} ;"), &["g", words, b_at_x, "Removed:;"]);
+    // The copy, on the name's line.
+    assert_eq!(lines(&format!("To: {removed}\r\n")).last().unwrap(), &format!("Downgraded-To: {b_at_x}"));
+    // The two first fields.
+    let path = format!("{}@x", &long[..18]);
+    let (_, _, header) =
+        call(format!("MAIL FROM:<{path}> ALT-ADDRESS=a@x\r\nRCPT TO:<{path}> ALT-ADDRESS=a@x\r\n").as_bytes(), b"");
+    let text = format!("<{path} <a@x>>");
+    for (line, name) in header.split_terminator("\r\n").zip(["Downgraded-Mail-From:", "Downgraded-Rcpt-To:"]) {
+        let row = line.strip_prefix(name).unwrap();
+        assert!(row.starts_with(" =?UTF-8?B?"));
+        assert_eq!(read_row(row.as_bytes()).unwrap().0, text.as_bytes());
+    }
+    // [10.10]
+    assert_eq!(subject_words("=?UTF-8?B?w6k=?= é"), ["=?UTF-8?Q?=3D=3FUTF-8=3FB=3Fw6k=3D=3F=3D_=C3=A9?="]);
+    let ascii = "Subject: =?UTF-8?B?w6k=?=\r\nTo: =?UTF-8?B?w6k=?= <a@b>\r\n";
+    assert_eq!(out(ascii), ascii);
+    // Document 01's removed address stays Q.
+    assert!(out("To: é@example.org\r\n").contains("\r\n =?UTF-8?Q?=C3=A9=40example=2Eorg?=\r\n"));
+}
+
+#[test]
+fn reading_of_rows() {
+    let read =
+        |row: &str| read_row(row.as_bytes()).map(|(text, words)| (String::from_utf8(text).unwrap(), words.len()));
+    let good = |row: &str, text: &str, words: usize| assert_eq!(read(row), Some((text.into(), words)), "{row}");
+    good("", "", 0);
+    good(" \r\n  ", "", 0);
+    good(" =?UTF-8?Q?=C3=a9_a?=", "é a", 1);
+    good("=?UTF-8?B?w6k=?=\r\n =?UTF-8?Q?a?= =?UTF-8?B?YQ==?=", "éaa", 3);
+    // [10.6]
+    good("=?UTF-8?B??=", "", 1);
+    good("=?UTF-8?B?YWJj?=", "abc", 1);
+    good("=?UTF-8?B?YWJjYWI=?=", "abcab", 1);
+    good("=?UTF-8?B?Pz8/Pj4+?=", "???>>>", 1);
+    for fault in [
+        "=?UTF-8?B?YQ==?==?UTF-8?B?YQ==?=", "=?UTF-8?Q?a?==?UTF-8?B?YQ==?=", "=?UTF-8?B?YQ==?==?UTF-8?Q?a?=",
+        "=?utf-8?B?YQ==?=", "=?UTF-8?b?YQ==?=", "=?UTF-8?B?YQ=?=", "=?UTF-8?B?YQ?=", "=?UTF-8?B?YWI?=",
+        "=?UTF-8?B?YQ==YQ==?=", "=?UTF-8?B?YQ==YWJj?=", "=?UTF-8?B?Y===?=", "=?UTF-8?B?====?=", "=?UTF-8?B?=YQ=?=",
+        "=?UTF-8?B?YR==?=", "=?UTF-8?B?YWJ=?=", "=?UTF-8?B?YW Jj?=", "=?UTF-8?B?YWJj", "=?UTF-8?B?YWJj?",
+        "=?UTF-8?B?YW\r\n Jj?=", "=?UTF-8?B?-_-_?=", "=?UTF-8?B?YW=j?=", "=?UTF-8?B?YQ=a?=", "=?UTF-8?B?é?=", "a",
+        "=?UTF-8?Q?a b?=", "=?UTF-8?Q?=A?=", "=?UTF-8?Q?a?b?=", "=?UTF-8?Q?a", "=?UTF-8?Q?é?=", "\t=?UTF-8?Q?a?=",
+        "\r",
+    ] {
+        assert_eq!(read(fault), None, "{fault}");
+    }
+    // Every byte at every place of the last group, by writing and by reading.
+    for len in 0..=7 {
+        for b in 0..=255u8 {
+            let bytes: Vec<u8> = (0..len).map(|at| b.wrapping_mul(at * 2 + 1).wrapping_add(at)).collect();
+            let mut digits = vec![0; base64_size(bytes.len())];
+            write_base64(&bytes, &mut digits);
+            let row = [b"=?UTF-8?B?", &digits[..], b"?="].concat();
+            assert_eq!(read_row(&row), Some((bytes.clone(), vec![bytes])));
+        }
     }
 }
 
@@ -1015,13 +1302,7 @@ fn groups_that_lose_a_member() {
     fits("g:(c)é@x(\\é ( ));", &["g", words, "=?UTF-8?Q?=28c=29=C3=A9=40x=28=5C=C3=A9_=28_=29=29?=", "Removed:;"]);
     fits(
         "g:\"q\\r\" <a@b>\t,\r\n <é@y  <b@c>> ,é@x;",
-        &[
-            "g",
-            words,
-            "=?UTF-8?Q?=22q=5Cr=22_=3Ca=40b=3E=09=2C_=3C=C3=A9=40y__=3Cb=40c=3E=3E_=2C?=",
-            e_at_x,
-            "Removed:;",
-        ],
+        &["g", words, "=?UTF-8?B?InFcciIgPGFAYj4JLCA8w6lAeSAgPGJAYz4+ICzDqUB4?=", "Removed:;"],
     );
     for (blanks, fold) in [(" ", "\r\n "), (" \t ", "\t\r\n\t\r\n "), ("\t", "\r\n\t")] {
         fits(&format!("g{blanks}:{blanks}é@x{blanks};{blanks}"), &["g", words, e_at_x, "Removed:;"]);
@@ -1234,7 +1515,7 @@ fn runs_of_an_address_field() {
     // [1.20]
     assert_eq!(
         lines(&format!("To: a@b ({})\r\n", "é".repeat(11)))[3..],
-        [format!("=?UTF-8?Q?{}?=", "=C3=A9".repeat(10)), E.to_string(), ")".to_string()]
+        ["=?UTF-8?B?w6nDqcOpw6nDqcOpw6nDqcOpw6nDqQ==?=", ")"]
     );
 }
 
@@ -1315,10 +1596,7 @@ fn comments_of_other_fields() {
     assert_eq!(date("\tMon (x) (a (é) b)\r\n\tc "), format!("\tMon (x) (a ({e}) b)\r\n\tc "));
     assert_eq!(date(" (é(x)é)"), format!(" ({e}(x){e})"));
     assert_eq!(date("\r\n \r\n (\r\n a\r\n\t)(é)\r\n "), format!("\r\n \r\n (\r\n a\r\n\t)({e})\r\n "));
-    assert_eq!(
-        date(&format!(" ({})x", "é".repeat(11))),
-        format!(" (\r\n =?UTF-8?Q?{}?=\r\n =?UTF-8?Q?=C3=A9?=\r\n )x", "=C3=A9".repeat(10))
-    );
+    assert_eq!(date(&format!(" ({})x", "é".repeat(11))), " (\r\n =?UTF-8?B?w6nDqcOpw6nDqcOpw6nDqcOpw6nDqQ==?=\r\n )x");
     // [1.7]
     assert_eq!(date(" ( ) (é( ))"), format!(" ( ) ({e}( ))"));
     let long = date(&format!("\r\n (é{0}\r\n {0})", "x".repeat(900)));

@@ -5,7 +5,7 @@ use crate::sink::Sink;
 use crate::utf8::char_len;
 
 /// "A word is `=?UTF-8?Q?`, 1 to 63 characters, `?=`."
-const ROOM: usize = 63;
+pub const ROOM: usize = 63;
 /// "such a line has at most 76 characters"
 const LINE: usize = 76;
 
@@ -55,81 +55,138 @@ const fn stands_for_itself(b: u8) -> bool {
     b.is_ascii_alphanumeric() || matches!(b, b'!' | b'*' | b'+' | b'-' | b'/')
 }
 
-/// One row in the making; its text may come in several parts, each of whole characters.
-pub struct Row {
-    open: bool,
-    /// What the open word still holds; before the first word, what one on the name's line would hold.
-    left: usize,
+#[derive(Clone, Copy, PartialEq, Eq, Debug)]
+pub enum Encoding {
+    Q,
+    B,
 }
 
-impl Row {
-    /// Every word on a line of its own, the first one too. [5.5]: so are the rows inside a rewritten address field.
-    pub fn on_next_line() -> Row {
-        Row { open: false, left: 0 }
-    }
+/// What a word holds of the text before it.
+#[derive(Clone, Copy, PartialEq, Eq, Debug)]
+pub struct Word {
+    pub encoding: Encoding,
+    /// Bytes of the text.
+    pub len: usize,
+    /// Characters between the brackets.
+    pub size: usize,
+}
 
-    /// [5]: "put the first word after the colon and one space, as far as 76 characters allow." [5.1]: the 76 count the
-    /// name, the colon, the space and the whole word.
-    pub fn after_name(name_len: usize) -> Row {
-        Row { open: false, left: LINE.saturating_sub(name_len + ": =?UTF-8?Q?".len() + "?=".len()) }
-    }
-
-    /// "A word takes as many whole characters as fit."
-    #[inline]
-    pub fn add(&mut self, sink: &mut impl Sink, text: &[u8]) {
-        let mut rest = text;
-        while !rest.is_empty() {
-            let (len, size) = fitting(rest, self.left);
-            if len > 0 {
-                if !self.open {
-                    sink.put(b" =?UTF-8?Q?");
-                    self.open = true;
-                }
-                sink.spell(&rest[..len], size);
-                self.left -= size;
-                rest = &rest[len..];
-            } else {
-                self.next_word(sink);
-            }
-        }
-    }
-
-    /// "Every word has a line of its own: CRLF and one space come before it." [5]: "If no character fits, begin on the
-    /// next line."
-    fn next_word(&mut self, sink: &mut impl Sink) {
-        if self.open {
-            sink.put(b"?=\r\n =?UTF-8?Q?");
-        } else {
-            sink.put(b"\r\n =?UTF-8?Q?");
-        }
-        self.open = true;
-        self.left = ROOM;
-    }
-
-    pub fn end(self, sink: &mut impl Sink) {
-        if self.open {
-            sink.put(b"?=");
-        }
+/// [10]: "Each word takes the encoding that holds more whole characters in its room, Q when equal." [10.2]: of what is
+/// left of the text. A longer beginning of the text has more characters.
+pub fn first_word(text: &[u8], room: usize) -> Word {
+    let q = first_q_word(text, room);
+    let len = first_b_len(text, room);
+    if len > q.len {
+        Word { encoding: Encoding::B, len, size: base64_size(len) }
+    } else {
+        q
     }
 }
 
-/// How many bytes at the front, all of whole characters, fit the room, and the size of their spelling.
+/// "A word takes as many whole characters as fit", in Q.
 #[inline]
-fn fitting(text: &[u8], room: usize) -> (usize, usize) {
+pub fn first_q_word(text: &[u8], room: usize) -> Word {
     let mut size = 0;
     for (at, &b) in text.iter().enumerate() {
         let next = size + WHOLE[b as usize] as usize;
         if next > room {
-            return (at, size);
+            return Word { encoding: Encoding::Q, len: at, size };
         }
         size = next;
     }
-    (text.len(), size)
+    Word { encoding: Encoding::Q, len: text.len(), size }
 }
 
-/// The encoded words of a text, each on a line of its own.
+/// The same in B. [10.1]: "B fits when 4 for each 3 bytes begun has: it holds 3 * (room / 4) bytes".
+fn first_b_len(text: &[u8], room: usize) -> usize {
+    let mut len = 3 * (room / 4);
+    if len >= text.len() {
+        return text.len();
+    }
+    // Back to the start of a character.
+    while text[len] & 0xC0 == 0x80 {
+        len -= 1;
+    }
+    len
+}
+
+/// "with the usual padding": [10.1]: "four digits are always written".
+pub fn base64_size(len: usize) -> usize {
+    len.div_ceil(3) * 4
+}
+
+/// RFC 2045, section 6.8.
+const DIGITS: &[u8; 64] = b"ABCDEFGHIJKLMNOPQRSTUVWXYZabcdefghijklmnopqrstuvwxyz0123456789+/";
+
+/// Each two digits by the 12 bits that they stand for.
+static TWO_DIGITS: [[u8; 2]; 4096] = {
+    let mut two = [[0; 2]; 4096];
+    let mut bits = 0;
+    while bits < 4096 {
+        two[bits] = [DIGITS[bits >> 6], DIGITS[bits & 63]];
+        bits += 1;
+    }
+    two
+};
+
+/// Four digits for each three bytes begun; `out` has just that size.
+pub fn write_base64(bytes: &[u8], out: &mut [u8]) {
+    let mut fours = out.chunks_exact_mut(4);
+    let mut threes = bytes.chunks_exact(3);
+    for (three, four) in threes.by_ref().zip(fours.by_ref()) {
+        let bits = (three[0] as usize) << 16 | (three[1] as usize) << 8 | three[2] as usize;
+        four[..2].copy_from_slice(&TWO_DIGITS[bits >> 12]);
+        four[2..].copy_from_slice(&TWO_DIGITS[bits & 0xFFF]);
+    }
+    let (bits, padding) = match *threes.remainder() {
+        [a, b] => ((a as usize) << 16 | (b as usize) << 8, 1),
+        [a] => ((a as usize) << 16, 2),
+        _ => return,
+    };
+    let four = fours.next().expect("digits for the last bytes");
+    four[..2].copy_from_slice(&TWO_DIGITS[bits >> 12]);
+    four[2..].copy_from_slice(&TWO_DIGITS[bits & 0xFFF]);
+    four[4 - padding..].fill(b'=');
+}
+
+/// The encoded words of a text. "Every word has a line of its own: CRLF and one space come before it". [5.5]: the first
+/// one too in a rewritten address field and in comments.
 pub fn row(sink: &mut impl Sink, text: &[u8]) {
-    let mut row = Row::on_next_line();
-    row.add(sink, text);
-    row.end(sink);
+    let mut rest = text;
+    while !rest.is_empty() {
+        let word = first_word(rest, ROOM);
+        sink.put(b"\r\n ");
+        rest = write_word(sink, rest, word);
+    }
+}
+
+/// [5]: "put the first word after the colon and one space, as far as 76 characters allow. If no character fits, begin
+/// on the next line." [5.1]: the 76 count the name, the colon, the space and the whole word. [10.4]: no character by
+/// either encoding.
+pub fn row_after_name(sink: &mut impl Sink, name_len: usize, text: &[u8]) {
+    let mut rest = text;
+    let word = first_word(text, LINE.saturating_sub(name_len + ": =?UTF-8?Q?".len() + "?=".len()));
+    if word.len > 0 {
+        sink.put(b" ");
+        rest = write_word(sink, rest, word);
+    }
+    row(sink, rest);
+}
+
+/// Writes a word; what is left of the text.
+#[inline]
+fn write_word<'a>(sink: &mut impl Sink, text: &'a [u8], word: Word) -> &'a [u8] {
+    let (held, rest) = text.split_at(word.len);
+    match word.encoding {
+        Encoding::Q => {
+            sink.put(b"=?UTF-8?Q?");
+            sink.spell(held, word.size);
+        }
+        Encoding::B => {
+            sink.put(b"=?UTF-8?B?");
+            sink.base64(held, word.size);
+        }
+    }
+    sink.put(b"?=");
+    rest
 }

@@ -250,14 +250,14 @@ module _ (rules : Rules) (name text : List ℕ) where
       rw (length-append, rendered-append, length-append, length-append)
       (omega (arith, value-le rules text, ap length (rendered-one (raw (13 ∷ 10 ∷ [])))))
 
-  by-le : (e : Examined) → length (rendered (fieldBy e rules name text)) ≤ 44 + 3 * length name + 30 * length text
+  by-le : (e : Examined) → length (rendered (fieldBy e rules name text)) ≤ 45 + 2 * length name + 28 * length text
   unfolding fieldBy
   by-le DoesNotFit = omega (arith, length-encoded true name text)
   by-le Kept = omega (arith, rewritten-le)
   by-le Changed = rw (rendered-append, length-append) (omega (arith, rewritten-le, length-encoded true name text))
 
   -- of every name and text
-  pub length-address-field : length (rendered (addressField rules name text)) ≤ 44 + 3 * length name + 30 * length text
+  pub length-address-field : length (rendered (addressField rules name text)) ≤ 45 + 2 * length name + 28 * length text
   unfolding addressField
   length-address-field = by-le (examined rules text)
 

@@ -13,7 +13,7 @@ use Rattle.field.specs.Field.{labelledField}
 use Rattle.field.specs.FieldLaws.{length-labelled}
 use Rattle.call.specs.OutgoingHeader.{newField}
 
-pub length-new-field : (label text : List ℕ) → length (rendered (newField label text)) ≤ 17 + 2 * length label + 5 * length text
+pub length-new-field : (label text : List ℕ) → length (rendered (newField label text)) ≤ 30 + length label + 3 * length text
 unfolding newField rendered
 length-new-field label [] = omega arith
 length-new-field label (b ∷ text) = length-labelled label (b ∷ text)

@@ -15,7 +15,10 @@ use Rattle.lists.specs.CutBy.{cutAfter, cutBy}
 use Rattle.letter_case.specs.LetterCase.{bytes, lower, sameAnyCase}
 use Rattle.cut.specs.Cut.{cut}
 use Rattle.word_spelling.specs.Spelling.{bare, spellByte, spell}
-use Rattle.row.specs.Row.{runs, word, lines, rowIn, row, runsAfter, linesAfter, rowAfterIn}
+use Rattle.base64.specs.Base64.{digit64, inBase64}
+use Rattle.row.specs.declared.Encoding.the-variants.{Q}
+use Rattle.row.specs.Word.{word}
+use Rattle.row.specs.Row.{runs, chosen, lines, rowIn, row, runsAfter, linesAfter, rowAfterIn}
 use Rattle.envelope.specs.Envelope.{lines as envelopeLines, lineText, endedFault, faultOf, faultNumber, isFine, counted, checkedFrom, checked, texts, orcptFrom, orcptLine, writtenEnded, writtenOf, written, mailOf, mailReplacement, onlyRcptOf, rcptReplacement}
 use Rattle.header_line.specs.Lines.{checkedLines, lineByte, nameByte, nameLen, named, continuation, wellFormed, lineOk, linesOf, linesFrom}
 use Rattle.line.specs.Line.{blank, crlf, lineLen}
@@ -37,7 +40,7 @@ use Rattle.parameter.specs.Parameter.{params, spaced, isKeywordByte, keywordLen
 
 -- a case and its answer
 pub data Case : Type 0 where
-  -- a text; for each of its words, how many characters it holds, and its length between opening and closing
+  -- a text; for each of its words in Q alone, how many characters it holds, and its length between opening and closing
   cutsTo : List ℕ → List (ℕ × ℕ) → Case
   -- an envelope and a header that the call refuses, whatever the buffers: the number and the place
   refused : List ℕ → List ℕ → ℕ → ℕ → Case
@@ -46,9 +49,10 @@ pub data Case : Type 0 where
   -- an envelope and a header that it takes where the buffers have these lengths or more; where the header's has less, 8 at that length
   needs : List ℕ → List ℕ → ℕ → ℕ → Case
 
--- how many characters each word of a text's row holds, and its length between opening and closing
+-- how many characters each word of a text's row in Q holds, and its length between opening and closing: "Document 01's word cases stay as
+-- those of Q alone"
 abbrev pub wordSizes : List ℕ → List (ℕ × ℕ)
-wordSizes text = map (λ (run : List (List ℕ)). (length run, length (spell (joined run)))) (runs 63 (chars text))
+wordSizes text = map (λ (run : List (List ℕ)). (length run, length (spell (joined run)))) (runs (Q ∷ []) 63 (chars text))
 
 -- the number and the place of a call's outcome
 abbrev pub answer : Outcome → ℕ × ℕ
@@ -125,8 +129,8 @@ cases =
     -- "name of 76 bytes taken; 77 is 5."
     ∷ Case.taken (mailed (bytes "a@x") []) (headerNamed 76)
     ∷ Case.refused (mailed (bytes "a@x") []) (headerNamed 77) 5 0
-    -- the whole case by request 5, not marked P: "a header of 146 bytes; a room of 146 is enough, 145 gives 8, place 146."
-    ∷ Case.needs wholeEnvelope wholeHeader 54 146
+    -- the whole case, worked out again by request 10, not marked P: a header of 140 bytes; a room of 140 is enough, 139 gives 8, place 140
+    ∷ Case.needs wholeEnvelope wholeHeader 54 140
     ∷ []
 
 -- an input that no number from 1 to 6 refuses is taken where both outputs fit
@@ -147,7 +151,7 @@ needs-by e h n m q p r b c k = (
 )
 
 pub cases-right : AllRight cases
-unfolding alt altPlace orcptClean newPath withoutAlt rowAfterIn runsAfter linesAfter nameOf unfoldedAfter trimmed textOf six addressNames groups among kindAmong kindOf labelledField prefix encodedField kindFate lineCount rowIn runs cut lines word spell spellByte bare hexDigit bytes lower sameAnyCase crlf lineLen later byteThen scanThen isAtext isAtomByte isQuotedByte isLiteralByte dotAtomFrom dotAtomScan quotedFrom quotedScan literalFrom literalScan domainScan localScan addressScan isAddress isAsciiAddress run utf8 chars cutBy cutAfter charLen leadingOnes leadingZeros isChar secondLow secondHigh isXchar isHexDigit hexValue isHexchar unitLen unitByte decodingAfter decoding isXtext decoded isAltAddress verb hasVerb pathScan pathLen path hasPath tail params spaced isKeywordByte keywordLen keyword hasValue value isOrcpt isAlt isValueByte isParam alts altsOk wellFormed valueFault altFault lineFault envelopeLines lineText endedFault faultOf faultNumber isFine counted checkedFrom checked lineByte blank nameByte nameLen named continuation lineOk linesOf linesFrom checkedLines wellFormedLine numberOf placeOf over ofEnvelope ofLines ofOrcpt ofHeld firstOf verdict outcomeOf outcome texts orcptFrom orcptLine orcptFault writtenEnded writtenOf written writtenLine heldFrom heldOf isHeld fateOf fold fieldLen fieldsOf valueOf newField newFields outgoingSegments outgoingHeader mailOf mailReplacement onlyRcptOf rcptReplacement replacement segmentsOf fieldSegments headerSegments rendered
+unfolding alt altPlace orcptClean newPath withoutAlt rowAfterIn runsAfter linesAfter nameOf unfoldedAfter trimmed textOf six addressNames groups among kindAmong kindOf labelledField prefix encodedField kindFate lineCount rowIn runs chosen cut lines word digit64 inBase64 spell spellByte bare hexDigit bytes lower sameAnyCase crlf lineLen later byteThen scanThen isAtext isAtomByte isQuotedByte isLiteralByte dotAtomFrom dotAtomScan quotedFrom quotedScan literalFrom literalScan domainScan localScan addressScan isAddress isAsciiAddress run utf8 chars cutBy cutAfter charLen leadingOnes leadingZeros isChar secondLow secondHigh isXchar isHexDigit hexValue isHexchar unitLen unitByte decodingAfter decoding isXtext decoded isAltAddress verb hasVerb pathScan pathLen path hasPath tail params spaced isKeywordByte keywordLen keyword hasValue value isOrcpt isAlt isValueByte isParam alts altsOk wellFormed valueFault altFault lineFault envelopeLines lineText endedFault faultOf faultNumber isFine counted checkedFrom checked lineByte blank nameByte nameLen named continuation lineOk linesOf linesFrom checkedLines wellFormedLine numberOf placeOf over ofEnvelope ofLines ofOrcpt ofHeld firstOf verdict outcomeOf outcome texts orcptFrom orcptLine orcptFault writtenEnded writtenOf written writtenLine heldFrom heldOf isHeld fateOf fold fieldLen fieldsOf valueOf newField newFields outgoingSegments outgoingHeader mailOf mailReplacement onlyRcptOf rcptReplacement replacement segmentsOf fieldSegments headerSegments rendered
 cases-right = (
   refl,
   (
@@ -170,7 +174,7 @@ cases-right = (
                     λ b c. refl,
                     (
                       λ b c. refl,
-                      (taken-by (mailed (bytes "a@x") []) (headerNamed 76) refl tt tt, (λ b c. refl, (needs-by wholeEnvelope wholeHeader 54 146 refl refl refl, tt))),
+                      (taken-by (mailed (bytes "a@x") []) (headerNamed 76) refl tt tt, (λ b c. refl, (needs-by wholeEnvelope wholeHeader 54 140 refl refl refl, tt))),
                     ),
                   ),
                 ),

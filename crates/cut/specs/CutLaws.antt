@@ -2,7 +2,7 @@
 -- test of what fits a line, as long as a part of what fits fits too. Assumes nothing.
 use mathlib.Core.Path.{_≡_, refl, sym, _∙_}
 use mathlib.Core.Bool.{Bool, true, not}
-use mathlib.Core.List.{List, [], _∷_, _++_, append-assoc, nil≢cons}
+use mathlib.Core.List.{List, [], _∷_, _++_, append-assoc, append-nil, nil≢cons}
 use Prim.Native.Nat.{ℕ, suc, _≤_, suc-le-suc}
 use native.Mathlib.Omega.{arith}
 use lib.ListN.{length}
@@ -70,6 +70,31 @@ module _ {A : Type 0} where
         by-test (fits k (run ++ (c ∷ [])))
         (λ u. rw (cut-more k run c cs u) (cut-some k (run ++ (c ∷ [])) cs (some-snoc run c)))
         (λ u. rw (cut-next k run c cs u) (yes-and (nonempty run) (all nonempty (cut fits (suc k) (c ∷ []) cs)) h (cut-some (suc k) (c ∷ []) cs tt)))
+
+    -- ---- line by line
+
+    -- a line takes together all that fits it
+    pub cut-run : ((k : ℕ) (d m e : List A) → T (fits k (d ++ (m ++ e))) → T (fits k m)) → (k : ℕ) (a b cs : List A) → T (fits k (a ++ b))
+        → cut fits k a (b ++ cs) ≡ cut fits k (a ++ b) cs
+    cut-run part k a [] cs t = rw append-nil refl
+    cut-run part k a (c ∷ b) cs t =
+        let same : (a ++ (c ∷ [])) ++ b ≡ a ++ (c ∷ b) = append-assoc a (c ∷ []) b in
+        let all : T (fits k ((a ++ (c ∷ [])) ++ b)) = rw same t in
+        cut-more k a c (b ++ cs) (part k [] (a ++ (c ∷ [])) b all) ∙ cut-run part k (a ++ (c ∷ [])) b cs all ∙ rw same refl
+
+    -- the lines after line k, of what is left
+    unfoldable pub linesBelow : ℕ → List A → List (List A)
+    linesBelow k [] = []
+    linesBelow k (c ∷ cs) = cut fits (suc k) (c ∷ []) cs
+
+    -- line k is full: it does not hold the next thing too
+    abbrev pub Full : ℕ → List A → List A → Type 0
+    Full k run rest = (c : A) (cs : List A) → rest ≡ c ∷ cs → T (not (fits k (run ++ (c ∷ []))))
+
+    pub cut-full : (k : ℕ) (run rest : List A) → Full k run rest → cut fits k run rest ≡ run ∷ linesBelow k rest
+    unfolding cut linesBelow
+    cut-full k run [] full = refl
+    cut-full k run (c ∷ cs) full = cut-next k run c cs (full c cs refl)
 
   -- two ways to part one list in two
   data Parted (a b h t : List A) : Type 0 where

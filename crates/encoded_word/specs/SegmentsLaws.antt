@@ -1,19 +1,25 @@
 -- Of segments that are sound: what is written is all ASCII, and demand 3 holds of each text that is encoded. Assumes nothing.
 use mathlib.Core.Path.{_≡_, refl, sym}
+use mathlib.Core.Logic.{⊎-elim}
 use mathlib.Core.List.{List, [], _∷_, _++_, append-assoc, List·Memᴰ, map}
-use Prim.Native.Nat.{ℕ, _+_, _<_}
+use Prim.Native.Nat.{ℕ, _+_, _-_, _<_}
 use lib.ListN.{length}
-use lib.Dec.{T, ltb→lt}
-use mir.Facts.{and-yes}
+use lib.Dec.{T, eqb, eqb→eq, ltb→lt}
+use mir.Facts.{and-yes, or-yes}
 use Rattle.lists.specs.Byte.{isByte, isAscii}
 use Rattle.lists.specs.ByteLaws.{below}
 use Rattle.lists.specs.Lists.{all, joined}
-use Rattle.lists.specs.ListsLaws.{all-append, all-joined, all-mem, joined-map}
+use Rattle.lists.specs.ListsLaws.{all-append, all-joined, all-mem, all-weaken, joined-map}
 use Rattle.utf8.specs.Utf8.{chars, utf8}
 use Rattle.utf8.specs.Utf8Laws.{chars-joined, utf8-bytes}
 use Rattle.hex.specs.Hex.{hexDigit}
 use Rattle.word_spelling.specs.Spelling.{closing, bare, spellByte, spell}
-use Rattle.row.specs.Row.{runs, word, lines, rowIn, row, runsAfter, linesAfter, rowAfterIn, rowAfter}
+use Rattle.base64.specs.Base64.{digit64, isDigit64, value64, inBase64}
+use Rattle.base64.specs.Base64Laws.{isBase64, reads-only, all-base64}
+use Rattle.row.specs.declared.Encoding.{Encoding}
+use Rattle.row.specs.declared.Encoding.the-variants.{Q, B}
+use Rattle.row.specs.Word.{openingIn, spellIn, word}
+use Rattle.row.specs.Row.{encodings, runs, chosen, wordIn, lines, rowIn, row, runsAfter, linesAfter, rowAfterIn, rowAfter}
 use Rattle.row.specs.Demand3.{Demand3}
 use Rattle.row.specs.Demand3Laws.{runs-joined, demand-3}
 use Rattle.row.specs.FieldRow.{FieldDemand3}
@@ -34,34 +40,55 @@ spell-ascii (b ∷ bytes) h =
     let both = and-yes (isByte b) (all isByte bytes) h in
     all-append isAscii (spellByte b) (spell bytes) (spell-byte-ascii b (ltb→lt b 256 (both .0))) (spell-ascii bytes (both .1))
 
-lines-ascii : (ls : List (List ℕ)) → T (all (all isByte) ls) → T (all isAscii (lines ls))
-unfolding lines word
-lines-ascii [] h = tt
-lines-ascii (l ∷ ls) h =
-    let both = and-yes (all isByte l) (all (all isByte) ls) h in
-    let one : T (all isAscii (spell l ++ closing)) = all-append isAscii (spell l) closing (spell-ascii l (both .0)) tt in
-    all-append isAscii (13 ∷ 10 ∷ 32 ∷ word l) (lines ls) one (lines-ascii ls (both .1))
+digit-ascii : (b : ℕ) → T (isBase64 b) → T (isAscii b)
+unfolding digit64
+digit-ascii b t =
+    ⊎-elim
+    (λ u. let d = reads-only b u in rw (d .1) at (below (λ v. isAscii (digit64 v)) 64 tt (value64 b) (d .0)))
+    (λ u. rw (eqb→eq b 61 u) tt)
+    (or-yes (isDigit64 b) (eqb b 61) t)
 
--- of every text of bytes, UTF-8 or not
-pub row-ascii : (room : ℕ) (text : List ℕ) → T (all isByte text) → T (all isAscii (rowIn room text))
-unfolding rowIn
-row-ascii room text h =
-    lines-ascii (map joined (runs room (chars text)))
-    (all-joined isByte (map joined (runs room (chars text)))
-    (rw (joined-map (runs room (chars text)), runs-joined room (chars text), chars-joined text) h))
+spell-in-ascii : (e : Encoding) (bytes : List ℕ) → T (all isByte bytes) → T (all isAscii (spellIn e bytes))
+spell-in-ascii Q bytes h = spell-ascii bytes h
+spell-in-ascii B bytes h = all-weaken isBase64 isAscii digit-ascii (inBase64 bytes) (all-base64 bytes)
 
-lines-after-ascii : (ls : List (List ℕ)) → T (all (all isByte) ls) → T (all isAscii (linesAfter ls))
-unfolding linesAfter lines
-lines-after-ascii [] h = tt
-lines-after-ascii ([] ∷ ls) h = lines-ascii ls h
-lines-after-ascii ((b ∷ l) ∷ ls) h = lines-ascii ((b ∷ l) ∷ ls) h
+word-ascii : (e : Encoding) (bytes : List ℕ) → T (all isByte bytes) → T (all isAscii (word e bytes))
+unfolding word
+word-ascii e bytes h =
+    all-append isAscii (openingIn e) (spellIn e bytes ++ closing) (opening-ascii e) (all-append isAscii (spellIn e bytes) closing (spell-in-ascii e bytes h) tt)
+  where
+    opening-ascii : (e : Encoding) → T (all isAscii (openingIn e))
+    opening-ascii Q = tt
+    opening-ascii B = tt
 
-row-after-ascii : (room column : ℕ) (text : List ℕ) → T (all isByte text) → T (all isAscii (rowAfterIn room column text))
-unfolding rowAfterIn
-row-after-ascii room column text h =
-    lines-after-ascii (map joined (runsAfter room column (chars text)))
-    (all-joined isByte (map joined (runsAfter room column (chars text)))
-    (rw (joined-map (runsAfter room column (chars text)), runs-after-joined room column (chars text), chars-joined text) h))
+module _ (es : List Encoding) (room : ℕ) where
+  lines-ascii : (ls : List (List ℕ)) → T (all (all isByte) ls) → T (all isAscii (lines es room ls))
+  unfolding lines
+  lines-ascii [] h = tt
+  lines-ascii (l ∷ ls) h =
+      let both = and-yes (all isByte l) (all (all isByte) ls) h in
+      all-append isAscii (13 ∷ 10 ∷ 32 ∷ wordIn es room l) (lines es room ls) (word-ascii (chosen es room l) l (both .0)) (lines-ascii ls (both .1))
+
+  -- of every text of bytes, UTF-8 or not
+  row-ascii : (text : List ℕ) → T (all isByte text) → T (all isAscii (rowIn es room text))
+  unfolding rowIn
+  row-ascii text h =
+      let rs = runs es room (chars text) in
+      lines-ascii (map joined rs) (all-joined isByte (map joined rs) (rw (joined-map rs, runs-joined es room (chars text), chars-joined text) h))
+
+  lines-after-ascii : (column : ℕ) (ls : List (List ℕ)) → T (all (all isByte) ls) → T (all isAscii (linesAfter es room column ls))
+  unfolding linesAfter
+  lines-after-ascii column [] h = tt
+  lines-after-ascii column ([] ∷ ls) h = lines-ascii ls h
+  lines-after-ascii column ((b ∷ l) ∷ ls) h =
+      let both = and-yes (all isByte (b ∷ l)) (all (all isByte) ls) h in
+      all-append isAscii (32 ∷ wordIn es (room - column) (b ∷ l)) (lines es room ls) (word-ascii (chosen es (room - column) (b ∷ l)) (b ∷ l) (both .0)) (lines-ascii ls (both .1))
+
+  row-after-ascii : (column : ℕ) (text : List ℕ) → T (all isByte text) → T (all isAscii (rowAfterIn es room column text))
+  unfolding rowAfterIn
+  row-after-ascii column text h =
+      let rs = runsAfter es room column (chars text) in
+      lines-after-ascii column (map joined rs) (all-joined isByte (map joined rs) (rw (joined-map rs, runs-after-joined es room column (chars text), chars-joined text) h))
 
 -- ---- segments
 
@@ -72,10 +99,10 @@ rendered-append (s ∷ a) b = rw (rendered-append a b) (sym (append-assoc (bytes
 
 bytes-ascii : (s : Segment) → T (sound s) → T (all isAscii (bytesOf s))
 bytes-ascii (raw bytes) h = h
-bytes-ascii (words text) h = row-ascii 63 text (utf8-bytes text h)
+bytes-ascii (words text) h = row-ascii encodings 63 text (utf8-bytes text h)
 bytes-ascii (labelled label text) h =
     let both = and-yes (all isAscii label) (utf8 text) h in
-    all-append isAscii label (rowAfter (length label) text) (both .0) (row-after-ascii 63 (length label) text (utf8-bytes text (both .1)))
+    all-append isAscii label (rowAfter (length label) text) (both .0) (row-after-ascii encodings 63 (length label) text (utf8-bytes text (both .1)))
 
 pub rendered-ascii : (ss : List Segment) → T (all sound ss) → T (all isAscii (rendered ss))
 unfolding rendered

@@ -1,44 +1,49 @@
-// The characters of a text, written into an output buffer.
+// The characters of a word in Q, written into an output buffer.
 ghost use mathlib.Core.Path.{_≡_};
 ghost use mathlib.Core.List.{[], _∷_};
-ghost use Prim.Native.Nat.{_+_, _*_, _≤_, _<_};
+ghost use Prim.Native.Nat.{_+_, _≤_, _<_};
 ghost use lib.ListN.{length, getD};
 ghost use Rattle.buffer.specs.Buffer.{Appended};
 ghost use Rattle.word_spelling.specs.FirstChars.{firstChars};
 ghost use Rattle.word_spelling.specs.HighChar.{HighChar};
-ghost use Rattle.row.specs.Stream.{onwardsAt};
-ghost use Rattle.encoded_word.specs.Writing.{PutTurn, Ran};
+ghost use Rattle.encoded_word.specs.Writing.{PutTurn, PutInQ};
 use crate::spelling::put_byte;
 use crate::spelling::put_char;
 use crate::spelling::put_escape;
 use crate::spelling::put_escapes;
-use crate::word::make_room;
 use word_spelling::byte_cost;
 use word_spelling::char_cost;
 use word_spelling::first_char;
 use word_spelling::high_size;
 
-// A place in the text, the room that is left in the open word, and a place in the output.
-pub(crate) struct Spot {
-    pub i: usize,
-    pub left: usize,
+// A place in the text, the room that is left in the word, and a place in the output.
+struct Spot {
+    i: usize,
+    left: usize,
+    at: usize,
+}
+
+// A place in the text, and one in the output.
+pub(crate) struct Put {
+    pub end: usize,
     pub at: usize,
 }
 
-// A character of any length, cut at the end of the text.
+// A character of any length, cut at the end of the text, where what is left holds it.
 fn put_any(first: &[u8; 256], out: &mut [u8], at: usize, left: usize, s: &[u8], i: usize) -> Spot
-    requires { ⌜ (now first ≡ firstChars) × (i < length (now s)) × (left ≤ 63) × (at + 39 ≤ length (now out)) ⌝ }
+    requires { ⌜ (now first ≡ firstChars) × (i < length (now s)) × (at + left + 2 ≤ length (now out)) ⌝ }
     ensures { λ r. ⌜ PutTurn (now (s .entry)) i left at (now (out .entry)) (now (out .exit)) (r .i) (r .left) (r .at) ⌝ }
 {
     let c = char_cost(first, s, i);
     let e = c.end;
     let m = c.cost;
-    let open = make_room(out, at, left, m);
-    let here = open.at;
-    let after = put_char(first, out, here, &s[i..e]);
+    if left < m {
+        return Spot { i, left, at };
+    }
+    let after = put_char(first, out, at, &s[i..e]);
     Spot {
         i: e,
-        left: open.left,
+        left: left - m,
         at: after,
     }
 }
@@ -58,9 +63,9 @@ fn put_alone(out: &mut [u8], at: usize, a: u8, b: u8, c: u8, d: u8) -> usize
     fourth + 1
 }
 
-// An ASCII character, or four that take one character each where the open word has room for them.
+// An ASCII character, or four that take one character each, where what is left holds them.
 fn put_ascii(first: &[u8; 256], out: &mut [u8], at: usize, left: usize, s: &[u8], i: usize) -> Spot
-    requires { ⌜ (now first ≡ firstChars) × (i < length (now s)) × (left ≤ 63) × (at + 39 ≤ length (now out)) × (getD (now s) i 0 < 128) ⌝ }
+    requires { ⌜ (now first ≡ firstChars) × (i < length (now s)) × (at + left + 2 ≤ length (now out)) × (getD (now s) i 0 < 128) ⌝ }
     ensures { λ r. ⌜ PutTurn (now (s .entry)) i left at (now (out .entry)) (now (out .exit)) (r .i) (r .left) (r .at) ⌝ }
 {
     let j = i + 1;
@@ -84,29 +89,32 @@ fn put_ascii(first: &[u8; 256], out: &mut [u8], at: usize, left: usize, s: &[u8]
     }
     let b = s[i];
     let m = byte_cost(first, b);
-    let open = make_room(out, at, left, m);
-    let here = open.at;
-    let after = put_byte(first, out, here, b);
+    if left < m {
+        return Spot { i, left, at };
+    }
+    let after = put_byte(first, out, at, b);
     Spot {
         i: j,
-        left: open.left,
+        left: left - m,
         at: after,
     }
 }
 
-// A character of n bytes, 2 to 4, none of them ASCII.
+// A character of n bytes, 2 to 4, none of them ASCII, where what is left holds it.
 fn put_whole(out: &mut [u8], at: usize, left: usize, s: &[u8], i: usize, n: usize) -> Spot
-    requires { ⌜ (2 ≤ n) × (n ≤ 4) × (i + n ≤ length (now s)) × (left ≤ 63) × (at + 39 ≤ length (now out)) × HighChar (now s) i n ⌝ }
+    requires { ⌜ (2 ≤ n) × (n ≤ 4) × (i + n ≤ length (now s)) × (at + left + 2 ≤ length (now out)) × HighChar (now s) i n ⌝ }
     ensures { λ r. ⌜ PutTurn (now (s .entry)) i left at (now (out .entry)) (now (out .exit)) (r .i) (r .left) (r .at) ⌝ }
 {
+    let m = 3 * n;
+    if left < m {
+        return Spot { i, left, at };
+    }
+    let rest = left - m;
     let next = i + n;
     let j = i + 1;
     let a = s[i];
     let b = s[j];
-    let open = make_room(out, at, left, 3 * n);
-    let rest = open.left;
-    let here = open.at;
-    let third = put_escapes(out, here, a, b);
+    let third = put_escapes(out, at, a, b);
     if n == 2 {
         return Spot {
             i: next,
@@ -134,7 +142,7 @@ fn put_whole(out: &mut [u8], at: usize, left: usize, s: &[u8], i: usize, n: usiz
 
 // A character that is not ASCII. Lengths are constants, so that the loop need not wait for size.
 fn put_high(first: &[u8; 256], out: &mut [u8], at: usize, left: usize, s: &[u8], i: usize) -> Spot
-    requires { ⌜ (now first ≡ firstChars) × (i < length (now s)) × (left ≤ 63) × (at + 39 ≤ length (now out)) ⌝ }
+    requires { ⌜ (now first ≡ firstChars) × (i < length (now s)) × (at + left + 2 ≤ length (now out)) ⌝ }
     ensures { λ r. ⌜ PutTurn (now (s .entry)) i left at (now (out .entry)) (now (out .exit)) (r .i) (r .left) (r .at) ⌝ }
 {
     let size = high_size(s, i);
@@ -150,9 +158,9 @@ fn put_high(first: &[u8; 256], out: &mut [u8], at: usize, left: usize, s: &[u8],
     put_any(first, out, at, left, s, i)
 }
 
-// The next character, or characters.
+// The next character, or characters, where what is left holds them; or none.
 fn put_next(first: &[u8; 256], out: &mut [u8], at: usize, left: usize, s: &[u8], i: usize) -> Spot
-    requires { ⌜ (now first ≡ firstChars) × (i < length (now s)) × (left ≤ 63) × (at + 39 ≤ length (now out)) ⌝ }
+    requires { ⌜ (now first ≡ firstChars) × (i < length (now s)) × (at + left + 2 ≤ length (now out)) ⌝ }
     ensures { λ r. ⌜ PutTurn (now (s .entry)) i left at (now (out .entry)) (now (out .exit)) (r .i) (r .left) (r .at) ⌝ }
 {
     if s[i] < 128 {
@@ -161,55 +169,29 @@ fn put_next(first: &[u8; 256], out: &mut [u8], at: usize, left: usize, s: &[u8],
     put_high(first, out, at, left, s, i)
 }
 
-// Characters from the start of the text on, in a word that is open with this room, as long as the buffer has room for the next whatever it
-// is.
-pub(crate) fn put_while_roomy(
+// As many characters from the start of the text on as a word in Q holds.
+pub(crate) fn put_in_q(
     first: &[u8; 256],
     out: &mut [u8],
     start: usize,
     room: usize,
     s: &[u8],
-) -> Spot
-    requires { ⌜ (now first ≡ firstChars) × (room ≤ 63) ⌝ }
-    ensures { λ r. ⌜ Ran (now (s .entry)) room start (now (out .entry)) (now (out .exit)) (r .i) (r .left) (r .at) ⌝ }
+) -> Put
+    requires { ⌜ (now first ≡ firstChars) × (start + room + 2 ≤ length (now out)) ⌝ }
+    ensures { λ r. ⌜ PutInQ room (now (s .entry)) start (now (out .entry)) (now (out .exit)) (r .end) (r .at) ⌝ }
 {
     let mut i = 0;
     let mut left = room;
     let mut at = start;
-    if 39 <= out.len() {
-        let last = out.len() - 39;
-        while (i < s.len()) & (at <= last) {
-            let r = put_next(first, out, at, left, s, i);
-            i = r.i;
-            left = r.left;
-            at = r.at;
-        }
-    }
-    Spot { i, left, at }
-}
-
-// The characters from `begin` on and the end of the last word, clipped: each character is written beside the buffer, and then copied as far as it fits.
-pub(crate) fn put_clipped(
-    first: &[u8; 256],
-    out: &mut [u8],
-    start: usize,
-    room: usize,
-    s: &[u8],
-    begin: usize,
-) -> usize
-    requires { ⌜ (now first ≡ firstChars) × (length (now s) ≤ 4294967296) × (begin ≤ length (now s)) × (room ≤ 63) × (start ≤ 13 + 18 * begin) ⌝ }
-    ensures { λ r. ⌜ Appended (onwardsAt (now (s .entry)) begin room) start (now (out .entry)) (now (out .exit)) r ⌝ }
-{
-    let mut piece = [0u8; 39];
-    let mut at = start;
-    let mut left = room;
-    let mut i = begin;
     while i < s.len() {
-        let r = put_any(first, &mut piece, 0, left, s, i);
-        let n = r.at;
-        at = buffer::add_slice(out, at, &piece[..n]);
-        i = r.i;
+        let r = put_next(first, out, at, left, s, i);
+        let e = r.i;
+        at = r.at;
+        if e == i {
+            return Put { end: i, at };
+        }
+        i = e;
         left = r.left;
     }
-    buffer::add_slice(out, at, b"?=")
+    Put { end: i, at }
 }

@@ -1,5 +1,6 @@
-// Rows of encoded words (RFC 2047, charset UTF-8, encoding Q): the row of a text is written, and measured.
+// Rows of encoded words (RFC 2047, charset UTF-8, encodings Q and B): the row of a text is written, and measured.
 mod character;
+mod lines;
 mod spelling;
 mod word;
 
@@ -7,9 +8,9 @@ ghost use mathlib.Core.Path.{_≡_};
 ghost use lib.ListN.{length};
 ghost use Rattle.buffer.specs.Buffer.{Wrote, AppendedCapped};
 ghost use Rattle.row.specs.Row.{row, rowAfter, bounded};
-use character::put_clipped;
-use character::put_while_roomy;
-use word::put_first;
+use lines::add_first;
+use lines::add_lines;
+use lines::put_lines;
 
 // The longest text that has a row, in bytes.
 const LIMIT: usize = 4294967296;
@@ -22,21 +23,17 @@ pub fn write_after(out: &mut [u8], column: usize, text: &[u8]) -> usize
     if out.len() == 0 {
         return row_length::len_after(column, text);
     }
-    if text.len() == 0 {
-        return 0;
-    }
     if LIMIT < text.len() {
         return 0;
     }
     let first = word_spelling::first_chars();
-    let open = put_first(out, row_length::room_here(&first, column, text));
-    let begun = open.at;
-    let room = open.left;
-    let r = put_while_roomy(&first, out, begun, room, text);
-    let i = r.i;
-    let left = r.left;
+    let begun = add_first(&first, out, column, text);
+    let begin = begun.end;
+    let start = begun.at;
+    let r = put_lines(&first, out, start, text, begin);
+    let i = r.end;
     let at = r.at;
-    put_clipped(&first, out, at, left, text, i)
+    add_lines(&first, out, at, text, i)
 }
 
 // The same of a row that begins on a line of its own.

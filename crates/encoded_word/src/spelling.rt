@@ -1,10 +1,11 @@
 // Bytes written in the spelling of a word.
 ghost use mathlib.Core.Path.{_≡_};
 ghost use mathlib.Core.List.{_++_};
-ghost use Prim.Native.Nat.{_+_, _*_, _≤_, _<_};
+ghost use Prim.Native.Nat.{_+_, _≤_};
 ghost use lib.ListN.{length};
 ghost use Rattle.buffer.specs.Buffer.{Appended};
 ghost use Rattle.word_spelling.specs.Spelling.{escape, spellByte, spell};
+ghost use Rattle.word_spelling.specs.Cost.{cost};
 ghost use Rattle.word_spelling.specs.FirstChars.{firstChars};
 use word_spelling::first_char;
 
@@ -54,9 +55,9 @@ pub(crate) fn put_byte(first: &[u8; 256], out: &mut [u8], at: usize, b: u8) -> u
     at + 1
 }
 
-// Writes the bytes of a character.
+// Writes the bytes of a character, where two more would fit after them.
 pub(crate) fn put_char(first: &[u8; 256], out: &mut [u8], at: usize, c: &[u8]) -> usize
-    requires { ⌜ (now first ≡ firstChars) × (at + 3 * length (now c) ≤ length (now out)) ⌝ }
+    requires { ⌜ (now first ≡ firstChars) × (at + cost (now c) + 2 ≤ length (now out)) ⌝ }
     ensures { λ r. ⌜ Appended (spell (now (c .entry))) at (now (out .entry)) (now (out .exit)) r ⌝ }
 {
     let mut next = at;

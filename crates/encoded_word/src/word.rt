@@ -1,64 +1,43 @@
-// The start and the end of a word, and the room in it.
+// One word, in Q or in B.
 ghost use mathlib.Core.Path.{_≡_};
+ghost use mathlib.Core.List.{[], _∷_};
 ghost use Prim.Native.Nat.{_+_, _≤_};
 ghost use lib.ListN.{length};
-ghost use Rattle.buffer.specs.Buffer.{Wrote, Appended};
+ghost use Rattle.buffer.specs.Buffer.{Appended};
 ghost use Rattle.word_spelling.specs.Spelling.{closing};
-ghost use Rattle.row.specs.Stream.{start, gap, leftAfter, startAfter, roomAfter};
+ghost use Rattle.word_spelling.specs.FirstChars.{firstChars};
+ghost use Rattle.row.specs.Word.{word};
+ghost use Rattle.row.specs.declared.Encoding.the-variants.{B};
+ghost use Rattle.encoded_word.specs.Writing.{PutWordInQ, PutWord, PutLine};
+use crate::character::Put;
+use crate::character::put_in_q;
+use word_choice::Choice;
 
-// A place in the output, and the room that is left in the open word.
-pub(crate) struct Open {
-    pub at: usize,
-    pub left: usize,
-}
-
-// Starts the first word of a row after a name, by the room for it on the name's line: after one space, or on the next line where there is
-// none.
-pub(crate) fn put_first(out: &mut [u8], here: usize) -> Open
-    ensures { λ r. ⌜ (r .left ≡ roomAfter here) × Wrote (startAfter here) (now (out .entry)) (now (out .exit)) (r .at) ⌝ }
+// Writes `=?UTF-8?`, the encoding's letter, and `?`.
+fn put_opening(out: &mut [u8], at: usize, letter: u8) -> usize
+    requires { ⌜ at + 10 ≤ length (now out) ⌝ }
+    ensures { λ r. ⌜ Appended (61 ∷ 63 ∷ 85 ∷ 84 ∷ 70 ∷ 45 ∷ 56 ∷ 63 ∷ letter ∷ 63 ∷ []) at (now (out .entry)) (now (out .exit)) r ⌝ }
 {
-    if here == 0 {
-        let next = buffer::put_slice(out, b"\r\n =?UTF-8?Q?");
-        return Open { at: next, left: 63 };
-    }
-    let after = buffer::put_slice(out, b" =?UTF-8?Q?");
-    Open {
-        at: after,
-        left: here,
-    }
-}
-
-// Writes CRLF, space and `=?UTF-8?Q?`.
-fn put_start(out: &mut [u8], at: usize) -> usize
-    requires { ⌜ at + 13 ≤ length (now out) ⌝ }
-    ensures { λ r. ⌜ Appended start at (now (out .entry)) (now (out .exit)) r ⌝ }
-{
-    out[at] = 13;
+    out[at] = 61;
     let a1 = at + 1;
-    out[a1] = 10;
+    out[a1] = 63;
     let a2 = a1 + 1;
-    out[a2] = 32;
+    out[a2] = 85;
     let a3 = a2 + 1;
-    out[a3] = 61;
+    out[a3] = 84;
     let a4 = a3 + 1;
-    out[a4] = 63;
+    out[a4] = 70;
     let a5 = a4 + 1;
-    out[a5] = 85;
+    out[a5] = 45;
     let a6 = a5 + 1;
-    out[a6] = 84;
+    out[a6] = 56;
     let a7 = a6 + 1;
-    out[a7] = 70;
+    out[a7] = 63;
     let a8 = a7 + 1;
-    out[a8] = 45;
+    out[a8] = letter;
     let a9 = a8 + 1;
-    out[a9] = 56;
-    let a10 = a9 + 1;
-    out[a10] = 63;
-    let a11 = a10 + 1;
-    out[a11] = 81;
-    let a12 = a11 + 1;
-    out[a12] = 63;
-    a12 + 1
+    out[a9] = 63;
+    a9 + 1
 }
 
 // Writes `?=`.
@@ -72,18 +51,65 @@ fn put_closing(out: &mut [u8], at: usize) -> usize
     second + 1
 }
 
-// Makes room for m characters: in the open word, or in a new one.
-pub(crate) fn make_room(out: &mut [u8], at: usize, left: usize, m: usize) -> Open
-    requires { ⌜ (m ≤ 63) × (at + 15 ≤ length (now out)) ⌝ }
-    ensures { λ r. ⌜ (r .left ≡ leftAfter 63 left m) × Appended (gap left m) at (now (out .entry)) (now (out .exit)) (r .at) ⌝ }
+// A word in Q, of as many characters as it holds.
+fn put_word_in_q(first: &[u8; 256], out: &mut [u8], at: usize, room: usize, s: &[u8]) -> Put
+    requires { ⌜ (now first ≡ firstChars) × (room ≤ 63) × (at + 75 ≤ length (now out)) ⌝ }
+    ensures { λ r. ⌜ PutWordInQ room (now (s .entry)) at (now (out .entry)) (now (out .exit)) (r .end) (r .at) ⌝ }
 {
-    if m <= left {
-        return Open { at, left: left - m };
+    let started = put_opening(out, at, 81);
+    let r = put_in_q(first, out, started, room, s);
+    let e = r.end;
+    let here = r.at;
+    let after = put_closing(out, here);
+    Put { end: e, at: after }
+}
+
+// A word in B.
+fn put_word_in_b(out: &mut [u8], at: usize, bytes: &[u8]) -> usize
+    requires { ⌜ (length (now bytes) ≤ 45) × (at + 75 ≤ length (now out)) ⌝ }
+    ensures { λ r. ⌜ Appended (word B (now (bytes .entry))) at (now (out .entry)) (now (out .exit)) r ⌝ }
+{
+    let started = put_opening(out, at, 66);
+    let after = base64::add(out, started, bytes);
+    put_closing(out, after)
+}
+
+// The word at the front of a text.
+pub(crate) fn put_word(first: &[u8; 256], out: &mut [u8], at: usize, room: usize, s: &[u8]) -> Put
+    requires { ⌜ (now first ≡ firstChars) × (room ≤ 63) × (at + 75 ≤ length (now out)) ⌝ }
+    ensures { λ r. ⌜ PutWord room (now (s .entry)) at (now (out .entry)) (now (out .exit)) (r .end) (r .at) ⌝ }
+{
+    if word_choice::surely_in_q(s, room) {
+        return put_word_in_q(first, out, at, room, s);
     }
-    let closed = put_closing(out, at);
-    let started = put_start(out, closed);
-    Open {
-        at: started,
-        left: 63 - m,
+    let choice = word_choice::choose(s, room);
+    match choice {
+        Choice::InQ => put_word_in_q(first, out, at, room, s),
+        Choice::InB(e) => Put {
+            end: e,
+            at: put_word_in_b(out, at, &s[0..e]),
+        },
     }
+}
+
+// Writes CRLF and one space.
+fn put_break(out: &mut [u8], at: usize) -> usize
+    requires { ⌜ at + 3 ≤ length (now out) ⌝ }
+    ensures { λ r. ⌜ Appended (13 ∷ 10 ∷ 32 ∷ []) at (now (out .entry)) (now (out .exit)) r ⌝ }
+{
+    let second = at + 1;
+    let third = second + 1;
+    out[at] = 13;
+    out[second] = 10;
+    out[third] = 32;
+    third + 1
+}
+
+// The word on a line of its own.
+pub(crate) fn put_line(first: &[u8; 256], out: &mut [u8], at: usize, s: &[u8]) -> Put
+    requires { ⌜ (now first ≡ firstChars) × (at + 78 ≤ length (now out)) ⌝ }
+    ensures { λ r. ⌜ PutLine (now (s .entry)) at (now (out .entry)) (now (out .exit)) (r .end) (r .at) ⌝ }
+{
+    let started = put_break(out, at);
+    put_word(first, out, started, 63, s)
 }

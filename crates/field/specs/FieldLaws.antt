@@ -22,7 +22,7 @@ use Rattle.field.specs.Field.{labelledField, prefix, encodedField}
 
 -- ---- length
 
-pub length-labelled : (label text : List ℕ) → length (rendered (labelledField label text)) ≤ 17 + 2 * length label + 5 * length text
+pub length-labelled : (label text : List ℕ) → length (rendered (labelledField label text)) ≤ 30 + length label + 3 * length text
 unfolding labelledField rendered
 length-labelled label text = simp length-append (omega (arith, length-row-after-le (length label) text))
 
@@ -31,7 +31,7 @@ unfolding prefix bytes
 length-prefix true = lit≤ tt
 length-prefix false = lit≤ tt
 
-pub length-encoded : (downgraded : Bool) (name text : List ℕ) → length (rendered (encodedField downgraded name text)) ≤ 41 + 2 * length name + 5 * length text
+pub length-encoded : (downgraded : Bool) (name text : List ℕ) → length (rendered (encodedField downgraded name text)) ≤ 42 + length name + 3 * length text
 unfolding encodedField
 length-encoded downgraded name text =
     let label = prefix downgraded ++ (name ++ (58 ∷ [])) in

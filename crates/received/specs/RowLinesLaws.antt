@@ -11,14 +11,19 @@ use lib.ListN.{length, take, getD, length-append, length-take}
 use mir.Facts.{and-yes, yes-and, leb-yes, leb-no}
 use Rattle.lists.specs.CutByLaws.{cut-all}
 use Rattle.lists.specs.Lists.{all, joined}
-use Rattle.lists.specs.ListsLaws.{by-test, cond-has, all-append}
+use Rattle.lists.specs.ListsLaws.{by-test, cond-has, all-append, all-weaken}
 use Rattle.utf8.specs.Utf8.{charLen, chars}
 use Rattle.utf8.specs.Utf8Laws.{char-len-le}
 use Rattle.cut.specs.CutLaws.{AllFit, cut-fits}
 use Rattle.hex.specs.Hex.{hexDigit}
-use Rattle.word_spelling.specs.Spelling.{opening, closing, bare, escape, spellByte, spell}
-use Rattle.word_spelling.specs.SpellingLaws.{length-spell}
-use Rattle.row.specs.Row.{fitsRoom, runs, word, lines, rowIn, row}
+use Rattle.word_spelling.specs.Spelling.{closing, bare, escape, spellByte, spell}
+use Rattle.base64.specs.Base64.{isDigit64, inBase64}
+use Rattle.base64.specs.Base64Laws.{isBase64, all-base64}
+use Rattle.row.specs.declared.Encoding.{Encoding}
+use Rattle.row.specs.declared.Encoding.the-variants.{Q, B}
+use Rattle.row.specs.Word.{openingIn, spellIn, word}
+use Rattle.row.specs.Row.{encodings, fitsRoom, runs, chosen, lines, rowIn, row}
+use Rattle.row.specs.FitsLaws.{length-word-in, short-fits, chosen-holds}
 use Rattle.received.specs.Received.{columnAfter}
 use Rattle.received.specs.LinesLaws.{column-append, column-past, inLine, column-run, newLine, line-starts, line-past}
 
@@ -49,43 +54,52 @@ unfolding spell
 spell-in-line [] = tt
 spell-in-line (b ∷ bytes) = all-append inLine (spellByte b) (spell bytes) (byte-in-line b) (spell-in-line bytes)
 
-word-in-line : (bytes : List ℕ) → T (all inLine (word bytes))
-unfolding word
-word-in-line bytes = all-append inLine opening (spell bytes ++ closing) tt (all-append inLine (spell bytes) closing (spell-in-line bytes) tt)
+no-base64 : T (isBase64 10) → ⊥
+unfolding isDigit64
+no-base64 t = t
 
-length-word : (bytes : List ℕ) → length (word bytes) ≡ length (spell bytes) + 12
+base64-in-line : (bytes : List ℕ) → T (all inLine (inBase64 bytes))
+base64-in-line bytes = all-weaken isBase64 inLine (λ b t. by-test (eqb b 10) (λ u. absurd (no-base64 (rw (eqb→eq b 10 u) at t))) (λ u. u)) (inBase64 bytes) (all-base64 bytes)
+
+opening-in-line : (e : Encoding) → T (all inLine (openingIn e))
+opening-in-line Q = tt
+opening-in-line B = tt
+
+spelled-in-line : (e : Encoding) (bytes : List ℕ) → T (all inLine (spellIn e bytes))
+spelled-in-line Q bytes = spell-in-line bytes
+spelled-in-line B bytes = base64-in-line bytes
+
+word-in-line : (e : Encoding) (bytes : List ℕ) → T (all inLine (word e bytes))
 unfolding word
-length-word bytes = rw (length-append opening (spell bytes ++ closing), length-append (spell bytes) closing) (omega arith)
+word-in-line e bytes = all-append inLine (openingIn e) (spellIn e bytes ++ closing) (opening-in-line e) (all-append inLine (spellIn e bytes) closing (spelled-in-line e bytes) tt)
 
 -- a word on a line of its own, and the line after it
-word-column : (column : ℕ) (bytes : List ℕ) → length (spell bytes) ≤ 63
-    → columnAfter (columnAfter column (newLine ++ word bytes)) newLine ≡ columnAfter column newLine
-word-column column bytes h =
+word-column : (column : ℕ) (e : Encoding) (bytes : List ℕ) → length (spellIn e bytes) ≤ 63
+    → columnAfter (columnAfter column (newLine ++ word e bytes)) newLine ≡ columnAfter column newLine
+word-column column e bytes h =
     by-test (leb column 998)
     (λ t.
     let start = line-starts column (leb-yes t) in
-    let after : columnAfter 1 (word bytes) ≡ 1 + length (word bytes) = column-run 1 (word bytes) (word-in-line bytes) (omega (arith, length-word bytes)) in
-    rw (column-append column newLine (word bytes), start, after, line-starts (1 + length (word bytes)) (omega (arith, length-word bytes))))
+    let after : columnAfter 1 (word e bytes) ≡ 1 + length (word e bytes) = column-run 1 (word e bytes) (word-in-line e bytes) (omega (arith, length-word-in e bytes)) in
+    rw (column-append column newLine (word e bytes), start, after, line-starts (1 + length (word e bytes)) (omega (arith, length-word-in e bytes))))
     (λ t.
     let past = line-past column (leb-no {a = column} {b = 998} t) in
-    rw (column-append column newLine (word bytes), column-past (columnAfter column newLine) (word bytes) past) (column-past (columnAfter column newLine) newLine past))
+    rw (column-append column newLine (word e bytes), column-past (columnAfter column newLine) (word e bytes) past) (column-past (columnAfter column newLine) newLine past))
 
-lines-column : (k column : ℕ) (rs : List (List (List ℕ))) → AllFit (fitsRoom 63) k rs → columnAfter column (lines (map joined rs) ++ newLine) ≡ columnAfter column newLine
+lines-column : (k column : ℕ) (rs : List (List (List ℕ))) → AllFit (fitsRoom encodings 63) k rs → columnAfter column (lines encodings 63 (map joined rs) ++ newLine) ≡ columnAfter column newLine
 unfolding lines
 lines-column k column [] f = refl
 lines-column k column (r ∷ rs) f =
-    let first = newLine ++ word (joined r) in
-    let more = lines (map joined rs) in
+    let e = chosen encodings 63 (joined r) in
+    let first = newLine ++ word e (joined r) in
+    let more = lines encodings 63 (map joined rs) in
     ap (λ (l : List ℕ). columnAfter column l) (append-assoc first more newLine)
     ∙ (column-append column first (more ++ newLine)
     ∙ (lines-column (suc k) (columnAfter column first) rs (f .1)
-    ∙ word-column column (joined r) (leb→le (length (spell (joined r))) 63 (f .0))))
+    ∙ word-column column e (joined r) (chosen-holds encodings 63 (joined r) (f .0) .small)))
 
 abbrev short : List ℕ → Bool
 short c = leb (length c) 8
-
-short-fits : (k : ℕ) (c : List ℕ) → T (short c) → T (fitsRoom 63 k (c ∷ []))
-short-fits k c t = rw append-nil (le→leb (length (spell c)) 63 (omega (arith, length-spell c, leb→le (length c) 8 t)))
 
 chars-short : (text : List ℕ) → T (all short (chars text))
 unfolding chars
@@ -93,14 +107,14 @@ chars-short text =
     cut-all (λ rest. charLen (getD rest 0 0)) short
     (λ s h. le→leb (length (take (suc (pred (charLen (getD s 0 0)))) s)) 8 (omega (arith, length-take (suc (pred (charLen (getD s 0 0)))) s, char-len-le (getD s 0 0)))) text
 
-runs-fit : (cs : List (List ℕ)) → T (all short cs) → AllFit (fitsRoom 63) 0 (runs 63 cs)
+runs-fit : (cs : List (List ℕ)) → T (all short cs) → AllFit (fitsRoom encodings 63) 0 (runs encodings 63 cs)
 unfolding runs
 runs-fit [] t = tt
 runs-fit (c ∷ cs) t =
     let both = and-yes (short c) (all short cs) t in
-    cut-fits (fitsRoom 63) short (λ k d u. short-fits (suc k) d u) 0 (c ∷ []) cs (short-fits 0 c (both .0)) (both .1)
+    cut-fits (fitsRoom encodings 63) short (λ k d u. short-fits (suc k) d (leb→le (length d) 8 u)) 0 (c ∷ []) cs (short-fits 0 c (leb→le (length c) 8 (both .0))) (both .1)
 
 -- what follows a row on a new line stands where it would without the row
 pub row-column : (column : ℕ) (text : List ℕ) → columnAfter column (row text ++ (13 ∷ 10 ∷ 32 ∷ [])) ≡ columnAfter column (13 ∷ 10 ∷ 32 ∷ [])
 unfolding rowIn
-row-column column text = lines-column 0 column (runs 63 (chars text)) (runs-fit (chars text) (chars-short text))
+row-column column text = lines-column 0 column (runs encodings 63 (chars text)) (runs-fit (chars text) (chars-short text))

@@ -1,8 +1,8 @@
 -- Rows of which demand 3 does not hold. For each part of it, if that part were left out, it would hold of one of these rows: of
--- `row-with-fault` without `laid`, `row-empty` without `reads`, `lower-case-hex` without `spelt`, `word-of-76` without `short`,
--- `character-cut` without `whole`, `word-too-many` without `fewest`. Assumes nothing.
+-- `row-with-fault` without `laid`, `row-empty` without `reads`, `lower-case-hex` without `spelt`, `word-of-76` and `word-of-46-bytes` without
+-- `short`, `character-cut` without `whole`, `word-too-many`, `q-alone` and `b-alone` without `fewest`. Assumes nothing.
 use mathlib.Core.Path.{_≡_, refl, sym, ap, _∙_}
-use mathlib.Core.List.{List, [], _∷_, _++_, append-nil, nil≢cons}
+use mathlib.Core.List.{List, [], _∷_, _++_, append-nil, nil≢cons, List·Memᴰ, List·Memᴰ·head, List·Memᴰ·tail}
 use mathlib.Core.Bool.{true}
 use mathlib.Core.Option.{none}
 use Prim.Native.Nat.{ℕ, _≤_}
@@ -17,15 +17,19 @@ use Rattle.lists.specs.Lists.{all, joined}
 use Rattle.utf8.specs.Utf8.{leadingOnes, charLen, secondLow, secondHigh, isChar, chars, utf8}
 use Rattle.cut.specs.Cut.{cut}
 use Rattle.hex.specs.Hex.{hexDigit}
-use Rattle.word_spelling.specs.Spelling.{bare, spellByte, spell}
-use Rattle.row.specs.Row.{runs, word, lines, rowIn, row}
+use Rattle.base64.specs.Base64.{digit64, inBase64, isDigit64, value64, fromTwo, fromLast, fromBase64}
+use Rattle.word_spelling.specs.Spelling.{closing, bare, spellByte, spell}
+use Rattle.row.specs.declared.Encoding.{Encoding}
+use Rattle.row.specs.declared.Encoding.the-variants.{Q, B}
+use Rattle.row.specs.Word.{openingIn}
+use Rattle.row.specs.Row.{encodings, runs, chosen, lines, rowIn, row}
 use Rattle.row.specs.Layout.{anyCaseValue, Adds, Word, wordBytes, LaidAfter, Laid, addedText}
 use Rattle.row.specs.Layout.LaidAfter.{empty, space, crlf}
-use Rattle.row.specs.LayoutLaws.{ours, lines-laid}
-use Rattle.row.specs.Reading.{readsAs}
+use Rattle.row.specs.LayoutLaws.{ours, oursIn, lines-laid}
+use Rattle.row.specs.Reading.{role, step, reading, wordsRead, readsAs}
 use Rattle.row.specs.ReadingLaws.{laid-once, fault-not-laid}
 use Rattle.row.specs.Demand3.{Proper, AllProper, RowOf, Demand3}
-use Rattle.row.specs.Demand3Laws.{row-of}
+use Rattle.row.specs.Demand3Laws.{rowWords, row-of}
 
 -- ---- what demand 3 says of a row that is laid out as these words
 
@@ -36,10 +40,10 @@ module _ {text row : List ℕ} {ws : List Word} (l : Laid row ws) (d : Demand3 t
   its-text : addedText ws ≡ text
   its-text = rw words-are at (d .ours .reads)
 
-  all-proper : AllProper 75 ws
+  all-proper : AllProper encodings 75 ws
   all-proper = rw words-are at (d .ours .proper)
 
-  no-fewer : (other : List ℕ) (vs : List Word) → RowOf 75 text other vs → length ws ≤ length vs
+  no-fewer : (other : List ℕ) (vs : List Word) → RowOf encodings 75 text other vs → length ws ≤ length vs
   no-fewer other vs r = rw words-are at (d .fewest other vs r)
 
 -- ---- a text of other bytes
@@ -50,7 +54,7 @@ one-text d e = sym (its-text (e .ours .laid) d) ∙ e .ours .reads
 
 -- the row of a text reads as no other text
 pub other-text : {s t : List ℕ} → T (utf8 t) → Demand3 s (row t) → s ≡ t
-other-text {s} {t} u d = let r = row-of 63 t (lit≤ tt) u in sym (its-text (r .laid) d) ∙ r .reads
+other-text {s} {t} u d = let r = row-of encodings 63 t tt (lit≤ tt) u in sym (its-text (r .laid) d) ∙ r .reads
 
 -- `a` and the row of `b`
 pub row-of-another : Demand3 (97 ∷ []) (row (98 ∷ [])) → ⊥
@@ -65,25 +69,44 @@ row-empty b text d = nil≢cons (its-text empty d)
 pub row-with-fault : (text row : List ℕ) → readsAs row ≡ none → Demand3 text row → ⊥
 row-with-fault text row e d = fault-not-laid e (d .ours .laid)
 
+-- a word in B of these digits on a line of its own
+abbrev digits : List ℕ → List ℕ
+digits standing = 13 ∷ 10 ∷ 32 ∷ openingIn B ++ (standing ++ closing)
+
+-- `YQ`: `a` in B without its padding
+pub not-padded : (text : List ℕ) → Demand3 text (digits (89 ∷ 81 ∷ [])) → ⊥
+unfolding readsAs wordsRead reading step role fromBase64
+not-padded text d = row-with-fault text (digits (89 ∷ 81 ∷ [])) refl d
+
+-- `YR==`: `a` in B with a spare bit that is not zero
+pub spare-bit : (text : List ℕ) → Demand3 text (digits (89 ∷ 82 ∷ 61 ∷ 61 ∷ [])) → ⊥
+unfolding readsAs wordsRead reading step role fromBase64 fromLast fromTwo isDigit64 value64
+spare-bit text d = row-with-fault text (digits (89 ∷ 82 ∷ 61 ∷ 61 ∷ [])) refl d
+
 -- ---- words that are not proper
 
--- 64 times `a` in one word of 76 characters
-pub word-of-76 : Demand3 (replicate 64 97) (lines (replicate 64 97 ∷ [])) → ⊥
-unfolding spell spellByte bare
-word-of-76 d = absurd (le→leb 76 75 (all-proper (lines-laid (replicate 64 97 ∷ []) tt) d .0 .short))
+-- 64 times `a` in one word in Q of 76 characters
+pub word-of-76 : Demand3 (replicate 64 97) (lines (Q ∷ []) 64 (replicate 64 97 ∷ [])) → ⊥
+unfolding chosen spell spellByte bare
+word-of-76 d = absurd (le→leb 76 75 (all-proper (lines-laid (Q ∷ []) 64 (replicate 64 97 ∷ []) tt) d .0 .short))
 
 -- `é`
 abbrev é : List ℕ
 é = 195 ∷ 169 ∷ []
 
--- Eleven `é` in two words, as few as can be: the first is full, and ends inside a character.
-pub character-cut : Demand3 (joined (replicate 11 é)) (lines ((joined (replicate 10 é) ++ (195 ∷ [])) ∷ (169 ∷ []) ∷ [])) → ⊥
+-- 23 `é`, which have 46 bytes, in one word in B of 76 characters
+pub word-of-46-bytes : Demand3 (joined (replicate 23 é)) (lines (B ∷ []) 64 (joined (replicate 23 é) ∷ [])) → ⊥
+unfolding chosen inBase64 digit64
+word-of-46-bytes d = absurd (le→leb 76 75 (all-proper (lines-laid (B ∷ []) 64 (joined (replicate 23 é) ∷ []) tt) d .0 .short))
+
+-- 23 `é` in two words, as few as can be: the first is in B, full with 45 bytes, and ends inside a character.
+pub character-cut : Demand3 (joined (replicate 23 é)) (lines encodings 63 ((joined (replicate 22 é) ++ (195 ∷ [])) ∷ (169 ∷ []) ∷ [])) → ⊥
 unfolding utf8 isChar chars cutBy cutAfter charLen leadingOnes leadingZeros secondLow secondHigh
-character-cut d = all-proper (lines-laid ((joined (replicate 10 é) ++ (195 ∷ [])) ∷ (169 ∷ []) ∷ []) tt) d .1 .0 .whole
+character-cut d = all-proper (lines-laid encodings 63 ((joined (replicate 22 é) ++ (195 ∷ [])) ∷ (169 ∷ []) ∷ []) tt) d .1 .0 .whole
 
 -- `=c3=a9`, which adds `é`
 abbrev lowerCase : Word
-lowerCase = record { standing = 61 ∷ 99 ∷ 51 ∷ 61 ∷ 97 ∷ 57 ∷ []; added = é }
+lowerCase = record { encoding = Q; standing = 61 ∷ 99 ∷ 51 ∷ 61 ∷ 97 ∷ 57 ∷ []; added = é }
 
 pub lower-case-hex : Demand3 é (13 ∷ 10 ∷ 32 ∷ wordBytes lowerCase) → ⊥
 unfolding anyCaseValue spell spellByte bare hexDigit
@@ -95,27 +118,53 @@ lower-case-hex d =
 
 -- ---- one word too many
 
--- bytes in one word that is proper
-in-one-word : (bytes : List ℕ) → T (all isByte bytes) → Proper 75 (ours bytes) → RowOf 75 bytes (lines (bytes ∷ [])) (ours bytes ∷ [])
-in-one-word bytes h p = record { laid = lines-laid (bytes ∷ []) (yes-and (all isByte bytes) true h tt); reads = append-nil bytes; proper = (p, tt) }
+-- our words are in Q or in B
+pub either-allowed : (e : Encoding) → List·Memᴰ e encodings
+either-allowed Q = List·Memᴰ·head refl
+either-allowed B = List·Memᴰ·tail (List·Memᴰ·head refl)
+
+-- bytes in one word in Q that is proper
+in-one-word : (bytes : List ℕ) → T (all isByte bytes) → Proper encodings 75 (oursIn (Q ∷ []) 63 bytes)
+    → RowOf encodings 75 bytes (lines (Q ∷ []) 63 (bytes ∷ [])) (oursIn (Q ∷ []) 63 bytes ∷ [])
+in-one-word bytes h p = record { laid = lines-laid (Q ∷ []) 63 (bytes ∷ []) (yes-and (all isByte bytes) true h tt); reads = append-nil bytes; proper = (p, tt) }
 
 -- `ab` in two words
-pub word-too-many : Demand3 (97 ∷ 98 ∷ []) (lines ((97 ∷ []) ∷ (98 ∷ []) ∷ [])) → ⊥
-unfolding utf8 isChar chars cutBy cutAfter charLen leadingOnes leadingZeros spell spellByte bare
+pub word-too-many : Demand3 (97 ∷ 98 ∷ []) (lines (Q ∷ []) 63 ((97 ∷ []) ∷ (98 ∷ []) ∷ [])) → ⊥
+unfolding utf8 isChar chars cutBy cutAfter charLen leadingOnes leadingZeros chosen spell spellByte bare
 word-too-many d =
-    let one = in-one-word (97 ∷ 98 ∷ []) tt (record { spelt = refl; short = lit≤ tt; whole = tt }) in
-    absurd (le→leb 2 1 (no-fewer (lines-laid ((97 ∷ []) ∷ (98 ∷ []) ∷ []) tt) d _ _ one))
+    let one = in-one-word (97 ∷ 98 ∷ []) tt (record { allowed = either-allowed Q; spelt = refl; short = lit≤ tt; whole = tt }) in
+    absurd (le→leb 2 1 (no-fewer (lines-laid (Q ∷ []) 63 ((97 ∷ []) ∷ (98 ∷ []) ∷ []) tt) d _ _ one))
+
+-- ---- one encoding for a whole row
+
+-- a row in words of one encoding that has more words than ours
+more-words : (e : Encoding) (text : List ℕ) → T (utf8 text) → Demand3 text (rowIn (e ∷ []) 63 text) → length (rowWords (e ∷ []) 63 text) ≤ length (rowWords encodings 63 text)
+more-words e text u d = no-fewer (row-of (e ∷ []) 63 text tt (lit≤ tt) u .laid) d _ _ (row-of encodings 63 text tt (lit≤ tt) u)
+
+-- sixty `a` and thirty `日`: three words
+abbrev sixtyAndThirty : List ℕ
+sixtyAndThirty = replicate 60 97 ++ joined (replicate 30 (230 ∷ 151 ∷ 165 ∷ []))
+
+-- six in Q alone
+pub q-alone : Demand3 sixtyAndThirty (rowIn (Q ∷ []) 63 sixtyAndThirty) → ⊥
+unfolding rowWords runs cut utf8 isChar chars cutBy cutAfter charLen leadingOnes leadingZeros secondLow secondHigh inBase64 spell spellByte bare
+q-alone d = absurd (le→leb 6 3 (more-words Q sixtyAndThirty tt d))
+
+-- four in B alone
+pub b-alone : Demand3 sixtyAndThirty (rowIn (B ∷ []) 63 sixtyAndThirty) → ⊥
+unfolding rowWords runs cut utf8 isChar chars cutBy cutAfter charLen leadingOnes leadingZeros secondLow secondHigh inBase64 spell spellByte bare
+b-alone d = absurd (le→leb 4 3 (more-words B sixtyAndThirty tt d))
 
 -- ---- other rooms
 
 -- in words of 1 to 62 characters 63 times `a` takes two, and one would do
-pub room-62 : Demand3 (replicate 63 97) (rowIn 62 (replicate 63 97)) → ⊥
-unfolding rowIn runs cut utf8 isChar chars cutBy cutAfter charLen leadingOnes leadingZeros spell spellByte bare
+pub room-62 : Demand3 (replicate 63 97) (rowIn encodings 62 (replicate 63 97)) → ⊥
+unfolding rowIn rowWords runs cut utf8 isChar chars cutBy cutAfter charLen leadingOnes leadingZeros chosen inBase64 spell spellByte bare
 room-62 d =
-    let one = in-one-word (replicate 63 97) tt (record { spelt = refl; short = lit≤ tt; whole = tt }) in
-    absurd (le→leb 2 1 (no-fewer (lines-laid (replicate 62 97 ∷ (97 ∷ []) ∷ []) tt) d _ _ one))
+    let one = in-one-word (replicate 63 97) tt (record { allowed = either-allowed Q; spelt = refl; short = lit≤ tt; whole = tt }) in
+    absurd (le→leb 2 1 (no-fewer (row-of encodings 62 (replicate 63 97) tt (lit≤ tt) tt .laid) d _ _ one))
 
 -- in words of 1 to 64 characters 64 times `a` takes one, and that is too long
-pub room-64 : Demand3 (replicate 64 97) (rowIn 64 (replicate 64 97)) → ⊥
-unfolding rowIn runs cut chars cutBy cutAfter charLen leadingOnes leadingZeros spell spellByte bare
-room-64 d = word-of-76 d
+pub room-64 : Demand3 (replicate 64 97) (rowIn encodings 64 (replicate 64 97)) → ⊥
+unfolding rowIn rowWords runs cut utf8 isChar chars cutBy cutAfter charLen leadingOnes leadingZeros chosen inBase64 spell spellByte bare
+room-64 d = absurd (le→leb 76 75 (all-proper (row-of encodings 64 (replicate 64 97) tt (lit≤ tt) tt .laid) d .0 .short))

@@ -1,42 +1,47 @@
 -- Demand 3 for one text of UTF-8 and its row: "Every row of encoded words reads back, by RFC 2047, as exactly its text; each word is at
--- most 75 characters and holds whole characters; no other row in our spelling that reads back as the same text has fewer words."
--- CounterexampleLaws.antt has rows of which it does not hold, for each part of it. Assumes nothing.
+-- most 75 characters and holds whole characters; no other row in our spelling that reads back as the same text has fewer words.", by request
+-- 10: "No row of Q and B words [..], in our Q spelling and in B with the usual padding, whole characters in each, reads back as the text with
+-- [..] fewer words". CounterexampleLaws.antt has rows of which it does not hold, for each part of it. Assumes nothing.
 use mathlib.Core.Path.{_≡_}
-use mathlib.Core.List.{List, [], _∷_}
+use mathlib.Core.List.{List, [], _∷_, List·Memᴰ}
 use Prim.Native.Nat.{ℕ, _≤_}
 use lib.Dec.{T}
 use lib.ListN.{length}
 use Rattle.utf8.specs.Utf8.{utf8}
-use Rattle.word_spelling.specs.Spelling.{spell}
+use Rattle.row.specs.declared.Encoding.{Encoding}
+use Rattle.row.specs.Word.{spellIn}
+use Rattle.row.specs.Row.{encodings}
 use Rattle.row.specs.Layout.{Word, wordBytes, Laid, addedText}
 
--- one word of at most so many characters
-pub record Proper (limit : ℕ) (w : Word) : Type 0 where
+-- one word in one of these encodings, of at most so many characters
+pub record Proper (es : List Encoding) (limit : ℕ) (w : Word) : Type 0 where
+  pub allowed : List·Memᴰ (w .encoding) es
   -- "A word is in our spelling when each byte it adds stands there as Encoded words writes that byte.": so what stands there is what it
-  -- adds, written so (`spelt-bytes` and `bytes-spelt` in LayoutLaws.antt).
-  pub spelt : w .standing ≡ spell (w .added)
+  -- adds, written so (`spelt-bytes` and `bytes-spelt` in LayoutLaws.antt). "and in B with the usual padding": as every B word that reads is
+  -- (`base64-spelt` there).
+  pub spelt : w .standing ≡ spellIn (w .encoding) (w .added)
   pub short : length (wordBytes w) ≤ limit
   -- "It holds whole characters when the bytes it adds are UTF-8 by themselves."
   pub whole : T (utf8 (w .added))
 
 -- each of these words is proper
-abbrev pub AllProper : ℕ → List Word → Type 0
-AllProper limit [] = Unit {0}
-AllProper limit (w ∷ ws) = Proper limit w × AllProper limit ws
+abbrev pub AllProper : List Encoding → ℕ → List Word → Type 0
+AllProper es limit [] = Unit {0}
+AllProper es limit (w ∷ ws) = Proper es limit w × AllProper es limit ws
 
 -- a row of these words, which reads back as the text, and whose words are proper
-pub record RowOf (limit : ℕ) (text row : List ℕ) (words : List Word) : Type 0 where
+pub record RowOf (es : List Encoding) (limit : ℕ) (text row : List ℕ) (words : List Word) : Type 0 where
   pub laid : Laid row words
   pub reads : addedText words ≡ text
-  pub proper : AllProper limit words
+  pub proper : AllProper es limit words
 
--- Demand 3, with at most `limit` characters in a word: "Demand 3 sets our row against all rows of such words, however made, and
--- whatever CRLF and spaces part them."
-pub record Demand3In (limit : ℕ) (text row : List ℕ) : Type 0 where
+-- Demand 3, for words in these encodings of at most `limit` characters: "Demand 3 sets our row against all rows of such words, however made,
+-- and whatever CRLF and spaces part them."
+pub record Demand3In (es : List Encoding) (limit : ℕ) (text row : List ℕ) : Type 0 where
   pub words : List Word
-  pub ours : RowOf limit text row words
-  pub fewest : (other : List ℕ) (ws : List Word) → RowOf limit text other ws → length words ≤ length ws
+  pub ours : RowOf es limit text row words
+  pub fewest : (other : List ℕ) (ws : List Word) → RowOf es limit text other ws → length words ≤ length ws
 
--- Demand 3: "each word is at most 75 characters"
+-- Demand 3: "each word is at most 75 characters", in Q or in B
 abbrev pub Demand3 : List ℕ → List ℕ → Type 0
-Demand3 text row = Demand3In 75 text row
+Demand3 text row = Demand3In encodings 75 text row

@@ -6,37 +6,38 @@ use mathlib.Core.Path.{_≡_}
 use mathlib.Core.List.{List, [], _∷_, _++_}
 use Prim.Native.Nat.{ℕ, suc, _+_, _≤_}
 use lib.ListN.{length}
-use Rattle.row.specs.Layout.{Adds, Word, wordBytes, addedText}
+use Rattle.row.specs.declared.Encoding.{Encoding}
+use Rattle.row.specs.Row.{encodings}
+use Rattle.row.specs.Layout.{Word, wordBytes, Reads, addedText}
 use Rattle.row.specs.Demand3.{AllProper}
 
 -- "every later word on its own line after one space". 13 10 is CRLF, 32 is the space.
 pub data OwnLines : List ℕ → List Word → Type 0 where
   none : OwnLines [] []
-  line : {row : List ℕ} {w : Word} {ws : List Word} → Adds (w .standing) (w .added) → OwnLines row ws
-      → OwnLines ((13 ∷ 10 ∷ 32 ∷ wordBytes w) ++ row) (w ∷ ws)
+  line : {row : List ℕ} {w : Word} {ws : List Word} → Reads w → OwnLines row ws → OwnLines ((13 ∷ 10 ∷ 32 ∷ wordBytes w) ++ row) (w ∷ ws)
 
 -- A row set as ours are, after a name and its colon of `column` characters, where a line has at most one character more than `limit`: its
 -- bytes, its words, and how many lines the field has: the name's, and that of each word on its own.
 pub data SetAfter (limit column : ℕ) : List ℕ → List Word → ℕ → Type 0 where
   -- "the first word after the colon and one space"
-  here : {row : List ℕ} {w : Word} {ws : List Word} → Adds (w .standing) (w .added) → column + length (32 ∷ wordBytes w) ≤ suc limit → OwnLines row ws
+  here : {row : List ℕ} {w : Word} {ws : List Word} → Reads w → column + length (32 ∷ wordBytes w) ≤ suc limit → OwnLines row ws
       → SetAfter limit column ((32 ∷ wordBytes w) ++ row) (w ∷ ws) (suc (length ws))
   -- "or on the next line"
   below : {row : List ℕ} {ws : List Word} → OwnLines row ws → SetAfter limit column row ws (suc (length ws))
 
 -- such a row, which reads back as the text, and whose words are proper: a word of at most `limit` characters fits a line after one space
-pub record FieldRowOf (limit column : ℕ) (text row : List ℕ) (words : List Word) (lines : ℕ) : Type 0 where
+pub record FieldRowOf (es : List Encoding) (limit column : ℕ) (text row : List ℕ) (words : List Word) (lines : ℕ) : Type 0 where
   pub set : SetAfter limit column row words lines
   pub reads : addedText words ≡ text
-  pub proper : AllProper limit words
+  pub proper : AllProper es limit words
 
--- Demand 3 for a field, with at most `limit` characters in a word and one more in a line
-pub record FieldDemand3In (limit column : ℕ) (text row : List ℕ) : Type 0 where
+-- Demand 3 for a field, for words in these encodings of at most `limit` characters, and one more in a line
+pub record FieldDemand3In (es : List Encoding) (limit column : ℕ) (text row : List ℕ) : Type 0 where
   pub words : List Word
   pub lines : ℕ
-  pub ours : FieldRowOf limit column text row words lines
-  pub fewest : (other : List ℕ) (ws : List Word) (n : ℕ) → FieldRowOf limit column text other ws n → lines ≤ n
+  pub ours : FieldRowOf es limit column text row words lines
+  pub fewest : (other : List ℕ) (ws : List Word) (n : ℕ) → FieldRowOf es limit column text other ws n → lines ≤ n
 
--- Demand 3 for a field whose name and colon have `column` characters: "no line that holds a word over 76 characters"
+-- Demand 3 for a field whose name and colon have `column` characters: "No row of Q and B words [..] one to a line of at most 76 characters"
 abbrev pub FieldDemand3 : ℕ → List ℕ → List ℕ → Type 0
-FieldDemand3 column text row = FieldDemand3In 75 column text row
+FieldDemand3 column text row = FieldDemand3In encodings 75 column text row

@@ -1,12 +1,12 @@
--- Demand 3 for a field holds of every text of UTF-8 and its row after a name, over the room of a word and the length of the name. Assumes
--- nothing.
-use mathlib.Core.Path.{_≡_, refl, sym, ap, _∙_}
+-- Demand 3 for a field holds of every text of UTF-8 and its row after a name, over the encodings, the room of a word and the length of the
+-- name. Assumes nothing.
+use mathlib.Core.Path.{_≡_, refl, ap, _∙_}
 use mathlib.Core.Bool.{Bool}
 use mathlib.Core.List.{List, [], _∷_, _++_, map}
-use Prim.Native.Nat.{ℕ, zero, suc, _+_, _-_, _≤_, _<_}
+use Prim.Native.Nat.{ℕ, suc, _+_, _-_, _≤_}
 use native.Mathlib.Omega.{arith}
 use lib.ListN.{length, length-map}
-use lib.Dec.{T, leb→le, le→leb, lit≤}
+use lib.Dec.{T, lit≤}
 use mir.Facts.{and-yes}
 use Rattle.lists.specs.Lists.{all, nonempty, joined}
 use Rattle.lists.specs.ListsLaws.{all-joined, joined-map}
@@ -14,14 +14,15 @@ use Rattle.lists.specs.Byte.{isByte}
 use Rattle.utf8.specs.Utf8.{isChar, chars, utf8}
 use Rattle.utf8.specs.Utf8Laws.{chars-joined, utf8-bytes}
 use Rattle.cut.specs.CutLaws.{AllFit, cut-joined, cut-fits, cut-first, fewest}
-use Rattle.word_spelling.specs.Spelling.{spell}
-use Rattle.word_spelling.specs.SpellingLaws.{cost-some}
-use Rattle.row.specs.Row.{fitsRoom, word, lines, roomsAfter, fitsAfter, runsAfter, linesAfter, rowAfterIn, rowAfter}
-use Rattle.row.specs.Layout.{Adds, Word, wordBytes, LaidAfter, Laid, addedText}
+use Rattle.row.specs.declared.Encoding.{Encoding}
+use Rattle.row.specs.Word.{word}
+use Rattle.row.specs.Row.{encodings, fitsRoom, chosen, lines, roomsAfter, fitsAfter, runsAfter, linesAfter, rowAfterIn, rowAfter}
+use Rattle.row.specs.Layout.{Word, LaidAfter, Laid, addedText}
 use Rattle.row.specs.Layout.LaidAfter.{empty, space, crlf}
-use Rattle.row.specs.LayoutLaws.{ours, spell-adds}
-use Rattle.row.specs.Demand3.{AllProper}
-use Rattle.row.specs.Demand3Laws.{length-word, fits-part, char-fits, runsOf, runs-of-fit, runs-of-whole, length-runs-of, ours-text, ours-proper}
+use Rattle.row.specs.LayoutLaws.{oursIn, ours-reads}
+use Rattle.row.specs.FitsLaws.{spell-in-some, fits-part, none-fits, char-fits, chosen-holds}
+use Rattle.row.specs.Demand3.{Proper, AllProper}
+use Rattle.row.specs.Demand3Laws.{length-word, word-fits, runsOf, runs-of-fit, runs-of-whole, length-runs-of, ours-text, our-proper, ours-proper}
 use Rattle.row.specs.FieldRow.{OwnLines, SetAfter, FieldRowOf, FieldDemand3In, FieldDemand3}
 use Rattle.row.specs.FieldRow.SetAfter.{here, below}
 
@@ -37,114 +38,115 @@ set-laid (below o) = own-laid o
 
 -- ---- no such row has fewer lines
 
-module _ (room column : ℕ) where
-  none-fits : (k : ℕ) → T (fitsAfter room column k [])
-  unfolding spell
-  none-fits k = le→leb 0 (roomsAfter room column k) (omega arith)
-
+module _ (es : List Encoding) (some : T (nonempty es)) (room column : ℕ) where
   -- the lines after the name's have the same room
-  later-fit : (k : ℕ) (rs : List (List (List ℕ))) → AllFit (fitsRoom room) (suc k) rs → AllFit (fitsAfter room column) (suc k) rs
+  later-fit : (k : ℕ) (rs : List (List (List ℕ))) → AllFit (fitsRoom es room) (suc k) rs → AllFit (fitsAfter es room column) (suc k) rs
   later-fit k [] f = tt
   later-fit k (r ∷ rs) f = (f .0, later-fit (suc k) rs (f .1))
 
-  lines-fewest : (cs h : List (List ℕ)) (hs : List (List (List ℕ))) → AllFit (fitsAfter room column) 0 (h ∷ hs) → h ++ joined hs ≡ cs
-      → length (runsAfter room column cs) ≤ suc (length hs)
+  lines-fewest : (cs h : List (List ℕ)) (hs : List (List (List ℕ))) → AllFit (fitsAfter es room column) 0 (h ∷ hs) → h ++ joined hs ≡ cs
+      → length (runsAfter es room column cs) ≤ suc (length hs)
   unfolding runsAfter
-  lines-fewest cs h hs f e = fewest (fitsAfter room column) (λ k d m e. fits-part (roomsAfter room column k) k d m e) 0 [] [] cs h hs f e
+  lines-fewest cs h hs f e = fewest (fitsAfter es room column) (λ k d m e. fits-part es (roomsAfter room column k) k d m e) 0 [] [] cs h hs f e
 
-  set-fewest : {row : List ℕ} {ws : List Word} {n : ℕ} → SetAfter (room + 12) column row ws n → AllProper (room + 12) ws
-      → length (runsAfter room column (chars (addedText ws))) ≤ n
+  set-fewest : {row : List ℕ} {ws : List Word} {n : ℕ} → SetAfter (room + 12) column row ws n → AllProper es (room + 12) ws
+      → length (runsAfter es room column (chars (addedText ws))) ≤ n
   set-fewest (here {w = w} {ws = ws} a s o) p =
-      let first : T (fitsRoom (room - column) 0 (chars (w .added))) =
-      le→leb (length (spell (joined (chars (w .added))))) (room - column)
-      (rw (chars-joined (w .added), ← (p .0 .spelt)) (omega (arith, length-word w, s))) in
-      rw (runs-of-whole room (w ∷ ws) p, ← length-runs-of ws)
-      (lines-fewest (joined (runsOf (w ∷ ws))) (chars (w .added)) (runsOf ws) (first, later-fit 0 (runsOf ws) (runs-of-fit room 1 ws (p .1))) refl)
+      rw (runs-of-whole es room (w ∷ ws) p, ← length-runs-of ws)
+      (lines-fewest (joined (runsOf (w ∷ ws))) (chars (w .added)) (runsOf ws)
+      (word-fits (room - column) 0 (p .0) (omega (arith, length-word w, s)), later-fit 0 (runsOf ws) (runs-of-fit es room 1 ws (p .1))) refl)
   set-fewest (below {ws = ws} o) p =
-      rw (runs-of-whole room ws p, ← length-runs-of ws)
-      (lines-fewest (joined (runsOf ws)) [] (runsOf ws) (none-fits 0, later-fit 0 (runsOf ws) (runs-of-fit room 1 ws p)) refl)
+      rw (runs-of-whole es room ws p, ← length-runs-of ws)
+      (lines-fewest (joined (runsOf ws)) [] (runsOf ws) (none-fits es some (room - column) 0, later-fit 0 (runsOf ws) (runs-of-fit es room 1 ws p)) refl)
 
 -- ---- our row
 
--- the words of lines, of which the first may have none
-afterWords : List (List ℕ) → List Word
-afterWords [] = []
-afterWords ([] ∷ more) = map ours more
-afterWords ((b ∷ bytes) ∷ more) = map ours ((b ∷ bytes) ∷ more)
+module _ (es : List Encoding) (room column : ℕ) where
+  -- the words of lines, of which the first may have none
+  afterWords : List (List ℕ) → List Word
+  afterWords [] = []
+  afterWords ([] ∷ more) = map (oursIn es room) more
+  afterWords ((b ∷ bytes) ∷ more) = oursIn es (room - column) (b ∷ bytes) ∷ map (oursIn es room) more
 
-own-ours : (ls : List (List ℕ)) → T (all (all isByte) ls) → OwnLines (lines ls) (map ours ls)
-unfolding lines word
-own-ours [] h = OwnLines.none
-own-ours (l ∷ ls) h = let both = and-yes (all isByte l) (all (all isByte) ls) h in OwnLines.line {w = ours l} (spell-adds l (both .0)) (own-ours ls (both .1))
+  own-ours : (ls : List (List ℕ)) → T (all (all isByte) ls) → OwnLines (lines es room ls) (map (oursIn es room) ls)
+  unfolding lines word
+  own-ours [] h = OwnLines.none
+  own-ours (l ∷ ls) h =
+      let both = and-yes (all isByte l) (all (all isByte) ls) h in
+      OwnLines.line {w = oursIn es room l} (ours-reads (chosen es room l) l (both .0)) (own-ours ls (both .1))
 
-module _ (room column : ℕ) where
-  set-ours : (l : List ℕ) (ls : List (List ℕ)) → T (all (all isByte) (l ∷ ls)) → length (spell l) ≤ room - column
-      → SetAfter (room + 12) column (linesAfter (l ∷ ls)) (afterWords (l ∷ ls)) (suc (length ls))
+  set-ours : (k : ℕ) (r : List (List ℕ)) (ls : List (List ℕ)) → T (all (all isByte) (joined r ∷ ls)) → T (fitsRoom es (room - column) k r)
+      → SetAfter (room + 12) column (linesAfter es room column (joined r ∷ ls)) (afterWords (joined r ∷ ls)) (suc (length ls))
   unfolding linesAfter word afterWords
-  set-ours [] ls h f = rw (← length-map ls ours) (below (own-ours ls h))
-  set-ours (b ∷ bytes) ls h f =
-      let both = and-yes (all isByte (b ∷ bytes)) (all (all isByte) ls) h in
-      rw (← length-map ls ours)
-      (here {w = ours (b ∷ bytes)} (spell-adds (b ∷ bytes) (both .0)) (omega (arith, f, length-word (ours (b ∷ bytes)), cost-some (b ∷ bytes) (omega arith))) (own-ours ls (both .1)))
+  set-ours k r ls h f = go (joined r) h (chosen-holds es (room - column) (joined r) f .small)
+    where
+      go : (l : List ℕ) → T (all (all isByte) (l ∷ ls)) → length (oursIn es (room - column) l .standing) ≤ room - column
+          → SetAfter (room + 12) column (linesAfter es room column (l ∷ ls)) (afterWords (l ∷ ls)) (suc (length ls))
+      go [] h small = rw (← length-map ls (oursIn es room)) (below (own-ours ls h))
+      go (b ∷ bytes) h small =
+          let both = and-yes (all isByte (b ∷ bytes)) (all (all isByte) ls) h in
+          let kind = chosen es (room - column) (b ∷ bytes) in
+          let w = oursIn es (room - column) (b ∷ bytes) in
+          rw (← length-map ls (oursIn es room))
+          (here {w = w} (ours-reads kind (b ∷ bytes) (both .0)) (omega (arith, small, length-word w, spell-in-some kind (b ∷ bytes) (omega arith))) (own-ours ls (both .1)))
 
-after-text : (ls : List (List ℕ)) → addedText (afterWords ls) ≡ joined ls
-unfolding afterWords
-after-text [] = refl
-after-text ([] ∷ ls) = ours-text ls
-after-text ((b ∷ bytes) ∷ ls) = ours-text ((b ∷ bytes) ∷ ls)
+  after-text : (ls : List (List ℕ)) → addedText (afterWords ls) ≡ joined ls
+  unfolding afterWords
+  after-text [] = refl
+  after-text ([] ∷ ls) = ours-text es room ls
+  after-text ((b ∷ bytes) ∷ ls) = rw (ours-text es room ls) refl
 
-after-proper : (limit : ℕ) (ls : List (List ℕ)) → AllProper limit (map ours ls) → AllProper limit (afterWords ls)
-unfolding afterWords
-after-proper limit [] p = tt
-after-proper limit ([] ∷ ls) p = p .1
-after-proper limit ((b ∷ bytes) ∷ ls) p = p
+  rest-fit : (k : ℕ) (rs : List (List (List ℕ))) → AllFit (fitsAfter es room column) (suc k) rs → AllFit (fitsRoom es room) (suc k) rs
+  rest-fit k [] f = tt
+  rest-fit k (r ∷ rs) f = (f .0, rest-fit (suc k) rs (f .1))
 
-module _ (room column : ℕ) where
-  rooms-le : (k : ℕ) → roomsAfter room column k ≤ room
-  rooms-le zero = omega arith
-  rooms-le (suc k) = omega arith
+  after-proper : (r : List (List ℕ)) (rs : List (List (List ℕ))) → AllFit (fitsAfter es room column) 0 (r ∷ rs) → T (all (all isChar) (r ∷ rs))
+      → AllProper es (room + 12) (afterWords (map joined (r ∷ rs)))
+  unfolding afterWords
+  after-proper r rs f h =
+      let both = and-yes (all isChar r) (all (all isChar) rs) h in
+      go (joined r) (our-proper es (room - column) (room + 12) 0 r (omega arith) (f .0) (both .0)) (ours-proper es room 1 rs (rest-fit 0 rs (f .1)) (both .1))
+    where
+      go : (l : List ℕ) → Proper es (room + 12) (oursIn es (room - column) l) → AllProper es (room + 12) (map (oursIn es room) (map joined rs))
+          → AllProper es (room + 12) (afterWords (l ∷ map joined rs))
+      go [] p q = q
+      go (b ∷ bytes) p q = (p, q)
 
-  room-fits : (k : ℕ) (rs : List (List (List ℕ))) → AllFit (fitsAfter room column) k rs → AllFit (fitsRoom room) k rs
-  room-fits k [] f = tt
-  room-fits k (r ∷ rs) f = (
-    le→leb (length (spell (joined r))) room (omega (arith, leb→le (length (spell (joined r))) (roomsAfter room column k) (f .0), rooms-le k)),
-    room-fits (suc k) rs (f .1),
-  )
-
-  runs-after-fit : 12 ≤ room → (cs : List (List ℕ)) → T (all isChar cs) → AllFit (fitsAfter room column) 0 (runsAfter room column cs)
+  runs-after-fit : T (nonempty es) → 12 ≤ room → (cs : List (List ℕ)) → T (all isChar cs) → AllFit (fitsAfter es room column) 0 (runsAfter es room column cs)
   unfolding runsAfter
-  runs-after-fit h cs t = cut-fits (fitsAfter room column) isChar (λ k c u. char-fits room h (suc k) c u) 0 [] cs (none-fits room column 0) t
+  runs-after-fit n h cs t =
+      cut-fits (fitsAfter es room column) isChar (λ k c u. char-fits es n room h (suc k) c u) 0 [] cs (none-fits es n (room - column) 0) t
 
-  pub runs-after-joined : (cs : List (List ℕ)) → joined (runsAfter room column cs) ≡ cs
+  pub runs-after-joined : (cs : List (List ℕ)) → joined (runsAfter es room column cs) ≡ cs
   unfolding runsAfter
-  runs-after-joined cs = cut-joined (fitsAfter room column) 0 [] cs
+  runs-after-joined cs = cut-joined (fitsAfter es room column) 0 [] cs
 
-  runs-after-first : (cs : List (List ℕ)) → T (nonempty (runsAfter room column cs))
+  runs-after-first : (cs : List (List ℕ)) → T (nonempty (runsAfter es room column cs))
   unfolding runsAfter
-  runs-after-first cs = cut-first (fitsAfter room column) 0 [] cs
+  runs-after-first cs = cut-first (fitsAfter es room column) 0 [] cs
 
   -- lines of characters that fit, set after a name
-  field-row : (text : List ℕ) (rs : List (List (List ℕ))) → T (utf8 text) → joined rs ≡ chars text → AllFit (fitsAfter room column) 0 rs → T (nonempty rs)
-      → FieldRowOf (room + 12) column text (linesAfter (map joined rs)) (afterWords (map joined rs)) (length rs)
+  field-row : (text : List ℕ) (rs : List (List (List ℕ))) → T (utf8 text) → joined rs ≡ chars text → AllFit (fitsAfter es room column) 0 rs → T (nonempty rs)
+      → FieldRowOf es (room + 12) column text (linesAfter es room column (map joined rs)) (afterWords (map joined rs)) (length rs)
   unfolding utf8
   field-row text [] u e f n = absurd n
   field-row text (r ∷ rs) u e f n =
       let bytes = all-joined isByte (map joined (r ∷ rs)) (rw (joined-map (r ∷ rs), e, chars-joined text) (utf8-bytes text u)) in record {
-        set = rw (← length-map rs joined) (set-ours room column (joined r) (map joined rs) bytes (leb→le (length (spell (joined r))) (room - column) (f .0)));
+        set = rw (← length-map rs joined) (set-ours 0 r (map joined rs) bytes (f .0));
         reads = after-text (map joined (r ∷ rs)) ∙ joined-map (r ∷ rs) ∙ ap joined e ∙ chars-joined text;
-        proper = after-proper (room + 12) (map joined (r ∷ rs)) (ours-proper room 0 (r ∷ rs) (room-fits 0 (r ∷ rs) f) (all-joined isChar (r ∷ rs) (rw e u)));
+        proper = after-proper r rs f (all-joined isChar (r ∷ rs) (rw e u));
       }
 
-  -- Demand 3 for a field, over the room and the column. A room of 12 holds every character.
-  pub field-demand-3-in : (text : List ℕ) → 12 ≤ room → T (utf8 text) → FieldDemand3In (room + 12) column text (rowAfterIn room column text)
+  -- Demand 3 for a field, over the encodings, the room and the column. A room of 12 holds every character.
+  pub field-demand-3-in : (text : List ℕ) → T (nonempty es) → 12 ≤ room → T (utf8 text) → FieldDemand3In es (room + 12) column text (rowAfterIn es room column text)
   unfolding rowAfterIn utf8
-  field-demand-3-in text h u = record {
-    words = afterWords (map joined (runsAfter room column (chars text)));
-    lines = length (runsAfter room column (chars text));
-    ours = field-row text (runsAfter room column (chars text)) u (runs-after-joined (chars text)) (runs-after-fit h (chars text) u) (runs-after-first (chars text));
-    fewest = λ other ws n r. rw (r .reads) at (set-fewest room column (r .set) (r .proper));
+  field-demand-3-in text n h u = record {
+    words = afterWords (map joined (runsAfter es room column (chars text)));
+    lines = length (runsAfter es room column (chars text));
+    ours = field-row text (runsAfter es room column (chars text)) u (runs-after-joined (chars text)) (runs-after-fit n h (chars text) u) (runs-after-first (chars text));
+    fewest = λ other ws n′ r. rw (r .reads) at (set-fewest es n room column (r .set) (r .proper));
   }
 
 -- Demand 3 for a field.
 pub field-demand-3 : (column : ℕ) (text : List ℕ) → T (utf8 text) → FieldDemand3 column text (rowAfter column text)
-field-demand-3 column text u = field-demand-3-in 63 column text (lit≤ tt) u
+field-demand-3 column text u = field-demand-3-in encodings 63 column text tt (lit≤ tt) u

@@ -17,9 +17,13 @@ use Rattle.lists.specs.ByteLaws.{below, implies, within-low, within-high}
 use Rattle.hex.specs.Hex.{hexDigit}
 use Rattle.word_spelling.specs.Spelling.{bare, escape, spellByte, spell}
 use Rattle.word_spelling.specs.SpellingLaws.{spell-bare, spell-space, spell-hex}
-use Rattle.row.specs.Layout.{anyCaseValue, Adds, Word, LaidAfter, Laid}
+use Rattle.base64.specs.Base64Laws.{base64-reads, base64-only}
+use Rattle.row.specs.declared.Encoding.{Encoding}
+use Rattle.row.specs.declared.Encoding.the-variants.{Q, B}
+use Rattle.row.specs.Word.{spellIn, word}
+use Rattle.row.specs.Layout.{anyCaseValue, Adds, AddsIn, Word, Reads, LaidAfter, Laid}
 use Rattle.row.specs.Layout.LaidAfter.{empty, space, crlf}
-use Rattle.row.specs.Row.{word, lines}
+use Rattle.row.specs.Row.{chosen, lines}
 
 -- ---- a byte
 
@@ -55,27 +59,40 @@ spelling-adds b h a =
 
 -- ---- words
 
--- the word of some bytes in our spelling
-abbrev pub ours : List ℕ → Word
-ours bytes = record { standing = spell bytes; added = bytes }
+-- the word of some bytes in an encoding
+abbrev pub ours : Encoding → List ℕ → Word
+ours encoding bytes = record { encoding = encoding; standing = spellIn encoding bytes; added = bytes }
 
-pub spell-adds : (bytes : List ℕ) → T (all isByte bytes) → Adds (spell bytes) bytes
+-- the word of some bytes in the encoding chosen for this room
+abbrev pub oursIn : List Encoding → ℕ → List ℕ → Word
+oursIn es room bytes = ours (chosen es room bytes) bytes
+
+spell-adds : (bytes : List ℕ) → T (all isByte bytes) → Adds (spell bytes) bytes
 unfolding spell
 spell-adds [] h = Adds.nothing
 spell-adds (b ∷ bytes) h =
     let both = and-yes (isByte b) (all isByte bytes) h in
     spelling-adds b (ltb→lt b 256 (both .0)) (spell-adds bytes (both .1))
 
-lines-after : (straight : Bool) (ls : List (List ℕ)) → T (all (all isByte) ls) → LaidAfter straight (lines ls) (map ours ls)
-unfolding lines word
-lines-after straight [] h = empty
-lines-after straight (l ∷ ls) h =
-    let both = and-yes (all isByte l) (all (all isByte) ls) h in
-    crlf (space (LaidAfter.word {w = ours l} (spell-adds l (both .0)) (lines-after true ls (both .1))))
+pub ours-reads : (e : Encoding) (bytes : List ℕ) → T (all isByte bytes) → Reads (ours e bytes)
+ours-reads Q bytes h = spell-adds bytes h
+ours-reads B bytes h = base64-reads bytes h
 
--- the lines that we write are laid out as our words
-pub lines-laid : (ls : List (List ℕ)) → T (all (all isByte) ls) → Laid (lines ls) (map ours ls)
-lines-laid ls h = lines-after false ls h
+module _ (es : List Encoding) (room : ℕ) where
+  lines-after : (straight : Bool) (ls : List (List ℕ)) → T (all (all isByte) ls) → LaidAfter straight (lines es room ls) (map (oursIn es room) ls)
+  unfolding lines word
+  lines-after straight [] h = empty
+  lines-after straight (l ∷ ls) h =
+      let both = and-yes (all isByte l) (all (all isByte) ls) h in
+      crlf (space (LaidAfter.word {w = oursIn es room l} (ours-reads (chosen es room l) l (both .0)) (lines-after true ls (both .1))))
+
+  -- the lines that we write are laid out as our words
+  pub lines-laid : (ls : List (List ℕ)) → T (all (all isByte) ls) → Laid (lines es room ls) (map (oursIn es room) ls)
+  lines-laid ls h = lines-after false ls h
+
+-- every word in B that reads is in B with the usual padding
+pub base64-spelt : {standing added : List ℕ} → AddsIn B standing added → standing ≡ spellIn B added
+base64-spelt {standing} {added} e = sym (base64-only standing added e)
 
 -- ---- in our spelling, byte for byte
 

@@ -1,6 +1,10 @@
+pub mod Word
 pub mod Row
-pub mod Stream
-pub mod StreamLaws
+pub mod FitsLaws
+pub mod WordEnd
+pub mod WordEndLaws
+pub mod Choice
+pub mod ChoiceLaws
 pub mod RowLaws
 pub mod Layout
 pub mod LayoutLaws

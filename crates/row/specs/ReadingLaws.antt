@@ -9,14 +9,20 @@ use native.Mathlib.Omega.{arith}
 use lib.Dec.{T, eqb, eqb→eq}
 use lib.ListN.{drop}
 use mir.Facts.{and-yes, no-eqb, eqb-no}
-use Rattle.lists.specs.ListsLaws.{cond-yes, cond-no}
+use Rattle.lists.specs.Lists.{all}
+use Rattle.lists.specs.ListsLaws.{by-test, cond-yes, cond-no}
 use Rattle.lists.specs.Byte.{within}
 use Rattle.lists.specs.ByteLaws.{within-low, within-high, to-within}
-use Rattle.word_spelling.specs.Spelling.{opening, closing}
-use Rattle.row.specs.Layout.{anyCaseValue, Adds, Word, wordBytes, LaidAfter, Laid, addedText}
+use Rattle.base64.specs.Base64.{isDigit64, fromBase64}
+use Rattle.base64.specs.Base64Laws.{isBase64, all-base64, base64-only}
+use Rattle.word_spelling.specs.Spelling.{closing}
+use Rattle.row.specs.declared.Encoding.{Encoding}
+use Rattle.row.specs.declared.Encoding.the-variants.{Q, B}
+use Rattle.row.specs.Word.{openingIn}
+use Rattle.row.specs.Layout.{anyCaseValue, Adds, AddsIn, Word, wordBytes, Reads, LaidAfter, Laid, addedText}
 use Rattle.row.specs.Layout.LaidAfter.{empty, space, crlf, word}
-use Rattle.row.specs.Reading.{State, opened, extended, role, stepBetween, stepOpens, stepInWord, stepDigit, stepSecond, step, reading, finish, wordsRead, readsAs}
-use Rattle.row.specs.Reading.State.{fault, between, afterCr, opens, inWord, afterEquals, afterDigit, closes}
+use Rattle.row.specs.Reading.{State, opened, extended, role, charset, letterOf, stepBetween, stepOpens, stepLetter, openIn, stepInWord, stepDigit, stepSecond, closedB, step, reading, finish, wordsRead, readsAs}
+use Rattle.row.specs.Reading.State.{fault, between, afterCr, opens, letter, afterLetter, inWord, afterEquals, afterDigit, closes, inWordB, closesB}
 use Rattle.row.specs.Reading.Role.{itself}
 
 -- ---- from the layout to the reading
@@ -50,11 +56,30 @@ read-adds ws w (Adds.itself {b} {standing} {added} low high q e u a) =
     rw (role-itself b low high q e u) (
     read-adds ws (extended w (b ∷ []) (b ∷ [])) a ∙ ap (inWord ws) (extended-twice w (b ∷ []) (b ∷ []) standing added))
 
-read-word : (ws : List Word) (w : Word) (row : List ℕ) → Adds (w .standing) (w .added)
-    → reading (between false ws) (wordBytes w ++ row) ≡ reading (between true (ws ++ (w ∷ []))) row
+-- what is base64 has no `?`
+no-question : (b : ℕ) → T (isBase64 b) → T (not (eqb b 63))
+unfolding isDigit64
+no-question b t = by-test (eqb b 63) (λ u. absurd (rw (eqb→eq b 63 u) at t)) (λ u. u)
+
+read-base64 : (ws : List Word) (done standing : List ℕ) → T (all isBase64 standing) → reading (inWordB ws done) standing ≡ inWordB ws (done ++ standing)
+unfolding reading step
+read-base64 ws done [] h = simp append-nil
+read-base64 ws done (b ∷ standing) h =
+    let both = and-yes (isBase64 b) (all isBase64 standing) h in
+    rw (cond-no (eqb b 63) (closesB ws done) (inWordB ws (done ++ (b ∷ []))) (no-question b (both .0)))
+    (read-base64 ws (done ++ (b ∷ [])) standing (both .1) ∙ rw (append-assoc done (b ∷ []) standing) refl)
+
+read-in : (e : Encoding) (ws : List Word) (standing added row : List ℕ) → AddsIn e standing added
+    → reading (between false ws) ((openingIn e ++ (standing ++ closing)) ++ row) ≡ reading (between true (ws ++ (record { encoding = e; standing = standing; added = added } ∷ []))) row
 unfolding reading step role
-read-word ws w row h =
-    rw (append-assoc (w .standing) closing row, reading-append (inWord ws opened) (w .standing) (closing ++ row), read-adds ws opened h) refl
+read-in Q ws standing added row h =
+    rw (append-assoc standing closing row, reading-append (inWord ws opened) standing (closing ++ row), read-adds ws opened h) refl
+read-in B ws standing added row h =
+    let digits : T (all isBase64 standing) = rw (base64-only standing added h) at (all-base64 added) in
+    rw (append-assoc standing closing row, reading-append (inWordB ws []) standing (closing ++ row), read-base64 ws [] standing digits, h) refl
+
+read-word : (ws : List Word) (w : Word) (row : List ℕ) → Reads w → reading (between false ws) (wordBytes w ++ row) ≡ reading (between true (ws ++ (w ∷ []))) row
+read-word ws w row h = read-in (w .encoding) ws (w .standing) (w .added) row h
 
 laid-finish : {straight : Bool} {row : List ℕ} {ws : List Word} (vs : List Word) → LaidAfter straight row ws
     → finish (reading (between straight vs) row) ≡ some (vs ++ ws)
@@ -83,18 +108,44 @@ record Left (straight : Bool) (vs : List Word) (row : List ℕ) (ws : List Word)
   laid : LaidAfter straight row more
   are : ws ≡ vs ++ more
 
--- what is left in a word that is `w` so far, from its next byte added or its closing on
+-- what is left in a word in Q that is `w` so far, from its next byte added or its closing on
 record LeftIn (vs : List Word) (w : Word) (row : List ℕ) (ws : List Word) : Type 0 where
-  more : Word
-  adds : Adds (more .standing) (more .added)
+  standing : List ℕ
+  added : List ℕ
+  adds : Adds standing added
   rest : List ℕ
-  left : Left true (vs ++ (extended w (more .standing) (more .added) ∷ [])) rest ws
-  is : row ≡ more .standing ++ (closing ++ rest)
+  left : Left true (vs ++ (extended w standing added ∷ [])) rest ws
+  is : row ≡ standing ++ (closing ++ rest)
 
--- what is left in an opening with the bytes `more` of it to come
+-- what is left in a word in B in which `begun` stands so far
+record LeftBase64 (vs : List Word) (begun row : List ℕ) (ws : List Word) : Type 0 where
+  standing : List ℕ
+  added : List ℕ
+  adds : fromBase64 (begun ++ standing) ≡ some added
+  rest : List ℕ
+  left : Left true (vs ++ (record { encoding = B; standing = begun ++ standing; added = added } ∷ [])) rest ws
+  is : row ≡ standing ++ (closing ++ rest)
+
+-- what is left from the start of what stands in a word on
+record LeftWord (e : Encoding) (vs : List Word) (row : List ℕ) (ws : List Word) : Type 0 where
+  standing : List ℕ
+  added : List ℕ
+  adds : AddsIn e standing added
+  rest : List ℕ
+  left : Left true (vs ++ (record { encoding = e; standing = standing; added = added } ∷ [])) rest ws
+  is : row ≡ standing ++ (closing ++ rest)
+
+-- what is left from the letter of an encoding on
+record LeftLetter (vs : List Word) (row : List ℕ) (ws : List Word) : Type 0 where
+  kind : Encoding
+  rest : List ℕ
+  left : LeftWord kind vs rest ws
+  is : row ≡ letterOf kind ∷ 63 ∷ rest
+
+-- what is left in `=?UTF-8?` with the bytes `more` of it to come
 record LeftOpening (vs : List Word) (more row : List ℕ) (ws : List Word) : Type 0 where
   rest : List ℕ
-  left : LeftIn vs opened rest ws
+  left : LeftLetter vs rest ws
   is : row ≡ more ++ rest
 
 -- what is left of a row that reads as `ws`, by the state
@@ -103,32 +154,50 @@ Rest fault row ws = ⊥
 Rest (between straight vs) row ws = Left straight vs row ws
 Rest (afterCr vs) row ws = (straight : Bool) → Left straight vs (13 ∷ row) ws
 Rest (opens more vs) row ws = LeftOpening vs more row ws
+Rest (letter vs) row ws = LeftLetter vs row ws
+Rest (afterLetter e vs) row ws = LeftLetter vs (letterOf e ∷ row) ws
 Rest (inWord vs w) row ws = LeftIn vs w row ws
 Rest (afterEquals vs w) row ws = LeftIn vs w (61 ∷ row) ws
 Rest (afterDigit vs w first high) row ws = anyCaseValue first ≡ some high → LeftIn vs w (61 ∷ first ∷ row) ws
 Rest (closes vs w) row ws = LeftIn vs w (63 ∷ row) ws
+Rest (inWordB vs begun) row ws = LeftBase64 vs begun row ws
+Rest (closesB vs begun) row ws = LeftBase64 vs begun (63 ∷ row) ws
 
 module _ (row : List ℕ) (ws : List Word) where
   -- a byte added before what is left
   back-adds : (vs : List Word) (w : Word) (s : List ℕ) (x : ℕ) → ((a b : List ℕ) → Adds a b → Adds (s ++ a) (x ∷ b))
       → LeftIn vs (extended w s (x ∷ [])) row ws → LeftIn vs w (s ++ row) ws
-  back-adds vs w s x f l =
-      let more = l .more in record {
-        more = record { standing = s ++ more .standing; added = x ∷ more .added };
-        adds = f (more .standing) (more .added) (l .adds);
-        rest = l .rest;
-        left = subst (λ (v : Word). Left true (vs ++ (v ∷ [])) (l .rest) ws) (extended-twice w s (x ∷ []) (more .standing) (more .added)) (l .left);
-        is = rw (l .is) (sym (append-assoc s (more .standing) (closing ++ l .rest)));
+  back-adds vs w s x f l = record {
+    standing = s ++ l .standing;
+    added = x ∷ l .added;
+    adds = f (l .standing) (l .added) (l .adds);
+    rest = l .rest;
+    left = subst (λ (v : Word). Left true (vs ++ (v ∷ [])) (l .rest) ws) (extended-twice w s (x ∷ []) (l .standing) (l .added)) (l .left);
+    is = rw (l .is) (sym (append-assoc s (l .standing) (closing ++ l .rest)));
+  }
+
+  -- a word that has been opened
+  back-opened : (e : Encoding) (vs : List Word) → Rest (openIn e vs) row ws → LeftWord e vs row ws
+  back-opened Q vs l = record { standing = l .standing; added = l .added; adds = l .adds; rest = l .rest; left = l .left; is = l .is }
+  back-opened B vs l = record { standing = l .standing; added = l .added; adds = l .adds; rest = l .rest; left = l .left; is = l .is }
+
+  whole-word : (e : Encoding) (rest : List ℕ) (vs : List Word) → LeftWord e vs rest ws → Left false vs (openingIn e ++ rest) ws
+  whole-word e rest vs l =
+      let w : Word = record { encoding = e; standing = l .standing; added = l .added } in record {
+        more = w ∷ l .left .more;
+        laid = subst (λ (r : List ℕ). LaidAfter false r (w ∷ l .left .more))
+            (append-assoc (openingIn e) (l .standing ++ closing) (l .rest) ∙ rw (l .is, append-assoc (l .standing) closing (l .rest)) refl)
+            (word {w = w} (l .adds) (l .left .laid));
+        are = l .left .are ∙ append-assoc vs (w ∷ []) (l .left .more);
       }
 
-  back-opening : (straight : Bool) (vs : List Word) → T (not straight) → LeftOpening vs (drop 1 opening) row ws → Left straight vs (61 ∷ row) ws
+  back-opening : (straight : Bool) (vs : List Word) → T (not straight) → LeftOpening vs (drop 1 charset) row ws → Left straight vs (61 ∷ row) ws
   back-opening true vs t o = absurd t
-  back-opening false vs t o =
-      let l = o .left in record {
-        more = l .more ∷ l .left .more;
-        laid = rw (o .is, l .is, ← (append-assoc (l .more .standing) closing (l .rest))) (word {w = l .more} (l .adds) (l .left .laid));
-        are = l .left .are ∙ append-assoc vs (l .more ∷ []) (l .left .more);
-      }
+  back-opening false vs t o = rw (o .is, o .left .is) (go (o .left .kind) (o .left .rest) (o .left .left))
+    where
+      go : (e : Encoding) (rest : List ℕ) → LeftWord e vs rest ws → Left false vs (charset ++ (letterOf e ∷ 63 ∷ rest)) ws
+      go Q rest l = whole-word Q rest vs l
+      go B rest l = whole-word B rest vs l
 
   back-between : (straight : Bool) (vs : List Word) (b : ℕ) → Rest (stepBetween straight vs b) row ws → Left straight vs (b ∷ row) ws
   back-between straight vs b r =
@@ -145,6 +214,30 @@ module _ (row : List ℕ) (ws : List Word) where
   back-opens (x ∷ y ∷ more) vs b r =
       by-cond (λ s. Rest s row ws) (eqb b x) _ _ r
       (λ t o. record { rest = o .rest; left = o .left; is = rw (eqb→eq b x t, o .is) refl }) (λ t n. absurd n)
+
+  back-letter : (vs : List Word) (b : ℕ) → Rest (stepLetter vs b) row ws → LeftLetter vs (b ∷ row) ws
+  back-letter vs b r =
+      by-cond (λ s. Rest s row ws) (eqb b 81) _ _ r (λ t l. rw (eqb→eq b 81 t) l)
+      (λ t r. by-cond (λ s. Rest s row ws) (eqb b 66) _ _ r (λ u l. rw (eqb→eq b 66 u) l) (λ u n. absurd n))
+
+  back-after-letter : (e : Encoding) (vs : List Word) (b : ℕ) → Rest (cond (eqb b 63) (openIn e vs) fault) row ws → LeftLetter vs (letterOf e ∷ b ∷ row) ws
+  back-after-letter e vs b r =
+      by-cond (λ s. Rest s row ws) (eqb b 63) _ _ r
+      (λ t l. rw (eqb→eq b 63 t) (record { kind = e; rest = row; left = back-opened e vs l; is = refl })) (λ t n. absurd n)
+
+  back-base64 : (vs : List Word) (begun : List ℕ) (b : ℕ) → Rest (cond (eqb b 63) (closesB vs begun) (inWordB vs (begun ++ (b ∷ [])))) row ws
+      → LeftBase64 vs begun (b ∷ row) ws
+  back-base64 vs begun b r =
+      by-cond (λ s. Rest s row ws) (eqb b 63) _ _ r (λ t l. rw (eqb→eq b 63 t) l)
+      (λ t l.
+      let same : (begun ++ (b ∷ [])) ++ l .standing ≡ begun ++ (b ∷ l .standing) = append-assoc begun (b ∷ []) (l .standing) in
+      record { standing = b ∷ l .standing; added = l .added; adds = rw same at (l .adds); rest = l .rest; left = rw same at (l .left); is = rw (l .is) refl })
+
+  back-close : (o : Option (List ℕ)) (vs : List Word) (begun : List ℕ) → fromBase64 begun ≡ o → Rest (closedB o vs begun) row ws
+      → LeftBase64 vs begun (63 ∷ 61 ∷ row) ws
+  back-close none vs begun e r = absurd r
+  back-close (some added) vs begun e r =
+      record { standing = []; added = added; adds = rw append-nil e; rest = row; left = rw append-nil r; is = refl }
 
   back-in-word : (vs : List Word) (w : Word) (b : ℕ) → Rest (stepInWord (role b) vs w b) row ws → LeftIn vs w (b ∷ row) ws
   unfolding role
@@ -178,13 +271,16 @@ module _ (row : List ℕ) (ws : List Word) where
       λ straight. by-cond (λ s. Rest s row ws) (eqb b 10) _ _ r
       (λ t l. rw (eqb→eq b 10 t) (record { more = l .more; laid = crlf (l .laid); are = l .are })) (λ t n. absurd n)
   back-step (opens more vs) b r = back-opens more vs b r
+  back-step (letter vs) b r = back-letter vs b r
+  back-step (afterLetter e vs) b r = back-after-letter e vs b r
   back-step (inWord vs w) b r = back-in-word vs w b r
   back-step (afterEquals vs w) b r = back-first (anyCaseValue b) vs w b refl r
   back-step (afterDigit vs w first high) b r = λ f. back-second (anyCaseValue b) vs w first high b refl f r
   back-step (closes vs w) b r =
       by-cond (λ s. Rest s row ws) (eqb b 61) _ _ r
       (λ t l. rw (eqb→eq b 61 t) (record {
-        more = opened;
+        standing = [];
+        added = [];
         adds = Adds.nothing;
         rest = row;
         left = subst (λ (v : Word). Left true (vs ++ (v ∷ [])) row ws) (whole w) l;
@@ -193,6 +289,9 @@ module _ (row : List ℕ) (ws : List Word) where
     where
       whole : (w : Word) → w ≡ extended w [] []
       whole w = simp append-nil
+  back-step (inWordB vs begun) b r = back-base64 vs begun b r
+  back-step (closesB vs begun) b r =
+      by-cond (λ s. Rest s row ws) (eqb b 61) _ _ r (λ t l. rw (eqb→eq b 61 t) (back-close (fromBase64 begun) vs begun refl l)) (λ t n. absurd n)
 
 none≢some : {A : Type 0} {a : A} → none ≡ some a → ⊥
 none≢some e = let z : _≡_ {A = ℕ} 0 1 = cc in omega arith
@@ -202,10 +301,14 @@ back-end fault ws e = none≢some e
 back-end (between straight vs) ws e = record { more = []; laid = empty; are = let same : vs ≡ ws = cc in sym same ∙ rw append-nil refl }
 back-end (afterCr vs) ws e = absurd (none≢some e)
 back-end (opens more vs) ws e = absurd (none≢some e)
+back-end (letter vs) ws e = absurd (none≢some e)
+back-end (afterLetter kind vs) ws e = absurd (none≢some e)
 back-end (inWord vs w) ws e = absurd (none≢some e)
 back-end (afterEquals vs w) ws e = absurd (none≢some e)
 back-end (afterDigit vs w first high) ws e = absurd (none≢some e)
 back-end (closes vs w) ws e = absurd (none≢some e)
+back-end (inWordB vs begun) ws e = absurd (none≢some e)
+back-end (closesB vs begun) ws e = absurd (none≢some e)
 
 back : (s : State) (row : List ℕ) (ws : List Word) → finish (reading s row) ≡ some ws → Rest s row ws
 unfolding reading

@@ -1,5 +1,5 @@
 -- The row of encoded words of a text. Assumes nothing.
-use mathlib.Core.Bool.{Bool, cond}
+use mathlib.Core.Bool.{Bool, false, cond, _||_}
 use mathlib.Core.List.{List, [], _∷_, _++_, map}
 use Prim.Native.Nat.{ℕ, zero, suc, _-_}
 use lib.Dec.{leb}
@@ -7,33 +7,55 @@ use lib.ListN.{length}
 use Rattle.lists.specs.Lists.{joined}
 use Rattle.utf8.specs.Utf8.{chars}
 use Rattle.cut.specs.Cut.{cut}
-use Rattle.word_spelling.specs.Spelling.{opening, closing, spell}
+use Rattle.row.specs.declared.Encoding.{Encoding}
+use Rattle.row.specs.declared.Encoding.the-variants.{Q, B}
+use Rattle.row.specs.Word.{spellIn, word}
+
+-- The encodings of our words: "RFC 2047's B encoding beside Q". Q comes first: "Q when equal".
+abbrev pub encodings : List Encoding
+encodings = Q ∷ B ∷ []
+
+-- The room of a word is the number of characters between its opening and its closing. A word in this encoding holds these bytes.
+abbrev pub holds : ℕ → List ℕ → Encoding → Bool
+holds room bytes encoding = leb (length (spellIn encoding bytes)) room
+
+-- a word in one of these encodings does
+abbrev pub someHolds : ℕ → List ℕ → List Encoding → Bool
+someHolds room bytes [] = false
+someHolds room bytes (e ∷ es) = holds room bytes e || someHolds room bytes es
 
 -- whether a word with this room holds these characters, on whichever line k it stands
-abbrev pub fitsRoom : ℕ → ℕ → List (List ℕ) → Bool
-fitsRoom room k run = leb (length (spell (joined run))) room
+abbrev pub fitsRoom : List Encoding → ℕ → ℕ → List (List ℕ) → Bool
+fitsRoom es room k run = someHolds room (joined run) es
 
 -- "A word takes as many whole characters as fit." No character, no word.
-unfoldable pub runs : ℕ → List (List ℕ) → List (List (List ℕ))
-runs room [] = []
-runs room (c ∷ cs) = cut (fitsRoom room) 0 (c ∷ []) cs
+unfoldable pub runs : List Encoding → ℕ → List (List ℕ) → List (List (List ℕ))
+runs es room [] = []
+runs es room (c ∷ cs) = cut (fitsRoom es room) 0 (c ∷ []) cs
 
--- "A word is `=?UTF-8?Q?`, 1 to 63 characters, `?=`.": `=?UTF-8?Q?`, the bytes in our spelling, `?=`
-unfoldable pub word : List ℕ → List ℕ
-word bytes = opening ++ (spell bytes ++ closing)
+-- The encoding of a word: the first of these that holds its bytes. "Each word takes the encoding that holds more whole characters in its
+-- room, Q when equal.": what a word takes is what fits in one of them, so that one holds more than each that does not hold it
+-- (ChoiceLaws.antt).
+unfoldable pub chosen : List Encoding → ℕ → List ℕ → Encoding
+chosen [] room bytes = Q
+chosen (e ∷ es) room bytes = cond (holds room bytes e) e (chosen es room bytes)
+
+-- the word of some bytes in the encoding chosen for this room
+abbrev pub wordIn : List Encoding → ℕ → List ℕ → List ℕ
+wordIn es room bytes = word (chosen es room bytes) bytes
 
 -- "Every word has a line of its own: CRLF and one space come before it". 13 is CR, 10 is LF, 32 is the space.
-unfoldable pub lines : List (List ℕ) → List ℕ
-lines [] = []
-lines (bytes ∷ more) = (13 ∷ 10 ∷ 32 ∷ word bytes) ++ lines more
+unfoldable pub lines : List Encoding → ℕ → List (List ℕ) → List ℕ
+lines es room [] = []
+lines es room (bytes ∷ more) = (13 ∷ 10 ∷ 32 ∷ wordIn es room bytes) ++ lines es room more
 
--- the row of a text in words of 1 to so many characters
-unfoldable pub rowIn : ℕ → List ℕ → List ℕ
-rowIn room text = lines (map joined (runs room (chars text)))
+-- the row of a text in words of 1 to so many characters, each in one of these encodings
+unfoldable pub rowIn : List Encoding → ℕ → List ℕ → List ℕ
+rowIn es room text = lines es room (map joined (runs es room (chars text)))
 
 -- the row of a text, in words of "1 to 63 characters"
 abbrev pub row : List ℕ → List ℕ
-row text = rowIn 63 text
+row text = rowIn encodings 63 text
 
 -- ---- the row set after a name and its colon, which have `column` characters
 
@@ -43,24 +65,24 @@ abbrev pub roomsAfter : ℕ → ℕ → ℕ → ℕ
 roomsAfter room column zero = room - column
 roomsAfter room column (suc k) = room
 
-abbrev pub fitsAfter : ℕ → ℕ → ℕ → List (List ℕ) → Bool
-fitsAfter room column k run = fitsRoom (roomsAfter room column k) k run
+abbrev pub fitsAfter : List Encoding → ℕ → ℕ → ℕ → List (List ℕ) → Bool
+fitsAfter es room column k run = fitsRoom es (roomsAfter room column k) k run
 
 -- the characters on each line of the field; on line 0 there may be none
-unfoldable pub runsAfter : ℕ → ℕ → List (List ℕ) → List (List (List ℕ))
-runsAfter room column cs = cut (fitsAfter room column) 0 [] cs
+unfoldable pub runsAfter : List Encoding → ℕ → ℕ → List (List ℕ) → List (List (List ℕ))
+runsAfter es room column cs = cut (fitsAfter es room column) 0 [] cs
 
 -- "If no character fits, begin on the next line.": then nothing stands after the colon
-unfoldable pub linesAfter : List (List ℕ) → List ℕ
-linesAfter [] = []
-linesAfter ([] ∷ more) = lines more
-linesAfter ((b ∷ bytes) ∷ more) = (32 ∷ word (b ∷ bytes)) ++ lines more
+unfoldable pub linesAfter : List Encoding → ℕ → ℕ → List (List ℕ) → List ℕ
+linesAfter es room column [] = []
+linesAfter es room column ([] ∷ more) = lines es room more
+linesAfter es room column ((b ∷ bytes) ∷ more) = (32 ∷ wordIn es (room - column) (b ∷ bytes)) ++ lines es room more
 
-unfoldable pub rowAfterIn : ℕ → ℕ → List ℕ → List ℕ
-rowAfterIn room column text = linesAfter (map joined (runsAfter room column (chars text)))
+unfoldable pub rowAfterIn : List Encoding → ℕ → ℕ → List ℕ → List ℕ
+rowAfterIn es room column text = linesAfter es room column (map joined (runsAfter es room column (chars text)))
 
 abbrev pub rowAfter : ℕ → List ℕ → List ℕ
-rowAfter column text = rowAfterIn 63 column text
+rowAfter column text = rowAfterIn encodings 63 column text
 
 -- The texts that are encoded: a text of more than 4 GiB counts as empty, so that no length is more than a usize holds.
 unfoldable pub bounded : List ℕ → List ℕ

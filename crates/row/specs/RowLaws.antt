@@ -1,182 +1,173 @@
--- Laws of rows: none for an empty text, how a row starts, how long it is. Assumes nothing.
-use mathlib.Core.Path.{_≡_, refl, sym, ap, _∙_}
-use mathlib.Core.List.{List, [], _∷_, _++_}
-use Prim.Native.Nat.{ℕ, _+_, _-_, _*_, _≤_, _<_}
-use native.Mathlib.Nat.{zero-add, not-suc-le-zero}
+-- Laws of rows: none for an empty text, which texts are encoded, the row after a name that leaves no room, how long a row is. Assumes
+-- nothing.
+use mathlib.Core.Path.{_≡_, refl, ap}
+use mathlib.Core.Bool.{not}
+use mathlib.Core.List.{List, [], _∷_, _++_, append-nil, map}
+use Prim.Native.Nat.{ℕ, suc, _+_, _-_, _*_, _≤_, _<_}
 use native.Mathlib.Omega.{arith}
-use lib.ListN.{length, take, drop, getD, length-append, length-take}
-use lib.Dec.{T, leb, eqb, eqb→eq, lit≤}
-use mir.Facts.{and-yes, leb-yes, leb-no, eqb-no}
-use borrow.Author.Tests.{le-leb, lt-leb, ne-eqb}
-use Rattle.lists.specs.Lists.{all, joined}
-use Rattle.lists.specs.ListsLaws.{by-test}
-use Rattle.utf8.specs.Utf8.{charLen, chars}
-use Rattle.utf8.specs.Utf8Laws.{chars-cons, chars-nil, chars-joined, chars-at, char-len-some}
+use lib.ListN.{length, length-append}
+use lib.Dec.{T, leb, T-not, leb→le, le→leb}
+use mir.Facts.{and-yes, leb-yes, leb-no}
+use borrow.Author.Tests.{le-leb, lt-leb}
+use Rattle.lists.specs.Lists.{all, nonempty, joined}
+use Rattle.lists.specs.ListsLaws.{by-test, cond-yes, cond-no, joined-append}
+use Rattle.utf8.specs.Utf8.{chars}
+use Rattle.utf8.specs.Utf8Laws.{chars-nil, chars-joined, chars-short, chars-some}
 use Rattle.cut.specs.Cut.{cut}
-use Rattle.word_spelling.specs.Spelling.{opening, spell}
+use Rattle.cut.specs.CutLaws.{cut-more, cut-next}
+use Rattle.base64.specs.Base64Laws.{length-base64}
+use Rattle.word_spelling.specs.Spelling.{spell}
 use Rattle.word_spelling.specs.Cost.{cost}
 use Rattle.word_spelling.specs.SpellingLaws.{length-spell, cost-some}
-use Rattle.row.specs.Row.{runs, lines, rowIn, runsAfter, linesAfter, rowAfterIn, bounded}
-use Rattle.row.specs.Stream.{start, gap, leftAfter, onwards, onwardsAt, roomHere, startAfter, roomAfter}
-use Rattle.row.specs.StreamLaws.{left-le, left-here, left-next, length-gap-here, length-gap-next, stream, stream-here, stream-below, chars-small, chars-fit}
+use Rattle.row.specs.declared.Encoding.the-variants.{Q, B}
+use Rattle.row.specs.Word.{spellIn}
+use Rattle.row.specs.Row.{encodings, holds, fitsRoom, runs, chosen, wordIn, lines, rowIn, row, fitsAfter, runsAfter, linesAfter, rowAfterIn, rowAfter, bounded}
+use Rattle.row.specs.FitsLaws.{or-left, or-right, length-word-in, short-fits, chosen-holds}
+use Rattle.row.specs.WordEndLaws.{span-none, word-end-q, first-none, cut-later}
 
-pub row-nil : (text : List ℕ) → length text ≡ 0 → rowIn 63 text ≡ []
+pub row-nil : (text : List ℕ) → length text ≡ 0 → row text ≡ []
 unfolding rowIn runs lines
 row-nil [] e = rw chars-nil refl
 row-nil (b ∷ text) e = absurd (omega arith)
 
-pub row-start : (text : List ℕ) → 0 < length text → rowIn 63 text ≡ start ++ onwardsAt text 0 63
-unfolding rowIn
-row-start [] h = absurd (not-suc-le-zero h)
-row-start (b ∷ text) h = go (chars-cons b text) (chars-fit (b ∷ text))
-  where
-    go : {c : List ℕ} {cs : List (List ℕ)} → chars (b ∷ text) ≡ c ∷ cs → T (all (λ c. leb (cost c) 63) (chars (b ∷ text)))
-        → rowIn 63 (b ∷ text) ≡ start ++ onwards 63 63 (chars (b ∷ text))
-    go {c} {cs} e t = rw e (stream 63 c cs (rw e at t))
-
--- ---- after a name and its colon
-
-pub row-after-nil : (column : ℕ) (text : List ℕ) → length text ≡ 0 → rowAfterIn 63 column text ≡ []
+pub row-after-nil : (column : ℕ) (text : List ℕ) → length text ≡ 0 → rowAfter column text ≡ []
 unfolding rowAfterIn runsAfter cut linesAfter lines
 row-after-nil column [] e = rw chars-nil refl
 row-after-nil column (b ∷ text) e = absurd (omega arith)
 
-module _ (column m : ℕ) where
-  pub room-here : m ≤ 63 - column → roomHere column m ≡ 63 - column
-  unfolding roomHere
-  room-here h = rw (le-leb m (63 - column) h)
-
-  pub no-room-here : 63 - column < m → roomHere column m ≡ 0
-  unfolding roomHere
-  no-room-here h = rw (lt-leb m (63 - column) h)
-
-  pub room-here-le : roomHere column m ≤ 63 - column
-  room-here-le = by-test (leb m (63 - column)) (λ t. rw (room-here (leb-yes t)) (omega arith)) (λ t. rw (no-room-here (leb-no t)) (omega arith))
-
-pub start-below : startAfter 0 ≡ start
-unfolding startAfter
-start-below = refl
-
-pub room-below : roomAfter 0 ≡ 63
-unfolding roomAfter
-room-below = refl
-
-module _ (here : ℕ) (h : here ≡ 0 → ⊥) where
-  pub start-here : startAfter here ≡ 32 ∷ opening
-  unfolding startAfter
-  start-here = rw (ne-eqb here 0 h)
-
-  pub room-after : roomAfter here ≡ here
-  unfolding roomAfter
-  room-after = rw (ne-eqb here 0 h)
-
-module _ (here : ℕ) (h : here ≤ 63) where
-  pub room-after-le : roomAfter here ≤ 63
-  room-after-le = by-test (eqb here 0) (λ t. rw (eqb→eq here 0 t, room-below) (omega arith)) (λ t. rw (room-after here (eqb-no t)) h)
-
-  pub length-start-after : length (startAfter here) ≤ 13
-  unfolding start
-  length-start-after = by-test (eqb here 0) (λ t. rw (eqb→eq here 0 t, start-below) (lit≤ tt)) (λ t. rw (start-here here (eqb-no t)) (lit≤ tt))
-
--- the first character, and what it takes
-abbrev pub firstOf : List ℕ → List ℕ
-firstOf text = take (charLen (getD text 0 0)) text
-
-module _ (text : List ℕ) (some : 0 < length text) where
-  first-some : 0 < length (firstOf text)
-  first-some = rw length-take (omega (arith, some, char-len-some (getD text 0 0)))
-
-  chars-first : chars text ≡ firstOf text ∷ chars (drop (charLen (getD text 0 0)) text)
-  chars-first = rw (zero-add (charLen (getD text 0 0))) at (chars-at text 0 some)
-
-  -- a row after a name starts, and goes on, by the room for its first word on the name's line
-  pub row-after-start : (column here : ℕ) → here ≡ roomHere column (cost (firstOf text)) → rowAfterIn 63 column text ≡ startAfter here ++ onwardsAt text 0 (roomAfter here)
-  unfolding rowAfterIn
-  row-after-start column here e =
-      let fit = rw chars-first at (chars-fit text) in
-      let rest = chars (drop (charLen (getD text 0 0)) text) in
-      let m = cost (firstOf text) in
-      rw chars-first
-      (by-test (leb m (63 - column))
-      (λ t.
-      let same : here ≡ 63 - column = e ∙ room-here column m (leb-yes t) in
-      let some-room : here ≡ 0 → ⊥ = λ z. omega (arith, z, same, leb-yes {a = m} {b = 63 - column} t, cost-some (firstOf text) first-some) in
-      rw (start-here here some-room, room-after here some-room, same) (stream-here 63 column (firstOf text) rest fit first-some (leb-yes t)))
-      (λ t. rw (e ∙ no-room-here column m (leb-no t), start-below, room-below) (stream-below 63 column (firstOf text) rest fit (leb-no t))))
-
-  pub length-row-after : (column here : ℕ) → here ≡ roomHere column (cost (firstOf text))
-      → length (rowAfterIn 63 column text) ≡ length (startAfter here) + length (onwardsAt text 0 (roomAfter here))
-  length-row-after column here e = ap length (row-after-start column here e) ∙ length-append (startAfter here) (onwardsAt text 0 (roomAfter here))
-
 -- with no room on the name's line
-pub row-after-none : (column : ℕ) (text : List ℕ) → 63 ≤ column → rowAfterIn 63 column text ≡ rowIn 63 text
+pub row-after-none : (column : ℕ) (text : List ℕ) → 63 ≤ column → rowAfter column text ≡ row text
+unfolding spell
 row-after-none column text h =
-    by-test (leb 1 (length text))
-    (λ t.
-    let some = leb-yes {a = 1} {b = length text} t in
-    let none : 0 ≡ roomHere column (cost (firstOf text)) = omega (arith, h, room-here-le column (cost (firstOf text))) in
-    row-after-start text some column 0 none ∙ rw (start-below, room-below) (sym (row-start text some)))
-    (λ t. let none : length text ≡ 0 = omega (arith, leb-no {a = 1} {b = length text} t) in row-after-nil column text none ∙ sym (row-nil text none))
+    first-none column
+    (word-end-q (63 - column) text 0 0 (span-none text 0 (omega arith)) (omega arith)
+    (λ c cs e.
+    let some = char-size c (and-yes (nonempty c) (all nonempty cs) (rw e at (chars-some text)) .0) in (omega (arith, h, cost-some c some), omega (arith, h, some))))
+    refl
+  where
+    char-size : (c : List ℕ) → T (nonempty c) → 0 < length c
+    char-size [] n = absurd n
+    char-size (b ∷ c) n = omega arith
 
--- the texts that are encoded
+-- ---- the texts that are encoded
+
 pub bounded-short : (text : List ℕ) → length text ≤ 4294967296 → bounded text ≡ text
 unfolding bounded
 bounded-short text h = rw (le-leb (length text) 4294967296 h)
 
-pub row-after-long : (column : ℕ) (text : List ℕ) → 4294967296 < length text → rowAfterIn 63 column (bounded text) ≡ []
+pub row-after-long : (column : ℕ) (text : List ℕ) → 4294967296 < length text → rowAfter column (bounded text) ≡ []
 unfolding bounded
 row-after-long column text h = rw (lt-leb (length text) 4294967296 h) (row-after-nil column [] refl)
 
-pub row-after-empty : (column : ℕ) (text : List ℕ) → length text ≡ 0 → rowAfterIn 63 column (bounded text) ≡ []
+pub row-after-empty : (column : ℕ) (text : List ℕ) → length text ≡ 0 → rowAfter column (bounded text) ≡ []
 row-after-empty column text h = rw (bounded-short text (omega arith)) (row-after-nil column text h)
 
-pub length-row : (text : List ℕ) → 0 < length text → length (rowIn 63 text) ≡ 13 + length (onwardsAt text 0 63)
-unfolding start
-length-row text h = ap length (row-start text h) ∙ length-append start (onwardsAt text 0 63)
+-- ---- how long a row is
 
--- Three times what is left to write, where a word is open with room for `left`. A new word is opened only where the open one has at
--- least 40 characters, and a character takes 3 for each byte at most.
-length-onwards : (left : ℕ) (cs : List (List ℕ)) → left ≤ 63 → T (all (λ c. leb (cost c) 24) cs)
-    → 3 * length (onwards 63 left cs) ≤ 15 * length (joined cs) + 2 * (63 - left) + 6
-unfolding onwards
-length-onwards left [] l h = omega arith
-length-onwards left (c ∷ cs) l h =
-    let both = and-yes (leb (cost c) 24) (all (λ c. leb (cost c) 24) cs) h in
-    let small : cost c ≤ 24 = leb-yes (both .0) in
-    let next = leftAfter 63 left (cost c) in
-    let more = length-onwards next cs (left-le 63 left (cost c) l) (both .1) in
-    let size = length-append (gap left (cost c) ++ spell c) (onwards 63 next cs) in
-    by-test (leb (cost c) left)
-    (λ t.
-    let fits : cost c ≤ left = leb-yes t in
-    omega (arith, more, size, length-append (gap left (cost c)) (spell c), length-gap-here left (cost c) fits, left-here left (cost c) 63 fits, length-spell c, length-append c (joined cs)))
-    (λ t.
-    let full : left < cost c = leb-no t in
-    omega (arith, more, size, small, length-append (gap left (cost c)) (spell c), length-gap-next left (cost c) full, left-next left (cost c) 63 full, length-spell c, length-append c (joined cs)))
+-- A word takes at most three characters for each byte: in B only where Q takes more.
+word-thrice : (room : ℕ) (bytes : List ℕ) → length (wordIn encodings room bytes) ≤ 12 + 3 * length bytes
+unfolding chosen
+word-thrice room bytes =
+    let size = length-word-in (chosen encodings room bytes) bytes in
+    by-test (holds room bytes Q)
+    (λ t. omega (arith, size, ap (λ e. length (spellIn e bytes)) (cond-yes (holds room bytes Q) Q (chosen (B ∷ []) room bytes) t), length-spell bytes))
+    (λ t. by-test (holds room bytes B)
+    (λ u. omega (
+      arith,
+      size,
+      ap (λ e. length (spellIn e bytes)) (cond-no (holds room bytes Q) Q (chosen (B ∷ []) room bytes) t),
+      ap (λ e. length (spellIn e bytes)) (cond-yes (holds room bytes B) B Q u),
+      leb-no {a = cost bytes} {b = room} t,
+      leb→le (length (spellIn B bytes)) room u,
+      length-spell bytes,
+    ))
+    (λ u. omega (
+      arith,
+      size,
+      ap (λ e. length (spellIn e bytes)) (cond-no (holds room bytes Q) Q (chosen (B ∷ []) room bytes) t),
+      ap (λ e. length (spellIn e bytes)) (cond-no (holds room bytes B) B Q u),
+      length-spell bytes,
+    )))
 
--- a row takes at most 5 bytes for each byte of its text, and 15 more
-pub length-row-le : (text : List ℕ) → length (rowIn 63 text) ≤ 15 + 5 * length text
-length-row-le text =
-    by-test (leb 1 (length text))
-    (λ t. omega (arith, length-row text (leb-yes t), length-onwards 63 (chars text) (omega arith) (chars-small text), ap length (chars-joined text)))
-    (λ t. let none : length text ≡ 0 = omega (arith, leb-no {a = 1} {b = length text} t) in omega (arith, ap length (row-nil text none)))
+-- what fits a word of 63 characters makes one of 75 at most
+word-short : (k : ℕ) (run : List (List ℕ)) → T (fitsRoom encodings 63 k run) → length (wordIn encodings 63 (joined run)) ≤ 75
+word-short k run t = omega (arith, length-word-in (chosen encodings 63 (joined run)) (joined run), chosen-holds encodings 63 (joined run) t .small)
 
--- after a name and its colon at most two thirds of their length more
-pub length-row-after-le : (column : ℕ) (text : List ℕ) → 3 * length (rowAfterIn 63 column text) ≤ 45 + 2 * column + 15 * length text
-unfolding start
-length-row-after-le column text =
-    by-test (leb 1 (length text))
+-- a run that does not fit has more than the 45 bytes that B holds
+over-45 : (k : ℕ) (run : List (List ℕ)) (c : List ℕ) → T (not (fitsRoom encodings 63 k (run ++ (c ∷ [])))) → 45 < length (joined run) + length c
+over-45 k run c n =
+    let all = joined (run ++ (c ∷ [])) in
+    by-test (leb (length all) 45)
     (λ t.
-    let some = leb-yes {a = 1} {b = length text} t in
-    let here = roomHere column (cost (firstOf text)) in
-    let left = roomAfter here in
-    let size = length-row-after text some column here refl in
-    let most = room-here-le column (cost (firstOf text)) in
-    let more = length-onwards left (chars text) (room-after-le here (omega (arith, most))) (chars-small text) in
-    by-test (eqb here 0)
-    (λ u. let none : here ≡ 0 = eqb→eq here 0 u in
-    omega (arith, size, more, ap (λ (n : ℕ). length (startAfter n)) none, ap roomAfter none, ap length start-below, room-below, ap length (chars-joined text)))
-    (λ u. by-test (leb (cost (firstOf text)) (63 - column))
-    (λ v. omega (arith, size, more, ap length (start-here here (eqb-no u)), room-after here (eqb-no u), room-here column (cost (firstOf text)) (leb-yes v), ap length (chars-joined text)))
-    (λ v. absurd (eqb-no {a = here} {b = 0} u (no-room-here column (cost (firstOf text)) (leb-no v))))))
-    (λ t. let none : length text ≡ 0 = omega (arith, leb-no {a = 1} {b = length text} t) in omega (arith, ap length (row-after-nil column text none)))
+    let fits : length (spellIn B all) ≤ 63 = omega (arith, length-base64 all, leb→le (length all) 45 t) in
+    absurd (T-not (fitsRoom encodings 63 k (run ++ (c ∷ []))) n (or-right (holds 63 all Q) _ (or-left (holds 63 all B) _ (le→leb (length (spellIn B all)) 63 fits)))))
+    (λ t. omega (arith, leb-no {a = length all} {b = 45} t, ap length (joined-append run (c ∷ [])), length-append (joined run) (joined (c ∷ [])), ap length (append-nil c)))
+
+-- the bytes of characters that have 8 bytes at most, as every character by its first byte has
+abbrev Short : List (List ℕ) → Type 0
+Short cs = T (all (λ c. leb (length c) 8) cs)
+
+-- A line that is followed by another holds 38 bytes at least, and takes 78.
+lines-length : (k : ℕ) (run cs : List (List ℕ)) → T (fitsRoom encodings 63 k run) → Short cs
+    → length (lines encodings 63 (map joined (cut (fitsRoom encodings 63) k run cs))) ≤ 15 + 3 * length (joined run) + 3 * length (joined cs)
+unfolding cut lines
+lines-length k run [] f s =
+    omega (arith, word-thrice 63 (joined run), length-append (13 ∷ 10 ∷ 32 ∷ wordIn encodings 63 (joined run)) [])
+lines-length k run (c ∷ cs) f s =
+    let both = and-yes (leb (length c) 8) (all (λ c. leb (length c) 8) cs) s in
+    let small : length c ≤ 8 = leb-yes (both .0) in
+    by-test (fitsRoom encodings 63 k (run ++ (c ∷ [])))
+    (λ t.
+    rw (cut-more (fitsRoom encodings 63) k run c cs t)
+    (omega (arith, lines-length k (run ++ (c ∷ [])) cs t (both .1), ap length (joined-append run (c ∷ [])), length-append (joined run) (joined (c ∷ [])), ap length (append-nil c), length-append c (joined cs))))
+    (λ t.
+    let more = lines encodings 63 (map joined (cut (fitsRoom encodings 63) (suc k) (c ∷ []) cs)) in
+    rw (cut-next (fitsRoom encodings 63) k run c cs t)
+    (omega (
+      arith,
+      length-append (13 ∷ 10 ∷ 32 ∷ wordIn encodings 63 (joined run)) more,
+      word-short k run f,
+      over-45 k run c t,
+      small,
+      lines-length (suc k) (c ∷ []) cs (short-fits (suc k) c small) (both .1),
+      ap length (append-nil c),
+      length-append c (joined cs),
+    )))
+
+-- a row takes at most 3 bytes for each byte of its text, and 15 more
+pub length-row-le : (text : List ℕ) → length (row text) ≤ 15 + 3 * length text
+unfolding rowIn runs lines
+length-row-le text = go (chars text) (chars-short text) (ap length (chars-joined text))
+  where
+    go : (cs : List (List ℕ)) → Short cs → length (joined cs) ≡ length text → length (lines encodings 63 (map joined (runs encodings 63 cs))) ≤ 15 + 3 * length text
+    go [] s e = omega arith
+    go (c ∷ cs) s e =
+        let both = and-yes (leb (length c) 8) (all (λ c. leb (length c) 8) cs) s in
+        omega (arith, e, lines-length 0 (c ∷ []) cs (short-fits 0 c (leb-yes (both .0))) (both .1), ap length (append-nil c), length-append c (joined cs))
+
+-- the name's line, which may have no word, and the row of the rest
+first-length : (column : ℕ) (l : List ℕ) (ls : List (List ℕ)) → length (linesAfter encodings 63 column (l ∷ ls)) ≤ 13 + 3 * length l + length (lines encodings 63 ls)
+unfolding linesAfter
+first-length column [] ls = omega arith
+first-length column (b ∷ l) ls =
+    omega (arith, word-thrice (63 - column) (b ∷ l), length-append (32 ∷ wordIn encodings (63 - column) (b ∷ l)) (lines encodings 63 ls))
+
+after-length : (column : ℕ) (run cs : List (List ℕ)) → Short cs
+    → length (linesAfter encodings 63 column (map joined (cut (fitsAfter encodings 63 column) 0 run cs))) ≤ 28 + 3 * length (joined run) + 3 * length (joined cs)
+unfolding cut lines
+after-length column run [] s = omega (arith, first-length column (joined run) [])
+after-length column run (c ∷ cs) s =
+    let both = and-yes (leb (length c) 8) (all (λ c. leb (length c) 8) cs) s in
+    by-test (fitsAfter encodings 63 column 0 (run ++ (c ∷ [])))
+    (λ t.
+    rw (cut-more (fitsAfter encodings 63 column) 0 run c cs t)
+    (omega (arith, after-length column (run ++ (c ∷ [])) cs (both .1), ap length (joined-append run (c ∷ [])), length-append (joined run) (joined (c ∷ [])), ap length (append-nil c), length-append c (joined cs))))
+    (λ t.
+    let more = lines-length 0 (c ∷ []) cs (short-fits 0 c (leb-yes (both .0))) (both .1) in
+    rw (cut-next (fitsAfter encodings 63 column) 0 run c cs t, cut-later encodings 63 column 0 0 (c ∷ []) cs)
+    (omega (arith, first-length column (joined run) (map joined (cut (fitsRoom encodings 63) 0 (c ∷ []) cs)), more, ap length (append-nil c), length-append c (joined cs))))
+
+-- after a name and its colon 13 more at most, for the word on the name's line
+pub length-row-after-le : (column : ℕ) (text : List ℕ) → length (rowAfter column text) ≤ 28 + 3 * length text
+unfolding rowAfterIn runsAfter
+length-row-after-le column text = omega (arith, after-length column [] (chars text) (chars-short text), ap length (chars-joined text))

@@ -1,91 +1,134 @@
--- Turns of the loop that measures a row. Assumes nothing.
+-- A row measured word by word. Assumes nothing.
 use mathlib.Core.Path.{_≡_, refl, sym, ap, _∙_}
 use mathlib.Core.Bool.{true, _&&_}
-use mathlib.Core.List.{List, [], _++_}
+use mathlib.Core.List.{List, [], _∷_, _++_}
 use Prim.Native.Nat.{ℕ, _+_, _-_, _*_, _≤_, _<_, min}
 use native.Mathlib.Omega.{arith}
-use lib.ListN.{length, take, drop, getD, length-append, length-take}
-use lib.Dec.{ltb}
-use borrow.Author.Tests.{ltb-true}
+use lib.ListN.{length, take, drop, getD, length-append, length-take, length-drop}
+use lib.Dec.{leb, ltb}
+use borrow.Author.Tests.{leb-true, ltb-true}
 use Rattle.utf8.specs.Utf8.{charLen}
-use Rattle.utf8.specs.Utf8Laws.{char-len-le}
+use Rattle.utf8.specs.Utf8Laws.{char-len-some}
 use Rattle.word_spelling.specs.Spelling.{spell}
 use Rattle.word_spelling.specs.Cost.{byteCost, cost}
+use Rattle.word_spelling.specs.SpellingLaws.{length-spell, cost-one}
 use Rattle.word_spelling.specs.HighChar.{HighChar}
-use Rattle.word_spelling.specs.HighCharLaws.{both, char-cut, whole-end, whole-take, whole-cost}
+use Rattle.word_spelling.specs.HighCharLaws.{both, one-byte, ascii-len, char-cost, char-size, whole-end, whole-take, whole-cost}
 use Rattle.word_spelling.specs.FirstChars.{firstChars, costIn, costsIn}
-use Rattle.word_spelling.specs.FirstCharsLaws.{cost-in, costs-in, costs-le}
-use Rattle.row.specs.Stream.{gap, leftAfter, onwardsAt, roomHere, MeasuredTurn}
-use Rattle.row.specs.StreamLaws.{turn, turned-four}
-use Rattle.row.specs.RowLaws.{room-here, no-room-here, room-here-le, firstOf}
+use Rattle.word_spelling.specs.FirstCharsLaws.{cost-in}
+use Rattle.row.specs.declared.Encoding.{Encoding}
+use Rattle.row.specs.Word.{spellIn, word}
+use Rattle.row.specs.Row.{row, rowAfter}
+use Rattle.row.specs.FitsLaws.{length-word-in}
+use Rattle.row.specs.WordEnd.{Span, WordEnd}
+use Rattle.row.specs.WordEndLaws.{span-char, span-join, between, row-end, first-step, first-none}
+use Rattle.row.specs.RowLaws.{row-after-none}
+use Rattle.word_choice.specs.EndInQLaws.{Stepped, WordAt, cost-join, word-at-small, rest-step, rest-more, rest-within}
 
-module _ (s : List ℕ) (i left n : ℕ) (h : i < length s) (hl : left ≤ 63) where
-  -- a character `c` that takes m characters
-  pub measured : (e m next left′ n′ : ℕ) (c : List ℕ) → e ≡ min (i + charLen (getD s i 0)) (length s) → take (e - i) (drop i s) ≡ c → m ≡ cost c
-      → (next ≡ e) × (left′ ≡ leftAfter 63 left m) × (n′ ≡ n + (length (gap left m) + m)) → MeasuredTurn s i left n next left′ n′
-  measured e m next left′ n′ c he hc hm r = record {
-    text = gap left (cost c) ++ spell c;
-    turned = rw (r .0, r .1, hm) (turn s i left h hl e c he hc);
-    size = rw (r .2, hm, length-append) refl;
-  }
+-- ---- characters
 
--- the same where the character is whole and no byte of it is ASCII
-pub measured-high : {s : List ℕ} {i left r n next left′ n′ : ℕ} → left ≤ 63 → 0 < r → HighChar s i r
-    → (next ≡ i + r) × (left′ ≡ leftAfter 63 left (3 * r)) × (n′ ≡ n + (length (gap left (3 * r)) + 3 * r)) → MeasuredTurn s i left n next left′ n′
-measured-high {s} {i} {left} {r} {n} {next} {left′} {n′} hl hr k e =
-    measured s i left n (omega (arith, k .fits hr)) hl (i + r) (3 * r) next left′ n′ (take r (drop i s)) (whole-end hr k) (whole-take hr k) (whole-cost hr k) e
+-- one, up to place e
+pub stepped-char : (s : List ℕ) (i left e m : ℕ) → i < length s → e ≡ min (i + charLen (getD s i 0)) (length s) → m ≡ cost (between s i e) → Stepped s i left e m
+stepped-char s i left e m h he hm = record {
+  span = span-char s i e h he;
+  more = omega (arith, char-len-some (getD s i 0));
+  size = hm;
+  small = omega (arith, char-cost s i e m he hm);
+  single = λ k. he;
+}
 
--- the length so far and the length that is left make up the whole
-pub measured-on : {s : List ℕ} {i left n i′ left′ n′ : ℕ} (whole : ℕ) → MeasuredTurn s i left n i′ left′ n′
-    → n + length (onwardsAt s i left) ≡ whole → n′ + length (onwardsAt s i′ left′) ≡ whole
-measured-on {s} {i} {left} {n} {i′} {left′} {n′} whole t e =
-    omega (arith, t .size, e, ap length (t .turned .joins), length-append (t .text) (onwardsAt s i′ left′))
+-- one that is whole and of which no byte is ASCII
+pub stepped-high : {s : List ℕ} {i left r : ℕ} → 0 < r → HighChar s i r → Stepped s i left (i + r) (3 * r)
+stepped-high {s} {i} {left} {r} hr k =
+    stepped-char s i left (i + r) (3 * r) (omega (arith, k .fits hr)) (whole-end hr k) (whole-cost hr k ∙ ap cost (sym (whole-take hr k)))
 
--- four ASCII characters that fit the open word, by the table of first characters
-pub measured-four : (s first : List ℕ) (i left n m : ℕ) → first ≡ firstChars → 4 ≤ length s - i → left ≤ 63 → getD s i 0 < 128
+-- one that is ASCII
+pub stepped-ascii : (s : List ℕ) (i left m : ℕ) → i < length s → getD s i 0 < 128 → m ≡ byteCost (getD s i 0) → Stepped s i left (i + 1) m
+stepped-ascii s i left m h a e =
+    stepped-char s i left (i + 1) m h (omega (arith, ascii-len (getD s i 0) a)) (cost-one (getD s i 0) m e ∙ ap cost (sym (one-byte s i h)))
+
+-- some, and more after them, which what is left holds together
+pub stepped-join : {s : List ℕ} {i left e e′ m m′ : ℕ} → Stepped s i left e m → Stepped s e left e′ m′ → m + m′ ≤ left → m + m′ ≤ 63 → Stepped s i left e′ (m + m′)
+stepped-join {s} {i} {left} {e} {e′} p q h k = record {
+  span = span-join (p .span) (q .span);
+  more = omega (arith, p .more, q .more);
+  size = omega (arith, p .size, q .size, cost-join s i e e′ (omega (arith, p .more)) (omega (arith, q .more)));
+  small = k;
+  single = λ l. absurd (omega arith);
+}
+
+-- the test of the room and of the text for four
+pub roomy-four : (left n : ℕ) → leb 12 left && leb 4 n ≡ true → (12 ≤ left) × (4 ≤ n)
+roomy-four left n e = let p = both (leb 12 left) (leb 4 n) e in (leb-true 12 left (p .0), leb-true 4 n (p .1))
+
+-- four that are ASCII, in what holds any four, by the table of first characters
+pub stepped-four : (s first : List ℕ) (i left x y z w : ℕ) → first ≡ firstChars → leb 12 left && leb 4 (length s - i) ≡ true → getD s i 0 < 128
     → ltb (getD s (i + 1) 0) 128 && ltb (getD s (i + 1 + 1) 0) 128 && ltb (getD s (i + 1 + 1 + 1) 0) 128 ≡ true
-    → m ≡ costIn first (getD s i 0) + costIn first (getD s (i + 1) 0) + costIn first (getD s (i + 1 + 1) 0) + costIn first (getD s (i + 1 + 1 + 1) 0)
-    → m ≤ left → MeasuredTurn s i left n (i + 1 + 1 + 1 + 1) (left - m) (n + m)
-measured-four s first i left n m e h hl a bcd hm f =
+    → (x ≡ costIn first (getD s i 0)) × (x ≤ 3) → (y ≡ costIn first (getD s (i + 1) 0)) × (y ≤ 3) → (z ≡ costIn first (getD s (i + 1 + 1) 0)) × (z ≤ 3)
+    → (w ≡ costIn first (getD s (i + 1 + 1 + 1) 0)) × (w ≤ 3) → Stepped s i left (i + 1 + 1 + 1 + 1) (x + y + z + w)
+stepped-four s first i left x y z w e t a bcd hx hy hz hw =
+    let roomy = roomy-four left (length s - i) t .0 in
+    let h = roomy-four left (length s - i) t .1 in
     let p = both (ltb (getD s (i + 1) 0) 128 && ltb (getD s (i + 1 + 1) 0) 128) (ltb (getD s (i + 1 + 1 + 1) 0) 128) bcd in
     let q = both (ltb (getD s (i + 1) 0) 128) (ltb (getD s (i + 1 + 1) 0) 128) (p .0) in
     let b = ltb-true (getD s (i + 1) 0) 128 (q .0) in
     let c = ltb-true (getD s (i + 1 + 1) 0) 128 (q .1) in
     let d = ltb-true (getD s (i + 1 + 1 + 1) 0) 128 (p .1) in
-    let size : m ≡ byteCost (getD s i 0) + byteCost (getD s (i + 1) 0) + byteCost (getD s (i + 1 + 1) 0) + byteCost (getD s (i + 1 + 1 + 1) 0) =
-    omega (arith, hm, taken (getD s i 0) a, taken (getD s (i + 1) 0) b, taken (getD s (i + 1 + 1) 0) c, taken (getD s (i + 1 + 1 + 1) 0) d) in
-    record {
-      text = _;
-      turned = turned-four s i left m h hl a b c d size f;
-      size = rw (length-append, length-append, length-append) (omega arith);
-    }
-  where
-    taken : (x : ℕ) → x < 128 → costIn first x ≡ byteCost x
-    taken x k = cost-in x e (omega arith) refl
+    let s1 = stepped-ascii s i left x (omega arith) a (cost-in (getD s i 0) e (omega arith) (hx .0)) in
+    let s2 = stepped-ascii s (i + 1) left y (omega arith) b (cost-in (getD s (i + 1) 0) e (omega arith) (hy .0)) in
+    let s3 = stepped-ascii s (i + 1 + 1) left z (omega arith) c (cost-in (getD s (i + 1 + 1) 0) e (omega arith) (hz .0)) in
+    let s4 = stepped-ascii s (i + 1 + 1 + 1) left w (omega arith) d (cost-in (getD s (i + 1 + 1 + 1) 0) e (omega arith) (hw .0)) in
+    let s12 = stepped-join s1 s2 (omega (arith, hx .1, hy .1)) (omega (arith, hx .1, hy .1)) in
+    let s123 = stepped-join s12 s3 (omega (arith, hx .1, hy .1, hz .1)) (omega (arith, hx .1, hy .1, hz .1)) in
+    stepped-join s123 s4 (omega (arith, hx .1, hy .1, hz .1, hw .1)) (omega (arith, hx .1, hy .1, hz .1, hw .1))
 
--- ---- the room for the first word on the name's line
+-- ---- the row
 
-module _ (first s : List ℕ) (column : ℕ) where
-  pub room-ample : column ≤ 39 → 63 - column ≡ roomHere column (costsIn first (firstOf s))
-  room-ample h =
-      sym (room-here column (costsIn first (firstOf s))
-      (omega (arith, h, costs-le first (firstOf s), length-take (charLen (getD s 0 0)) s, char-len-le (getD s 0 0))))
+-- on the name's line stand n characters, up to place e of the text, and the row of what is left follows
+pub record BeginsWith (column : ℕ) (s : List ℕ) (e n : ℕ) : Type 0 where
+  pub within : e ≤ length s
+  pub small : n ≤ 78 * e
+  pub size : n + length (row (drop e s)) ≡ length (rowAfter column s)
 
-  pub room-none : 63 ≤ column → 0 ≡ roomHere column (costsIn first (firstOf s))
-  room-none h = omega (arith, h, room-here-le column (costsIn first (firstOf s)))
+pub begins-none : (column : ℕ) (s : List ℕ) → 63 ≤ column → BeginsWith column s 0 0
+begins-none column s h = record { within = omega arith; small = omega arith; size = omega (arith, ap length (row-after-none column s h)) }
 
-  -- by what the first character takes, m, up to place e
-  module _ (e m : ℕ) (he : e ≡ min (0 + charLen (getD s 0 0)) (length s)) (hm : m ≡ costsIn first (take (e - 0) (drop 0 s))) where
-    spent : m ≡ costsIn first (firstOf s)
-    spent = hm ∙ ap (costsIn first) (char-cut s 0 e he)
+module _ (column : ℕ) {s : List ℕ} {e n : ℕ} (w : WordAt (63 - column) s e n) where
+  pub begins-empty : e ≡ 0 → BeginsWith column s 0 0
+  begins-empty h = record { within = omega arith; small = omega arith; size = omega (arith, ap length (first-none column (w .end) h)) }
 
-    pub room-fits : m ≤ 63 - column → 63 - column ≡ roomHere column (costsIn first (firstOf s))
-    room-fits h = sym (room-here column (costsIn first (firstOf s)) (rw (← spent) h))
+  pub begins-word : 0 < e → BeginsWith column s e (13 + n)
+  begins-word h = record {
+    within = w .end .span .within;
+    small = omega (arith, word-at-small w);
+    size = omega (
+      arith,
+      ap length (first-step column (w .end) h),
+      length-append (32 ∷ word (w .kind) (between s 0 e)) (row (drop e s)),
+      length-word-in (w .kind) (between s 0 e),
+      w .size,
+    );
+  }
 
-    pub room-over : 63 - column < m → 0 ≡ roomHere column (costsIn first (firstOf s))
-    room-over h = sym (no-room-here column (costsIn first (firstOf s)) (rw (← spent) h))
+-- a word on a line of its own
+module _ (s : List ℕ) (i : ℕ) {e m : ℕ} (h : i < length s) (w : WordAt 63 (take (length s - i) (drop i s)) e m) where
+  pub measured-on : (whole n : ℕ) → n + length (row (drop i s)) ≡ whole → n + (15 + m) + length (row (drop (i + e) s)) ≡ whole
+  measured-on whole n k =
+      let bytes = between (take (length s - i) (drop i s)) 0 e in
+      omega (
+        arith,
+        k,
+        ap length (rest-step s i h (w .end)),
+        length-append (13 ∷ 10 ∷ 32 ∷ word (w .kind) bytes) (row (drop (i + e) s)),
+        length-word-in (w .kind) bytes,
+        w .size,
+      )
 
--- the same by what the first character takes, from the table of first characters
-pub room-by-table : (s : List ℕ) (column here : ℕ) {first : List ℕ} → first ≡ firstChars → ((j : ℕ) → getD s j 0 < 256)
-    → here ≡ roomHere column (costsIn first (firstOf s)) → here ≡ roomHere column (cost (firstOf s))
-room-by-table s column here e bytes h = h ∙ ap (roomHere column) (costs-in e s bytes (charLen (getD s 0 0)) 0)
+  pub measured-more : 0 < e
+  measured-more = rest-more s i h (w .end)
+
+  pub measured-within : i + e ≤ length s
+  measured-within = rest-within s i h (w .end)
+
+pub measured-all : (s : List ℕ) (i n whole : ℕ) → length s ≤ i → n + length (row (drop i s)) ≡ whole → n ≡ whole
+measured-all s i n whole h k = omega (arith, k, ap length (row-end s i h))

@@ -45,7 +45,7 @@ pub fn byte_cost(first: &[u8; 256], b: u8) -> usize
 }
 
 // Where the character at a place ends, by its first byte and the end of the text.
-fn char_end(s: &[u8], i: usize) -> usize
+pub fn char_end(s: &[u8], i: usize) -> usize
     ensures { λ r. ⌜ r ≡ min (i + charLen (getD (now (s .entry)) i 0)) (length (now (s .entry))) ⌝ }
 {
     if s.len() <= i {

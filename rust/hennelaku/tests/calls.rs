@@ -25,7 +25,7 @@ fn version_of_the_library() {
 fn whole_case() {
     let message = downgrade_to_vec(Setting::Spool, ENVELOPE.as_bytes(), HEADER.as_bytes()).unwrap();
     assert_eq!(message.envelope, b"MAIL FROM:<e+x@example.org>\r\nRCPT TO:<b@example.net>\r\n");
-    assert_eq!(message.header.len(), 146);
+    assert_eq!(message.header.len(), 140);
     assert!(message.header.ends_with(b"Subject: =?UTF-8?Q?=C3=A9?=\r\nX-Note: ok\r\n"));
 }
 
@@ -37,9 +37,9 @@ fn buffers_of_just_the_size_and_a_byte_short() {
         let untouched = e.iter().chain(&h).all(|&byte| byte == 0xA5);
         (answer, untouched)
     };
-    assert_eq!(call(54, 146), (Ok(Lengths { envelope: 54, header: 146 }), false));
-    assert_eq!(call(53, 146), (Err(refusal(Reason::EnvelopeRoom, Input::Envelope, 54, 0)), true));
-    assert_eq!(call(54, 145), (Err(refusal(Reason::HeaderRoom, Input::Header, 146, 0)), true));
+    assert_eq!(call(54, 140), (Ok(Lengths { envelope: 54, header: 140 }), false));
+    assert_eq!(call(53, 140), (Err(refusal(Reason::EnvelopeRoom, Input::Envelope, 54, 0)), true));
+    assert_eq!(call(54, 139), (Err(refusal(Reason::HeaderRoom, Input::Header, 140, 0)), true));
     assert_eq!(call(0, 0), (Err(refusal(Reason::EnvelopeRoom, Input::Envelope, 54, 0)), true));
 }
 

@@ -88,6 +88,22 @@ fn one_text(size: usize) -> Vec<u8> {
     out
 }
 
+/// One Subject of so many characters, folded where its lines would grow too long.
+fn subject(words: &str, characters: usize) -> Vec<u8> {
+    let mut out = b"Subject:".to_vec();
+    for (at, character) in words.chars().cycle().take(characters).enumerate() {
+        if at % 300 == 0 {
+            out.extend_from_slice(if at == 0 { b" " } else { b"\r\n " });
+        }
+        out.extend_from_slice(character.to_string().as_bytes());
+    }
+    out.extend_from_slice(b"\r\n");
+    out
+}
+
+const GREEK: &str = "Πρόγνωση καιρού για το Αιγαίο, άνεμοι βόρειοι ";
+const JAPANESE: &str = "海上風警報気象庁発表、北西の風が強まる見込み。";
+
 /// One field of nested comments; the unclosed one has a last `)` less.
 fn nested(size: usize, name: &str, closed: bool) -> Vec<u8> {
     let mut out = format!("{name}: (é) ").into_bytes();
@@ -263,6 +279,11 @@ fn main() {
     }
     for size in [1, 4, 16, 32] {
         compare(&format!("nearly all ASCII, {size} KB"), &nearly_ascii(size * 1024));
+    }
+    for (script, words) in [("Greek", GREEK), ("Japanese", JAPANESE)] {
+        for characters in [60, 2000] {
+            compare_set(&format!("row, {script}, {characters} characters"), 1, &subject(words, characters));
+        }
     }
     for size in [1, 4, 16, 32] {
         compare(&format!("Received, {size} KB"), &header(size * 1024, RECEIVED));

@@ -11,7 +11,7 @@ use hennelaku_model::header::{is_blank, kind, next_non_ascii, Field, Kind};
 use hennelaku_model::received::{self, Held, Stretch};
 use hennelaku_model::rfc5322::is_address_list;
 use hennelaku_model::utf8::char_len;
-use hennelaku_model::words::SIZE;
+use hennelaku_model::words::{base64_size, first_word, Encoding, SIZE};
 use hennelaku_model::{address_list, downgrade, header, proved, Answer};
 use std::cmp::Ordering;
 use std::process::exit;
@@ -167,15 +167,74 @@ fn written_name_len(field: &Field) -> usize {
     field.name.len() + if kind(field.name) == Kind::Plain { 0 } else { b"Downgraded-".len() }
 }
 
-/// How the first character stands to the room beside its name: fits, fills it, lacks one, lacks more.
+/// How the first character stands to the room beside its name: fits by Q, fills it so, fits by B alone, fills it so,
+/// lacks one by both, lacks more.
 fn first_line(name_len: usize, text: &[u8]) -> usize {
-    let size: usize = text[..char_len(text[0])].iter().map(|&b| SIZE[b as usize] as usize).sum();
-    match (name_len + size).cmp(&62) {
-        Ordering::Less => 0,
-        Ordering::Equal => 1,
-        Ordering::Greater if name_len + size == 63 => 2,
-        Ordering::Greater => 3,
+    let len = char_len(text[0]);
+    let q = name_len + text[..len].iter().map(|&b| SIZE[b as usize] as usize).sum::<usize>();
+    let b = name_len + base64_size(len);
+    match (q.cmp(&62), b.cmp(&62)) {
+        (Ordering::Less, _) => 0,
+        (Ordering::Equal, _) => 1,
+        (Ordering::Greater, Ordering::Less) => 2,
+        (Ordering::Greater, Ordering::Equal) => 3,
+        (Ordering::Greater, Ordering::Greater) if q.min(b) == 63 => 4,
+        (Ordering::Greater, Ordering::Greater) => 5,
     }
+}
+
+/// The words of an outgoing header.
+#[derive(Default)]
+struct Words {
+    q: usize,
+    b: usize,
+    /// B words with no padding, one `=`, two.
+    padded: [usize; 3],
+    /// Words of one kind straight after one of the other.
+    b_after_q: usize,
+    q_after_b: usize,
+    /// B words on a name's line, and on lines of their own.
+    beside_name: usize,
+    own_line: usize,
+}
+
+impl Words {
+    fn look(out: &[u8]) -> Words {
+        let mut words = Words::default();
+        let mut last = None;
+        for line in out.split(|&b| b == b'\n') {
+            let line = line.strip_suffix(b"\r").unwrap_or(line);
+            let place = |open: &[u8]| line.windows(open.len()).position(|part| part == open);
+            let encoding = if !line.ends_with(b"?=") {
+                None
+            } else if let Some(at) = place(b" =?UTF-8?B?") {
+                words.b += 1;
+                words.beside_name += (at > 0) as usize;
+                words.own_line += (at == 0) as usize;
+                let digits = &line[at + 11..line.len() - 2];
+                words.padded[digits.iter().rev().take_while(|&&b| b == b'=').count().min(2)] += 1;
+                Some(Encoding::B)
+            } else if place(b" =?UTF-8?Q?").is_some() {
+                words.q += 1;
+                Some(Encoding::Q)
+            } else {
+                None
+            };
+            let goes_on = line.starts_with(b" ");
+            words.b_after_q += (goes_on && last == Some(Encoding::Q) && encoding == Some(Encoding::B)) as usize;
+            words.q_after_b += (goes_on && last == Some(Encoding::B) && encoding == Some(Encoding::Q)) as usize;
+            last = encoding;
+        }
+        words
+    }
+}
+
+/// Whether a word holds as many characters by B as by Q, in less room, without the end of the text.
+fn equal_choice(text: &[u8], room: usize) -> bool {
+    let word = first_word(text, room);
+    let fits_b = |len: usize| base64_size(len) <= room;
+    let next = word.len + text.get(word.len).map_or(0, |&b| char_len(b));
+    word.encoding == Encoding::Q && word.len > 0 && word.len < text.len() && fits_b(word.len) && !fits_b(next)
 }
 
 /// Looks at an input and what the model made of it.
@@ -216,8 +275,8 @@ fn look(met: &mut Met, input: &Input, got: &Outcome) {
         return;
     }
     let out = &got.header[GUARD..GUARD + got.answer.header_len];
-    met.count("Downgraded-Mail-From", out.starts_with(b"Downgraded-Mail-From: =?UTF-8?Q?=3C"));
-    met.count("Downgraded-Rcpt-To", has(out, b"Downgraded-Rcpt-To: =?UTF-8?Q?=3C"));
+    met.count("Downgraded-Mail-From", out.starts_with(b"Downgraded-Mail-From: =?UTF-8?"));
+    met.count("Downgraded-Rcpt-To", has(out, b"Downgraded-Rcpt-To: =?UTF-8?"));
     met.count("several RCPT lines, replaced", envelope_lines > 2 && got.answer.envelope_len < input.envelope.len());
     met.count("header copied whole", out == input.header);
     let mut fields = [0; 6];
@@ -226,7 +285,8 @@ fn look(met: &mut Met, input: &Input, got: &Outcome) {
     let mut clauses = Clauses::default();
     let mut no_longer_fit = 0;
     let (mut names_of_76, mut folded, mut words_of_900) = (0, 0, 0);
-    let mut first_lines = [0; 4];
+    let mut first_lines = [0; 6];
+    let mut equal_choices = 0;
     let mut from = 0;
     while let Some(field) = next_non_ascii(&input.header, from) {
         let mut text = Vec::new();
@@ -259,6 +319,7 @@ fn look(met: &mut Met, input: &Input, got: &Outcome) {
         no_longer_fit += (at == 2 && address_list::replaces(&text, Setting::Spool).is_some()) as usize;
         if at < 3 {
             first_lines[first_line(written_name_len(&field), &text)] += 1;
+            equal_choices += equal_choice(&text, 62usize.saturating_sub(written_name_len(&field))) as usize;
         }
         if at > 2 {
             let _ = address_list::list(&text, setting, &mut comments);
@@ -269,10 +330,23 @@ fn look(met: &mut Met, input: &Input, got: &Outcome) {
         folded += field.value.contains(&b'\n') as usize;
         from = field.end;
     }
-    met.count("first character beside the name, with room left", first_lines[0] > 0);
-    met.count("first character that fills the name's line", first_lines[1] > 0);
-    met.count("first character one too long for the name's line", first_lines[2] > 0);
-    met.count("first character longer than that", first_lines[3] > 0);
+    met.count("first character that fits beside the name by Q", first_lines[0] > 0);
+    met.count("first character that fills the name's line by Q", first_lines[1] > 0);
+    met.count("first character that fits beside the name by B alone", first_lines[2] > 0);
+    met.count("first character that fills the name's line by B alone", first_lines[3] > 0);
+    met.count("first character one too long for the name's line by both", first_lines[4] > 0);
+    met.count("first character longer than that", first_lines[5] > 0);
+    let words = Words::look(out);
+    met.count("Q word", words.q > 0);
+    met.count("B word", words.b > 0);
+    met.count("B word on a name's line", words.beside_name > 0);
+    met.count("B word on a line of its own", words.own_line > 0);
+    met.count("B word without padding", words.padded[0] > 0);
+    met.count("B word with one =", words.padded[1] > 0);
+    met.count("B word with two =", words.padded[2] > 0);
+    met.count("B word after a Q word", words.b_after_q > 0);
+    met.count("Q word after a B word", words.q_after_b > 0);
+    met.count("Q word where B holds as many, more to come", equal_choices > 0);
     met.count("plain text field", fields[0] > 0);
     met.count("field encapsulated", fields[1] > 0);
     met.count("address field that does not fit", fields[2] > 0);

@@ -1,56 +1,52 @@
-use Prim.Native.Nat.{_≤_}
-use native.Mathlib.Omega.{arith}
+use Rattle.encoded_word.specs.WritingLaws.{row-written}
+use Rattle.row.specs.RowLaws.{row-after-long, bounded-short}
 use Rattle.buffer.specs.BufferLaws.{wrote-empty, wrote-nothing}
-use Rattle.word_spelling.specs.Cost.{cost}
-use Rattle.row.specs.RowLaws.{row-after-empty, row-after-long, bounded-short, room-here-le, room-after-le, length-start-after, firstOf}
-use Rattle.row_length.specs.LengthLaws.{room-by-table}
-use Rattle.encoded_word.specs.WritingLaws.{row-wrote}
 use borrow.Author.Needs.{needs}
 use Rattle.encoded_word.proofs.write_after.Statement.{statement}
 use Rattle.encoded_word.proofs.write_after.Tie as tie
+use Rattle.encoded_word.proofs.write_after.Reads as reads
+use Rattle.encoded_word.proofs.write_after.Lts as lts
+use Rattle.encoded_word.proofs.lines.add_first.Reads as add-first-reads
+use Rattle.encoded_word.proofs.lines.add_lines.Reads as add-lines-reads
+use Rattle.encoded_word.proofs.lines.put_lines.Reads as put-lines-reads
+use Rattle.row_length.proofs.len_after.Reads as len-after-reads
+use Rattle.word_spelling.proofs.first_chars.Reads as first-chars-reads
 
+-- src/lib.rt:24:9
 len-after-requires : tie.Need-len-after-requires
 len-after-requires c κs = search needs
 
+-- src/lib.rt:24:9
 returns : tie.Need-returns
 returns c = wrote-empty (c .before .if1 .taken) (c .len-after .ensures)
 
+-- src/lib.rt:27:9
 returns-2 : tie.Need-returns-2
-returns-2 c = rw (row-after-empty _ _ (c .if2 .taken)) (wrote-nothing _)
+returns-2 c = rw (row-after-long _ _ (c .if2 .taken)) (wrote-nothing _)
 
-returns-3 : tie.Need-returns-3
-returns-3 c = rw (row-after-long _ _ (c .if3 .taken)) (wrote-nothing _)
-
+-- src/lib.rt:29:17
 first-chars-requires : tie.Need-first-chars-requires
 first-chars-requires c κs = search needs
 
-room-here-requires : tie.Need-room-here-requires
-room-here-requires c κs = search needs
+-- src/lib.rt:30:9
+add-first-requires : tie.Need-add-first-requires
+add-first-requires c κs = search needs
 
-put-first-requires : tie.Need-put-first-requires
-put-first-requires c κs = search needs
+-- src/lib.rt:33:9
+put-lines-requires : tie.Need-put-lines-requires
+put-lines-requires c κs = search needs
 
-put-while-roomy-requires : tie.Need-put-while-roomy-requires
-put-while-roomy-requires c κs = let s = c .before .before .before .before .before .before .before .before .before .before .before .before .before .before .args .text .now in
-    let here = room-by-table s (c .before .before .before .before .before .before .before .before .before .before .before .before .before .before .args .column) (c .before .before .before .before .before .room-here .result) (c .before .before .before .before .before .before .before .before .first-chars .ensures) (λ j. omega (arith, c .before .before .before .before .before .before .before .before .before .before .before .before .shared-slice-known .given j)) (c .before .before .before .before .before .room-here .ensures) in
-    let most : c .before .before .before .before .before .room-here .result ≤ 63 = omega (arith, here, room-here-le (c .before .before .before .before .before .before .before .before .before .before .before .before .before .before .args .column) (cost (firstOf s))) in
-    (c .before .before .before .before .before .before .before .before .first-chars .ensures, omega (arith, c .before .before .before .before .put-first .ensures .0, room-after-le (c .before .before .before .before .before .room-here .result) most))
+-- src/lib.rt:36:5
+add-lines-requires : tie.Need-add-lines-requires
+add-lines-requires c κs = search needs
 
-put-clipped-requires : tie.Need-put-clipped-requires
-put-clipped-requires c κs = let r = c .before .before .before .before .put-while-roomy .ensures in
-    let s = c .before .before .before .before .before .before .before .before .before .before .before .before .before .before .before .before .before .before .before .args .text .now in
-    let here = room-by-table s (c .before .before .before .before .before .before .before .before .before .before .before .before .before .before .before .before .before .before .before .args .column) (c .before .before .before .before .before .before .before .before .before .before .room-here .result) (c .before .before .before .before .before .before .before .before .before .before .before .before .before .first-chars .ensures) (λ j. omega (arith, c .before .before .before .before .before .before .before .before .before .before .before .before .before .before .before .before .before .shared-slice-known .given j)) (c .before .before .before .before .before .before .before .before .before .before .room-here .ensures) in
-    let most : c .before .before .before .before .before .before .before .before .before .before .room-here .result ≤ 63 = omega (arith, here, room-here-le (c .before .before .before .before .before .before .before .before .before .before .before .before .before .before .before .before .before .before .before .args .column) (cost (firstOf s))) in
-    (c .before .before .before .before .before .before .before .before .before .before .before .before .before .first-chars .ensures, c .before .before .before .before .before .before .before .before .before .before .before .before .before .before .if3 .left, r .within, r .roomy, omega (arith, r .short, c .before .before .before .before .before .before .before .before .before .put-first .ensures .1 .size, length-start-after (c .before .before .before .before .before .before .before .before .before .before .room-here .result) most))
-
+-- src/lib.rt:20:1
 same-length : tie.Need-same-length
 same-length c = search needs
 
-returns-4 : tie.Need-returns-4
-returns-4 c = let s = c .before .before .before .before .before .before .before .before .before .before .before .before .before .before .before .before .before .before .before .before .before .before .args .text .now in
-    let here = room-by-table s (c .before .before .before .before .before .before .before .before .before .before .before .before .before .before .before .before .before .before .before .before .before .before .args .column) (c .before .before .before .before .before .before .before .before .before .before .before .before .before .room-here .result) (c .before .before .before .before .before .before .before .before .before .before .before .before .before .before .before .before .first-chars .ensures) (λ j. omega (arith, c .before .before .before .before .before .before .before .before .before .before .before .before .before .before .before .before .before .before .before .before .shared-slice-known .given j)) (c .before .before .before .before .before .before .before .before .before .before .before .before .before .room-here .ensures) in
-    rw (bounded-short _ (c .before .before .before .before .before .before .before .before .before .before .before .before .before .before .before .before .before .if3 .left))
-    (row-wrote s (c .before .before .before .before .before .before .before .before .before .before .before .before .before .before .before .before .before .before .before .before .before .before .args .column) _ (c .before .before .before .before .before .before .before .put-while-roomy .result .i) (c .before .before .before .before .before .before .before .put-while-roomy .result .left) (omega arith) here (c .before .before .before .before .before .before .before .before .before .before .before .before .put-first .ensures .1) (rw (c .before .before .before .before .before .before .before .before .before .before .before .before .put-first .ensures .0) at (c .before .before .before .before .before .before .before .put-while-roomy .ensures .reached)) (c .before .before .put-clipped .ensures))
+-- src/lib.rt:20:1
+returns-3 : tie.Need-returns-3
+returns-3 c = rw (bounded-short _ (c .before .before .before .before .before .before .before .before .before .before .before .before .before .before .before .before .if2 .left)) (row-written (c .before .before .before .before .before .before .before .before .before .before .before .before .before .before .before .before .if2 .left) (c .before .before .before .before .before .before .before .before .before .before .before .before .add-first .ensures) (c .before .before .before .before .before .before .before .put-lines .ensures) (c .before .before .add-lines .ensures))
 
 pub write-after-spec : {M : Type 1} → statement M
 write-after-spec =
@@ -59,11 +55,9 @@ write-after-spec =
     len-after-requires
     returns
     returns-2
-    returns-3
     first-chars-requires
-    room-here-requires
-    put-first-requires
-    put-while-roomy-requires
-    put-clipped-requires
+    add-first-requires
+    put-lines-requires
+    add-lines-requires
     same-length
-    returns-4)
+    returns-3)

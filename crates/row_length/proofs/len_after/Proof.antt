@@ -1,64 +1,85 @@
-use mathlib.Core.Path.{_≡_, sym, ap}
-use lib.ListN.{length}
-use Prim.Native.Nat.{_+_, _-_, _*_, _≤_}
-use native.Mathlib.Omega.{arith}
-use Rattle.row.specs.Row.{rowAfter}
-use Rattle.row.specs.Stream.{onwardsAt}
-use Rattle.row.specs.StreamLaws.{onwards-end}
-use Rattle.row.specs.RowLaws.{row-after-empty, row-after-long, length-row-after, room-here-le, room-after-le, length-start-after, bounded-short, firstOf}
-use Rattle.word_spelling.specs.Cost.{cost}
-use Rattle.row_length.specs.LengthLaws.{measured-on, room-by-table}
+use Rattle.row_length.specs.LengthLaws.{measured-on, measured-more, measured-within, measured-all}
+use Rattle.word_choice.specs.EndInQLaws.{word-at-small}
+use Rattle.row.specs.RowLaws.{bounded-short, row-after-long}
+use Rattle.row.specs.Row.{row, rowAfter}
 use borrow.Author.Needs.{needs}
+use native.Mathlib.Omega.{arith}
+use lib.ListN.{length, drop}
+use Prim.Native.Nat.{_+_, _-_, _*_, _≤_}
+use mathlib.Core.Path.{_≡_, refl, sym, ap, _∙_}
 use Rattle.row_length.proofs.len_after.Statement.{statement}
 use Rattle.row_length.proofs.len_after.Tie as tie
+use Rattle.row_length.proofs.len_after.Reads as reads
+use Rattle.row_length.proofs.len_after.Lts as lts
+use Rattle.row_length.proofs.first_line.Reads as first-line-reads
+use Rattle.row_length.proofs.word_at.Reads as word-at-reads
+use Rattle.word_spelling.proofs.first_chars.Reads as first-chars-reads
 
 abbrev Inv-loop : tie.InvT-loop
-Inv-loop column text first i₀ left₀ n₀ i left n = (i ≤ length text) × (left ≤ 63) × (n ≤ 13 + 18 * i) × (n + length (onwardsAt text i left) ≡ length (rowAfter column text))
+Inv-loop column text first i₀ n₀ i n = (i ≤ length text) × (n ≤ 78 * i) × (n + length (row (drop i text)) ≡ length (rowAfter column text))
 
 abbrev μ-loop : tie.MeasureT-loop
-μ-loop column text first i₀ left₀ n₀ i left n = length text - i
+μ-loop column text first i₀ n₀ i n = length text - i
 
+-- src/lib.rt:81:9
 returns : tie.Need-returns Inv-loop μ-loop
-returns c = sym (ap length (row-after-empty _ _ (c .if1 .taken)))
+returns c = sym (ap length (row-after-long _ _ (c .if1 .taken)))
 
-returns-2 : tie.Need-returns-2 Inv-loop μ-loop
-returns-2 c = sym (ap length (row-after-long _ _ (c .if2 .taken)))
-
+-- src/lib.rt:83:17
 first-chars-requires : tie.Need-first-chars-requires Inv-loop μ-loop
 first-chars-requires c κs = search needs
 
-room-here-requires : tie.Need-room-here-requires Inv-loop μ-loop
-room-here-requires c κs = search needs
+-- src/lib.rt:84:9
+first-line-requires : tie.Need-first-line-requires Inv-loop μ-loop
+first-line-requires c κs = c .before .first-chars .ensures
 
-begin-requires : tie.Need-begin-requires Inv-loop μ-loop
-begin-requires c κs = search needs
-
+-- src/lib.rt:87:5
 loop-holds : tie.Need-loop-holds Inv-loop μ-loop
-loop-holds c = let b = c .begin .ensures in
-    let s = c .before .before .before .before .before .before .before .args .text .now in
-    let column = c .before .before .before .before .before .before .before .args .column in
-    let here = room-by-table s column (c .before .room-here .result) (c .before .before .before .first-chars .ensures) (λ j. omega (arith, c .before .before .before .before .before .before .shared-slice-known .given j)) (c .before .room-here .ensures) in
-    let most : c .before .room-here .result ≤ 63 = omega (arith, here, room-here-le column (cost (firstOf s))) in (
-      omega arith,
-      omega (arith, b .1, room-after-le (c .before .room-here .result) most),
-      omega (arith, b .2, length-start-after (c .before .room-here .result) most),
-      rw (b .1, b .2) (sym (length-row-after s (omega arith) column _ here)),
-    )
+loop-holds c = (c .first-line .ensures .within, c .first-line .ensures .small, c .first-line .ensures .size)
 
-next-requires : tie.Need-next-requires Inv-loop μ-loop
-next-requires c κs = (c .before .before .before .before .before .before .first-chars .ensures, c .before .loop-test .taken, c .before .before .loop .inv .1, omega arith)
+-- src/lib.rt:88:33
+sub-word-at : tie.Need-sub-word-at Inv-loop μ-loop
+sub-word-at c = omega arith
 
+-- src/lib.rt:88:33
+part-word-at-start : tie.Need-part-word-at-start Inv-loop μ-loop
+part-word-at-start c = omega arith
+
+-- src/lib.rt:88:33
+part-word-at-end : tie.Need-part-word-at-end Inv-loop μ-loop
+part-word-at-end c = omega arith
+
+-- src/lib.rt:88:13
+word-at-requires : tie.Need-word-at-requires Inv-loop μ-loop
+word-at-requires c κs = (c .before .before .before .before .before .before .first-chars .ensures, omega arith)
+
+-- src/lib.rt:89:14
+add-n : tie.Need-add-n Inv-loop μ-loop
+add-n c = omega (arith, word-at-small (c .before .word-at .ensures))
+
+-- src/lib.rt:89:9
+add-n-2 : tie.Need-add-n-2 Inv-loop μ-loop
+add-n-2 c = omega (arith, word-at-small (c .before .word-at .ensures), c .before .before .before .before .before .loop .inv .1)
+
+-- src/lib.rt:90:9
+add-i : tie.Need-add-i Inv-loop μ-loop
+add-i c = omega (arith, measured-within (c .before .before .before .before .before .before .before .before .before .before .before .before .args .text .now) (c .before .before .before .before .before .before .loop .i) (c .before .before .before .before .before .loop-test .taken) (c .before .before .word-at .ensures))
+
+-- src/lib.rt:87:5
 loop-less : tie.Need-loop-less Inv-loop μ-loop
-loop-less c = omega (arith, c .next .ensures .turned .more, c .next .ensures .turned .within)
+loop-less c = omega (arith, measured-within (c .before .before .before .before .before .before .before .before .before .before .before .before .args .text .now) (c .before .before .before .before .before .before .loop .i) (c .before .before .before .before .before .loop-test .taken) (c .before .before .word-at .ensures), measured-more (c .before .before .before .before .before .before .before .before .before .before .before .before .args .text .now) (c .before .before .before .before .before .before .loop .i) (c .before .before .before .before .before .loop-test .taken) (c .before .before .word-at .ensures))
 
+-- src/lib.rt:87:5
 loop-again : tie.Need-loop-again Inv-loop μ-loop
-loop-again c = (c .next .ensures .turned .within, c .next .ensures .turned .roomy, omega (arith, c .next .ensures .size, c .next .ensures .turned .short, c .next .ensures .turned .more), measured-on _ (c .next .ensures) (c .before .before .before .loop .inv .3))
+loop-again c = let h = c .before .before .before .before .before .loop-test .taken in (
+  measured-within (c .before .before .before .before .before .before .before .before .before .before .before .before .args .text .now) (c .before .before .before .before .before .before .loop .i) h (c .before .before .word-at .ensures),
+  omega (arith, c .before .before .before .before .before .before .loop .inv .1, word-at-small (c .before .before .word-at .ensures), measured-more (c .before .before .before .before .before .before .before .before .before .before .before .before .args .text .now) (c .before .before .before .before .before .before .loop .i) h (c .before .before .word-at .ensures)),
+  measured-on (c .before .before .before .before .before .before .before .before .before .before .before .before .args .text .now) (c .before .before .before .before .before .before .loop .i) h (c .before .before .word-at .ensures) _ _ (c .before .before .before .before .before .before .loop .inv .2),
+)
 
-add-result : tie.Need-add-result Inv-loop μ-loop
-add-result c = omega arith
-
-returns-3 : tie.Need-returns-3 Inv-loop μ-loop
-returns-3 c = rw (bounded-short _ (c .before .before .before .before .before .before .if2 .left)) (omega (arith, ap length (onwards-end (c .before .before .before .before .before .before .before .before .before .args .text .now) (c .before .loop .i) (c .before .loop .left) (c .loop-test .left))))
+-- src/lib.rt:77:1
+returns-2 : tie.Need-returns-2 Inv-loop μ-loop
+returns-2 c = rw (bounded-short _ (c .before .before .before .before .before .if1 .left)) (measured-all (c .before .before .before .before .before .before .before .args .text .now) (c .before .loop .i) _ _ (c .loop-test .left) (c .before .loop .inv .2))
 
 pub len-after-spec : {M : Type 1} → statement M
 len-after-spec =
@@ -67,13 +88,16 @@ len-after-spec =
     Inv-loop
     μ-loop
     returns
-    returns-2
     first-chars-requires
-    room-here-requires
-    begin-requires
+    first-line-requires
     loop-holds
-    next-requires
+    sub-word-at
+    part-word-at-start
+    part-word-at-end
+    word-at-requires
+    add-n
+    add-n-2
+    add-i
     loop-less
     loop-again
-    add-result
-    returns-3)
+    returns-2)

@@ -1,0 +1,88 @@
+-- Base64 as code writes it: the table of its digits, and the digits of a text from a place on. Assumes nothing.
+use mathlib.Core.Path.{_≡_, refl, sym, ap, _∙_}
+use mathlib.Core.List.{List, [], _∷_, _++_}
+use Prim.Native.Nat.{ℕ, zero, suc, _+_, _-_, _≤_, _<_, min}
+use native.Mathlib.Nat.{add-zero, zero-add, add-suc, suc-add, le-of-suc-le-suc, not-suc-le-zero}
+use native.Mathlib.Numerals.{add-one}
+use native.Mathlib.Omega.{arith}
+use lib.ListN.{length, take, drop, getD, drop-of-length-le, length-take, length-drop}
+use lib.Seq.{drop-cons, drop-drop, take-all}
+use Rattle.buffer.specs.Buffer.{overlay, Appended, AppendedCapped}
+use Rattle.buffer.specs.BufferLaws.{wrote-from, overlay-front, length-overlay}
+use Rattle.base64.specs.Base64.{digit64, quad, quadOfTwo, quadOfOne, inBase64, base64Length}
+use Rattle.base64.specs.Base64Laws.{length-base64}
+
+-- ---- a digit
+
+-- the digits of n values, from k on
+abbrev digitsFrom : ℕ → ℕ → List ℕ
+digitsFrom k zero = []
+digitsFrom k (suc n) = digit64 k ∷ digitsFrom (suc k) n
+
+-- the table of the digits
+unfoldable pub digits64 : List ℕ
+digits64 = digitsFrom 0 64
+
+digits-from : (k n j : ℕ) → j < n → getD (digitsFrom k n) j 0 ≡ digit64 (k + j)
+digits-from k zero j h = absurd (not-suc-le-zero h)
+digits-from k (suc n) zero h = ap digit64 (sym (add-zero k))
+digits-from k (suc n) (suc j) h = digits-from (suc k) n j (le-of-suc-le-suc h) ∙ ap digit64 (suc-add k j ∙ sym (add-suc k j))
+
+pub digits-at : (v : ℕ) → v < 64 → getD digits64 v 0 ≡ digit64 v
+unfolding digits64
+digits-at v h = digits-from 0 64 v h ∙ ap digit64 (zero-add v)
+
+-- ---- a text from a place on
+
+module _ (s : List ℕ) (i : ℕ) where
+  cons : i < length s → drop i s ≡ getD s i 0 ∷ drop (i + 1) s
+  cons h = rw (add-one i, drop-cons s i 0 h)
+
+  nil : length s ≤ i → drop i s ≡ []
+  nil h = drop-of-length-le s {i = i} h
+
+module _ (s : List ℕ) (i : ℕ) where
+  pub base64-quad : 3 ≤ length s - i
+      → inBase64 (drop i s) ≡ quad (getD s i 0) (getD s (i + 1) 0) (getD s (i + 1 + 1) 0) ++ inBase64 (drop (i + 1 + 1 + 1) s)
+  unfolding inBase64
+  base64-quad h = rw (cons s i (omega arith), cons s (i + 1) (omega arith), cons s (i + 1 + 1) (omega arith)) refl
+
+  pub base64-two : length s - i ≡ 2 → inBase64 (drop i s) ≡ quadOfTwo (getD s i 0) (getD s (i + 1) 0)
+  unfolding inBase64
+  base64-two h = rw (cons s i (omega arith), cons s (i + 1) (omega arith), nil s (i + 1 + 1) (omega arith)) refl
+
+  pub base64-one : length s - i ≡ 1 → inBase64 (drop i s) ≡ quadOfOne (getD s i 0)
+  unfolding inBase64
+  base64-one h = rw (cons s i (omega arith), nil s (i + 1) (omega arith)) refl
+
+  pub base64-end : length s ≤ i → inBase64 (drop i s) ≡ []
+  unfolding inBase64
+  base64-end h = rw (nil s i h) refl
+
+-- the first group and the others
+first-group : (s : List ℕ) → inBase64 s ≡ inBase64 (take (min 3 (length s)) s) ++ inBase64 (drop (min 3 (length s)) s)
+unfolding inBase64
+first-group [] = refl
+first-group (a ∷ []) = refl
+first-group (a ∷ b ∷ []) = refl
+first-group (a ∷ b ∷ c ∷ s) = let three : min 3 (length (a ∷ b ∷ c ∷ s)) ≡ 3 = omega arith in rw three refl
+
+-- a group from a place on, up to e
+module _ (s : List ℕ) (i e : ℕ) (h : i < length s) (he : e ≡ i + min 3 (length s - i)) where
+  pub group-then : inBase64 (drop i s) ≡ inBase64 (take (e - i) (drop i s)) ++ inBase64 (drop e s)
+  group-then =
+      let size : e - i ≡ min 3 (length (drop i s)) = omega (arith, length-drop i s) in
+      let past : e ≡ i + min 3 (length (drop i s)) = omega (arith, length-drop i s) in
+      rw (size, past, ← drop-drop (min 3 (length (drop i s))) i s) (first-group (drop i s))
+
+  -- it has four digits
+  pub group-length : length (inBase64 (take (e - i) (drop i s))) ≡ 4
+  group-length = length-base64 (take (e - i) (drop i s)) ∙ rw length-take (omega (arith, length-drop i s))
+
+-- a text that fills a piece, and is copied from there
+pub filled : {text piece piece′ before after : List ℕ} {n at r : ℕ} → Appended text 0 piece piece′ n → length text ≡ length piece
+    → AppendedCapped piece′ at before after r → AppendedCapped text at before after r
+filled {text} {piece} {piece′} w e a =
+    let o = wrote-from w in
+    let same : text ≡ piece′ = sym (overlay-front text piece (omega arith)) ∙ take-all (length text) (overlay text piece) (omega (arith, length-overlay text piece)) ∙ sym (o .bytes) in
+    rw same a

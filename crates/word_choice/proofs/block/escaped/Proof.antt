@@ -1,0 +1,77 @@
+use Rattle.word_choice.specs.BlockLaws.{dear, bit, count, count-none, count-next, count-all}
+use borrow.Author.Needs.{needs}
+use native.Mathlib.Omega.{arith}
+use lib.ListN.{length, take}
+use Prim.Native.Nat.{ℕ, _-_, _≤_}
+use mathlib.Core.Bool.{Bool, not}
+use mathlib.Core.Path.{_≡_, sym, ap, _∙_}
+use Rattle.word_choice.proofs.block.escaped.Statement.{statement}
+use Rattle.word_choice.proofs.block.escaped.Tie as tie
+use Rattle.word_choice.proofs.block.escaped.Reads as reads
+use Rattle.word_choice.proofs.block.escaped.Lts as lts
+use Rattle.word_choice.proofs.block.one_if.Reads as one-if-reads
+use Rattle.word_choice.proofs.block.single.Reads as single-reads
+use Rattle.word_choice.proofs.block.wide.Reads as wide-reads
+
+abbrev Inv-loop : tie.InvT-loop
+Inv-loop s n₀ k₀ n k = (n ≡ count dear (take k s)) × (n ≤ k) × (k ≤ length s)
+
+abbrev μ-loop : tie.MeasureT-loop
+μ-loop s n₀ k₀ n k = length s - k
+
+-- src/block.rt:66:5
+loop-holds : tie.Need-loop-holds Inv-loop μ-loop
+loop-holds c = (count-none dear (c .before .args .s .now), omega arith, omega arith)
+
+-- src/block.rt:67:29
+shared-slice-read-single : tie.Need-shared-slice-read-single Inv-loop μ-loop
+shared-slice-read-single c = omega arith
+
+-- src/block.rt:67:22
+single-requires : tie.Need-single-requires Inv-loop μ-loop
+single-requires c κs = search needs
+
+-- src/block.rt:67:14
+one-if-requires : tie.Need-one-if-requires Inv-loop μ-loop
+one-if-requires c κs = search needs
+
+-- src/block.rt:67:9
+add-n : tie.Need-add-n Inv-loop μ-loop
+add-n c = omega (arith, c .one-if .ensures .1, c .before .before .before .before .loop .inv .1, c .before .before .before .loop-test .taken, c .before .before .before .before .before .before .pre)
+
+-- src/block.rt:68:9
+add-k : tie.Need-add-k Inv-loop μ-loop
+add-k c = omega arith
+
+-- src/block.rt:66:5
+loop-less : tie.Need-loop-less Inv-loop μ-loop
+loop-less c = omega arith
+
+-- src/block.rt:66:5
+loop-again : tie.Need-loop-again Inv-loop μ-loop
+loop-again c = (count-next dear (c .before .before .before .before .before .before .args .s .now) (c .before .before .before .before .loop .k) _ _ (c .before .before .before .loop-test .taken) (c .before .before .before .before .loop .inv .0) (c .one-if .ensures .0 ∙ ap (λ (t : Bool). bit (not t)) (c .before .single .ensures)), omega (arith, c .one-if .ensures .1), omega arith)
+
+-- src/block.rt:70:5
+wide-requires : tie.Need-wide-requires Inv-loop μ-loop
+wide-requires c κs = search needs
+
+-- src/block.rt:60:1
+returns : tie.Need-returns Inv-loop μ-loop
+returns c = (c .wide .ensures ∙ count-all dear (c .before .before .before .before .args .s .now) (c .before .before .loop .k) _ (c .before .loop-test .left) (c .before .before .loop .inv .0), omega (arith, c .wide .ensures, c .before .before .loop .inv .1, c .before .before .before .before .pre))
+
+pub escaped-spec : {M : Type 1} → statement M
+escaped-spec =
+    tie.close
+    (tie.spec
+    Inv-loop
+    μ-loop
+    loop-holds
+    shared-slice-read-single
+    single-requires
+    one-if-requires
+    add-n
+    add-k
+    loop-less
+    loop-again
+    wide-requires
+    returns)

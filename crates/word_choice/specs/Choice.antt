@@ -1,0 +1,20 @@
+-- Which encoding the word at the front of a text takes: "Each word takes the encoding that holds more whole characters in its room, Q when
+-- equal." Assumes nothing.
+use mathlib.Core.List.{List}
+use Prim.Native.Nat.{ℕ}
+use lib.Dec.{T}
+use lib.ListN.{take}
+use Rattle.row.specs.declared.Encoding.the-variants.{Q, B}
+use Rattle.row.specs.Row.{holds}
+use Rattle.row.specs.WordEnd.{Span, WordEnd}
+use Rattle.word_choice.specs.declared.Choice.{Choice}
+use Rattle.word_choice.specs.declared.Choice.the-variants.{InQ, InB}
+
+-- whatever whole characters a word in B holds, one in Q holds too
+pub record AlsoInQ (room : ℕ) (s : List ℕ) : Type 0 where
+  pub also : (e : ℕ) → Span s 0 e → T (holds room (take e s) B) → T (holds room (take e s) Q)
+
+-- in Q where B holds no more; in B the word of the row ends at place e
+abbrev pub Chosen : ℕ → List ℕ → Choice → Type 0
+Chosen room s InQ = AlsoInQ room s
+Chosen room s (InB e) = WordEnd room s 0 e B

@@ -1,0 +1,5 @@
+pub mod Choice
+pub mod BlockLaws
+pub mod ChoiceLaws
+pub mod RegularLaws
+pub mod EndInQLaws
