@@ -1,0 +1,2 @@
+pub mod UndisclosedRecipients
+pub mod UndisclosedRecipientsLaws
