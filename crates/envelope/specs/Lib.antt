@@ -10,5 +10,4 @@ pub mod AsciiLaws
 pub mod ReplacementLaws
 pub mod EnvelopeDemand
 pub mod EnvelopeDemandLaws
-pub mod FirstLineLaws
 pub mod EnvelopeCases

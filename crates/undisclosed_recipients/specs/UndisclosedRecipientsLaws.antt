@@ -9,7 +9,7 @@ use Rattle.lists.specs.ListsLaws.{cond-has}
 use Rattle.rules.specs.declared.Rules.{Rules}
 use Rattle.envelope.specs.Envelope.{mailReplacement, rcptReplacement}
 use Rattle.envelope.specs.EnvelopeDemand.{eachEnded}
-use Rattle.envelope.specs.FirstLineLaws.{same-mail, several-rcpts}
+use Rattle.undisclosed_recipients.specs.FirstLineLaws.{same-mail, several-rcpts}
 use Rattle.call.specs.OutgoingHeader.{newFields, outgoingSegments, outgoingHeader}
 use Rattle.call.specs.Outcome.{Outcome, outcome}
 use Rattle.batch.specs.Batch.{Batch, pastEnd, rangeRefused, rangeOutcome, recordOutcome, batch}

@@ -1,6 +1,7 @@
 // That no recipient learns of another: specs/UndisclosedRecipients.antt states it, and here the exported calls are checked against it.
 ghost use Rattle.call.specs.Outcome.{observed};
-ghost use Rattle.undisclosed_recipients.specs.UndisclosedRecipients.{Undisclosed};
+ghost use Rattle.batch.specs.Batch.{afterwards};
+ghost use Rattle.undisclosed_recipients.specs.UndisclosedRecipients.{Undisclosed, UndisclosedRecords};
 use call::Answer;
 
 // What two calls answer.
@@ -9,7 +10,7 @@ pub struct Answers {
     pub second: Answer,
 }
 
-// Two exported calls with one header and one setting, for two envelopes, each into buffers of its own.
+// The exported call for two envelopes with one header and one setting, each into buffers of its own.
 pub fn downgrade_both(
     setting: u64,
     first: &[u8],
@@ -22,10 +23,27 @@ pub fn downgrade_both(
 ) -> Answers
     ensures { λ r. ⌜ Undisclosed (now (first .entry)) (now (second .entry)) (observed (r .first) (now («first_envelope» .exit)) (now («first_header» .exit))) (observed (r .second) (now («second_envelope» .exit)) (now («second_header» .exit))) ⌝ }
 {
-    let a = hennelaku::hennelaku_downgrade_slices(setting, first, header, first_envelope, first_header);
-    let b = hennelaku::hennelaku_downgrade_slices(setting, second, header, second_envelope, second_header);
     Answers {
-        first: a,
-        second: b,
+        first: hennelaku::hennelaku_downgrade_slices(setting, first, header, first_envelope, first_header),
+        second: hennelaku::hennelaku_downgrade_slices(setting, second, header, second_envelope, second_header),
     }
+}
+
+// The exported call for a batch, of which any two records may be taken.
+pub fn downgrade_batch(
+    setting: u64,
+    input: &[u8],
+    records: &mut [u32],
+    envelope_buffer: &mut [u8],
+    header_buffer: &mut [u8],
+)
+    ensures { λ _. ⌜ UndisclosedRecords (now (input .entry)) (now (records .entry)) (afterwards (now (records .exit)) (now («envelope_buffer» .exit)) (now («header_buffer» .exit))) (now (input .entry)) (now (records .entry)) (afterwards (now (records .exit)) (now («envelope_buffer» .exit)) (now («header_buffer» .exit))) ⌝ }
+{
+    hennelaku::hennelaku_downgrade_batch_slices(
+        setting,
+        input,
+        records,
+        envelope_buffer,
+        header_buffer,
+    )
 }
