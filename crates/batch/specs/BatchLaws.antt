@@ -6,7 +6,9 @@ use Prim.Native.Nat.{ℕ, suc, _+_, _-_, _/_, _≤_, _<_}
 use native.Mathlib.Omega.{arith}
 use lib.ListN.{length, take, drop, getD, length-append, length-take, length-drop, drop-of-length-le, take-append-drop}
 use lib.Seq.{sets, sets-eq, take-all, take-at, drop-at, take-append-add, drop-append-add}
-use Rattle.lists.specs.ListsLaws.{cond-has}
+use lib.Dec.{ltb}
+use mir.Facts.{ltb-yes, ltb-no}
+use Rattle.lists.specs.ListsLaws.{by-test, cond-has, yes-true, no-false}
 use Rattle.rules.specs.declared.Rules.{Rules}
 use Rattle.call.specs.declared.Answer.{Answer}
 use Rattle.call.specs.Outcome.{Outcome, outcome, observed}
@@ -30,6 +32,26 @@ module _ (rules : Rules) (input : List ℕ) (start₁ len₁ start₂ len₂ : �
       → o ≡ rangeOutcome rules input start₁ len₁ start₂ len₂ b c
   unfolding rangeOutcome
   in-range t x y z = rw (← past₁, ← past₂, t, ← x, ← y) z
+
+-- by cases on both ranges
+pub by-range : {X : Type 0} (rules : Rules) (input : List ℕ) (start₁ len₁ start₂ len₂ : ℕ) (b c : List ℕ)
+    → (length input < start₁ + len₁ → rangeOutcome rules input start₁ len₁ start₂ len₂ b c ≡ rangeRefused b c → X)
+    → (length input < start₂ + len₂ → rangeOutcome rules input start₁ len₁ start₂ len₂ b c ≡ rangeRefused b c → X)
+    → (start₁ + len₁ ≤ length input → start₂ + len₂ ≤ length input
+    → rangeOutcome rules input start₁ len₁ start₂ len₂ b c ≡ outcome rules (range input start₁ len₁) (range input start₂ len₂) b c → X)
+    → X
+unfolding pastEnd rangeOutcome
+by-range rules input start₁ len₁ start₂ len₂ b c f g h =
+    by-test (ltb (length input) (start₁ + len₁))
+    (λ t. f (ltb-yes {a = length input} {b = start₁ + len₁} t) (rw (yes-true (ltb (length input) (start₁ + len₁)) t)))
+    (λ t.
+    by-test (ltb (length input) (start₂ + len₂))
+    (λ u.
+    g (ltb-yes {a = length input} {b = start₂ + len₂} u)
+    (rw (no-false (ltb (length input) (start₁ + len₁)) t, yes-true (ltb (length input) (start₂ + len₂)) u)))
+    (λ u.
+    h (ltb-no {a = length input} {b = start₁ + len₁} t) (ltb-no {a = length input} {b = start₂ + len₂} u)
+    (rw (no-false (ltb (length input) (start₁ + len₁)) t, no-false (ltb (length input) (start₂ + len₂)) u))))
 
 pub range-bounded : (rules : Rules) (input : List ℕ) (start₁ len₁ start₂ len₂ : ℕ) (b c : List ℕ) → Bounded b c (rangeOutcome rules input start₁ len₁ start₂ len₂ b c)
 unfolding rangeOutcome rangeRefused

@@ -3,3 +3,5 @@ pub mod DemandsLaws
 pub mod DeterminedLaws
 pub mod RoomLaws
 pub mod EnvelopeRoomLaws
+pub mod BatchDemands
+pub mod BatchDemandsLaws

@@ -1,7 +1,10 @@
-// The three demands on the exported call: specs/Demands.antt states them, and here the call is checked against them.
+// The three demands on the exported calls: specs/Demands.antt and specs/BatchDemands.antt state them, and here the calls are checked against
+// them.
 ghost use Rattle.call.specs.Outcome.{observed};
 ghost use Rattle.rules.specs.Rules.{settingRules};
+ghost use Rattle.batch.specs.Batch.{afterwards};
 ghost use Rattle.demands.specs.Demands.{Demands};
+ghost use Rattle.demands.specs.BatchDemands.{BatchDemands};
 use call::Answer;
 
 // The exported call: what it answers and leaves meets the three demands.
@@ -15,4 +18,23 @@ pub fn downgrade(
     ensures { λ r. ⌜ Demands (settingRules setting) (now (envelope .entry)) (now (header .entry)) (now («envelope_buffer» .entry)) (now («header_buffer» .entry)) (observed r (now («envelope_buffer» .exit)) (now («header_buffer» .exit))) ⌝ }
 {
     hennelaku::hennelaku_downgrade_slices(setting, envelope, header, envelope_buffer, header_buffer)
+}
+
+// The exported call for a batch: what it leaves meets the demands on each record, and on the records and both buffers.
+pub fn downgrade_batch(
+    setting: u64,
+    input: &[u8],
+    records: &mut [u32],
+    envelope_buffer: &mut [u8],
+    header_buffer: &mut [u8],
+)
+    ensures { λ _. ⌜ BatchDemands (settingRules setting) (now (input .entry)) (now (records .entry)) (now («envelope_buffer» .entry)) (now («header_buffer» .entry)) (afterwards (now (records .exit)) (now («envelope_buffer» .exit)) (now («header_buffer» .exit))) ⌝ }
+{
+    hennelaku::hennelaku_downgrade_batch_slices(
+        setting,
+        input,
+        records,
+        envelope_buffer,
+        header_buffer,
+    )
 }

@@ -2,6 +2,7 @@
 ghost use mathlib.Core.Path.{_≡_};
 ghost use Rattle.call.specs.Outcome.{observed, outcome};
 ghost use Rattle.rules.specs.Rules.{settingRules};
+ghost use Rattle.batch.specs.Batch.{batch, afterwards};
 ghost use Rattle.hennelaku.specs.Version.{version};
 use call::Answer;
 
@@ -19,6 +20,23 @@ pub extern "C" fn hennelaku_downgrade_slices(
 {
     let rules = rules::of_setting(setting);
     call::downgrade(rules, envelope, header, envelope_buffer, header_buffer)
+}
+
+// Downgrades the envelopes and headers of a batch, one after another: `records` has nine numbers for each, start and length of its envelope and
+// of its header in the input, and five that are filled: number, place, offset, and the lengths of its outputs, which stand one after another
+// in the two buffers. One setting serves them all.
+#[no_mangle]
+pub extern "C" fn hennelaku_downgrade_batch_slices(
+    setting: u64,
+    input: &[u8],
+    records: &mut [u32],
+    envelope_buffer: &mut [u8],
+    header_buffer: &mut [u8],
+)
+    ensures { λ _. ⌜ afterwards (now (records .exit)) (now («envelope_buffer» .exit)) (now («header_buffer» .exit)) ≡ batch (settingRules setting) (now (input .entry)) (now (records .entry)) (now («envelope_buffer» .entry)) (now («header_buffer» .entry)) ⌝ }
+{
+    let rules = rules::of_setting(setting);
+    batch::downgrade(rules, input, records, envelope_buffer, header_buffer)
 }
 
 // The version of the library.

@@ -1,0 +1,37 @@
+use Rattle.demands.specs.BatchDemandsLaws.{batch-met}
+use borrow.Author.Needs.{needs}
+use Rattle.demands.proofs.downgrade_batch.Statement.{statement}
+use Rattle.demands.proofs.downgrade_batch.Tie as tie
+use Rattle.demands.proofs.downgrade_batch.Reads as reads
+use Rattle.demands.proofs.downgrade_batch.Lts as lts
+use Rattle.hennelaku.proofs.hennelaku_downgrade_batch_slices.Reads as hennelaku-downgrade-batch-slices-reads
+
+-- src/lib.rt:33:5
+hennelaku-downgrade-batch-slices-requires : tie.Need-hennelaku-downgrade-batch-slices-requires
+hennelaku-downgrade-batch-slices-requires c κs = search needs
+
+-- src/lib.rt:24:1
+same-length : tie.Need-same-length
+same-length c = search needs
+
+-- src/lib.rt:24:1
+same-length-2 : tie.Need-same-length-2
+same-length-2 c = search needs
+
+-- src/lib.rt:24:1
+same-length-3 : tie.Need-same-length-3
+same-length-3 c = search needs
+
+-- src/lib.rt:24:1
+returns : tie.Need-returns
+returns c = batch-met (c .before .before .before .before .before .before .hennelaku-downgrade-batch-slices .ensures)
+
+pub downgrade-batch-spec : {M : Type 1} → statement M
+downgrade-batch-spec =
+    tie.close
+    (tie.spec
+    hennelaku-downgrade-batch-slices-requires
+    same-length
+    same-length-2
+    same-length-3
+    returns)
