@@ -38,7 +38,9 @@ fn downgrade_ranges(
 ) -> Answer
     ensures { λ r. ⌜ observed r (now («envelope_buffer» .exit)) (now («header_buffer» .exit)) ≡ rangeOutcome rules (now (input .entry)) «envelope_start» «envelope_len» «header_start» «header_len» (now («envelope_buffer» .entry)) (now («header_buffer» .entry)) ⌝ }
 {
-    if is_past_end(input, envelope_start, envelope_len) | is_past_end(input, header_start, header_len) {
+    if is_past_end(input, envelope_start, envelope_len)
+        | is_past_end(input, header_start, header_len)
+    {
         return Answer {
             number: 9,
             input: 0,

@@ -255,8 +255,7 @@ module _ (rules : Rules) (e h : List ℕ) (p : Passes rules e h) where
   nothing-replaced : T (not (allowsAlternative rules)) → (written e ≡ e) × (newFields e ≡ [])
   unfolding newFields newField
   nothing-replaced n =
-      let q = p .orcpt .header .envelope in
-      (
+      let q = p .orcpt .header .envelope in (
         envelope-kept n (envelope-written rules e (q .recipients) (q .lines)),
         rw (mail-replacement-none rules e (q .recipients) (q .lines) n, rcpt-replacement-none rules e (q .recipients) (q .lines) n),
       )

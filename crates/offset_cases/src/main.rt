@@ -41,7 +41,12 @@ fn show_line(line: &[u8]) {
     let n = case_line::undo(&mut envelope, case_line::column(line, 1));
     let m = case_line::undo(&mut header, case_line::column(line, 2));
     let setting = case_line::number(case_line::column(line, 3));
-    show(case_line::column(line, 0), setting, &envelope[..n], &header[..m]);
+    show(
+        case_line::column(line, 0),
+        setting,
+        &envelope[..n],
+        &header[..m],
+    );
 }
 
 fn show_lines(cases: &[u8]) {

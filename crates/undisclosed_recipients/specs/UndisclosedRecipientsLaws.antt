@@ -91,6 +91,15 @@ undisclosed-records rules input records b c input′ records′ b′ c′ = reco
       let sender : SameSender (envelopeOf input records k) (envelopeOf input′ records′ l) = rw (x .envelope, y .envelope) s in
       let one : headerOf input records k ≡ headerOf input′ records′ l = x .header ∙ sym (y .header) in
       let same = undisclosed rules (envelopeOf input records k) (envelopeOf input′ records′ l) (headerOf input records k) (o .b) (o .c) (p .b) (p .c) .same sender (o .number)
-          (rw one (p .number)) in
+      (rw one (p .number)) in
       (o .len ∙ same .len ∙ rw one (sym (p .len)), o .bytes ∙ same .bytes ∙ rw one (sym (p .bytes)));
 }
+
+-- ---- of whatever the calls leave
+
+module _ (rules : Rules) where
+  pub undisclosed-by : (e f h b c b′ c′ : List ℕ) {o p : Outcome} → o ≡ outcome rules e h b c → p ≡ outcome rules f h b′ c′ → Undisclosed e f o p
+  undisclosed-by e f h b c b′ c′ q r = rw (q, r) (undisclosed rules e f h b c b′ c′)
+
+  pub records-undisclosed-by : (input records b c : List ℕ) {o : Batch} → o ≡ batch rules input records b c → UndisclosedRecords input records o input records o
+  records-undisclosed-by input records b c q = rw q (undisclosed-records rules input records b c input records b c)

@@ -24,8 +24,20 @@ pub fn downgrade_both(
     ensures { λ r. ⌜ Undisclosed (now (first .entry)) (now (second .entry)) (observed (r .first) (now («first_envelope» .exit)) (now («first_header» .exit))) (observed (r .second) (now («second_envelope» .exit)) (now («second_header» .exit))) ⌝ }
 {
     Answers {
-        first: hennelaku::hennelaku_downgrade_slices(setting, first, header, first_envelope, first_header),
-        second: hennelaku::hennelaku_downgrade_slices(setting, second, header, second_envelope, second_header),
+        first: hennelaku::hennelaku_downgrade_slices(
+            setting,
+            first,
+            header,
+            first_envelope,
+            first_header,
+        ),
+        second: hennelaku::hennelaku_downgrade_slices(
+            setting,
+            second,
+            header,
+            second_envelope,
+            second_header,
+        ),
     }
 }
 
