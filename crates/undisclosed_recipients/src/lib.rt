@@ -3,6 +3,7 @@ ghost use Rattle.call.specs.Outcome.{observed};
 ghost use Rattle.batch.specs.Batch.{afterwards};
 ghost use Rattle.undisclosed_recipients.specs.UndisclosedRecipients.{Undisclosed, UndisclosedRecords};
 use call::Answer;
+use hennelaku::hennelaku_downgrade_slices as downgrade;
 
 // What two calls answer.
 pub struct Answers {
@@ -24,20 +25,8 @@ pub fn downgrade_both(
     ensures { λ r. ⌜ Undisclosed (now (first .entry)) (now (second .entry)) (observed (r .first) (now («first_envelope» .exit)) (now («first_header» .exit))) (observed (r .second) (now («second_envelope» .exit)) (now («second_header» .exit))) ⌝ }
 {
     Answers {
-        first: hennelaku::hennelaku_downgrade_slices(
-            setting,
-            first,
-            header,
-            first_envelope,
-            first_header,
-        ),
-        second: hennelaku::hennelaku_downgrade_slices(
-            setting,
-            second,
-            header,
-            second_envelope,
-            second_header,
-        ),
+        first: downgrade(setting, first, header, first_envelope, first_header),
+        second: downgrade(setting, second, header, second_envelope, second_header),
     }
 }
 
