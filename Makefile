@@ -9,11 +9,12 @@
 # make model        the Rust model's own tests (rust/README.md)
 # make fuzz         proved call against the Rust model; SECONDS=, SEED=
 # make fuzz-batch   the same for the batch call
+# make fuzz-pairs   headers for recipients that must not show
 # make bench        times of both
 # make clean        removes target/ and dist/
 #
 # All that is proved needs the Rattle kit (rt); relay and relay-test a C
-# compiler; model, fuzz, fuzz-batch and bench cargo.
+# compiler; model, bench and what begins with fuzz cargo.
 
 IN = examples/bulletin.txt
 PREFIX = /usr/local
@@ -24,7 +25,7 @@ INSTALL = install
 CARGO = cd rust && HENNELAKU_LIB_DIR=$(CURDIR)/dist cargo
 CODE := crates.txt $(shell find crates -name '*.rt')
 
-.PHONY: test quick run try lib install relay relay-test model fuzz fuzz-batch bench clean
+.PHONY: test quick run try lib install relay relay-test model fuzz fuzz-batch fuzz-pairs bench clean
 
 test:
 	.ci/run
@@ -71,7 +72,7 @@ relay-test: lib
 model:
 	$(CARGO) test --release --offline --quiet
 
-fuzz fuzz-batch: lib
+fuzz fuzz-batch fuzz-pairs: lib
 	$(CARGO) run --release --offline --quiet --features proved --bin $@ -- $(if $(SEED),--seed $(SEED)) $(if $(SECONDS),--seconds $(SECONDS))
 
 bench: lib
