@@ -14,6 +14,7 @@
 # make model        the Rust model's own tests (rust/README.md)
 # make fuzz         proved call against the Rust model; SECONDS=, SEED=
 # make fuzz-batch   the same for the batch call
+# make fuzz-pairs   headers for recipients that must not show
 # make bench        times of both
 # make clean        removes target/ and dist/
 #
@@ -36,7 +37,7 @@ CARGO = cd rust && HENNELAKU_LIB_DIR=$(CURDIR)/dist cargo
 CODE := crates.txt $(shell find crates -name '*.rt')
 INSTALLING = PREFIX='$(PREFIX)' LIBDIR='$(LIBDIR)' DESTDIR='$(DESTDIR)' VERSION='$(VERSION)' lib/install
 
-.PHONY: test quick run try lib lib-test install uninstall dist relay relay-test pipe-test interop model fuzz fuzz-batch bench clean
+.PHONY: test quick run try lib lib-test install uninstall dist relay relay-test pipe-test interop model fuzz fuzz-batch fuzz-pairs bench clean
 
 test:
 	.ci/run
@@ -115,7 +116,7 @@ interop: lib
 model:
 	$(CARGO) test --release --offline --quiet
 
-fuzz fuzz-batch: lib
+fuzz fuzz-batch fuzz-pairs: lib
 	$(CARGO) run --release --offline --quiet --features proved --bin $@ -- $(if $(SEED),--seed $(SEED)) $(if $(SECONDS),--seconds $(SECONDS))
 
 bench: lib

@@ -377,6 +377,41 @@ pub fn envelope(r: &mut Random) -> Vec<u8> {
     out
 }
 
+/// A good line, mostly one that is not refused for what it has of alternatives.
+fn good_line(r: &mut Random, out: &mut Vec<u8>, mail: bool, setting: u64) {
+    let start = out.len();
+    let any = r.once_in(40);
+    loop {
+        envelope_line(r, out, mail, false);
+        let line = out[start..].to_ascii_lowercase();
+        let alternative = line.windows(12).any(|part| part == b"alt-address=");
+        if setting == 0 || any || !alternative {
+            return;
+        }
+        out.truncate(start);
+    }
+}
+
+/// Two envelopes with the same MAIL line, each with two or more RCPT lines; now and then some of these are the same.
+pub fn envelope_pair(r: &mut Random, setting: u64) -> (Vec<u8>, Vec<u8>) {
+    let mut one = Vec::new();
+    good_line(r, &mut one, true, setting);
+    let mut other = one.clone();
+    let mut shared = Vec::new();
+    good_line(r, &mut shared, false, setting);
+    for envelope in [&mut one, &mut other] {
+        let lines = if r.once_in(60) { r.from(90, 100) } else { r.from(2, 5) };
+        for _ in 0..lines {
+            if r.once_in(4) || (lines > 10 && !r.once_in(20)) {
+                envelope.extend_from_slice(&shared);
+            } else {
+                good_line(r, envelope, false, setting);
+            }
+        }
+    }
+    (one, other)
+}
+
 /// A short line in which every place of the grammar is about as likely.
 fn short_line(r: &mut Random, out: &mut Vec<u8>, mail: bool) {
     in_any_case(r, out, if mail { "MAIL FROM:<" } else { "RCPT TO:<" });

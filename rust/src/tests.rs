@@ -2094,3 +2094,38 @@ fn last_part_of_a_record() {
         }
     }
 }
+
+// No recipient learns of another
+
+/// The header that is written for a message.
+fn header_for(setting: u64, envelope: &str, header: &str) -> String {
+    let (answer, _, out) = call_set(setting, envelope.as_bytes(), header.as_bytes());
+    assert_eq!(answer.number, 0, "{envelope}");
+    out
+}
+
+#[test]
+fn recipients_do_not_show() {
+    let mail = "MAIL FROM:<é@x> ALT-ADDRESS=e@x\r\n";
+    let header = "To: <é@x <a@b>>, é@y\r\nSubject: é\r\nReceived: x for <é@x>\r\n";
+    let (one, two) = ("RCPT TO:<ά@y> ALT-ADDRESS=a@y\r\n", "RCPT TO:<b@y> X=1\r\n");
+    let want = header_for(0, &(mail.to_string() + one + two), header);
+    for recipients in [[two, two].concat(), [one, one, one].concat(), [two, one].concat(), two.repeat(100)] {
+        assert_eq!(header_for(0, &(mail.to_string() + &recipients), header), want);
+    }
+    // [14.4]: each premise is needed. One RCPT line, another MAIL line, another setting.
+    assert_ne!(header_for(0, &(mail.to_string() + one), header), want);
+    let other = header_for(0, &(mail.to_string() + "RCPT TO:<ά@y> ALT-ADDRESS=c@y\r\n"), header);
+    assert_ne!(header_for(0, &(mail.to_string() + one), header), other);
+    assert_ne!(header_for(0, &("MAIL FROM:<é@x> ALT-ADDRESS=f@x\r\n".to_string() + one + two), header), want);
+    let ascii = MAIL.to_string() + two + two;
+    assert_ne!(header_for(0, &ascii, header), header_for(1, &ascii, header));
+    // [14.3]: two records of one batch, their header bytes at the sum of the earlier header lengths.
+    let (first, second) = (mail.to_string() + one + two, mail.to_string() + two + two + two);
+    let (input, at) = laid_out(&[&first, header, &second, GOOD_ENVELOPE]);
+    let (fives, _, headers) = batch(0, &input, &[(at[0], at[1]), (at[3], at[1]), (at[2], at[1])], (1000, 5000));
+    let start = (fives[0][4] + fives[1][4]) as usize;
+    assert_eq!(fives.iter().map(|five| five[0]).collect::<Vec<_>>(), [0, 0, 0]);
+    assert_eq!(headers[..fives[0][4] as usize], want);
+    assert_eq!(headers[start..], want);
+}

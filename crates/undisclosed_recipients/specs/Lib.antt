@@ -1,0 +1,3 @@
+pub mod UndisclosedRecipients
+pub mod FirstLineLaws
+pub mod UndisclosedRecipientsLaws
