@@ -12,7 +12,7 @@ use Rattle.lists.specs.ListsLaws.{by-test, cond-has, yes-true, no-false}
 use Rattle.rules.specs.declared.Rules.{Rules}
 use Rattle.call.specs.declared.Answer.{Answer}
 use Rattle.call.specs.Outcome.{Outcome, outcome, observed}
-use Rattle.call.specs.BoundLaws.{greatest32, Bounded, outcome-bounded}
+use Rattle.call.specs.BoundLaws.{greatest32, Bounded, outcome-bounded, refused-bounded}
 use Rattle.batch.specs.Batch.{pastEnd, range, rangeRefused, rangeOutcome, recordOutcome, answers, Batch, batchOf, batch, afterwards}
 
 -- ---- a record
@@ -57,20 +57,7 @@ pub range-bounded : (rules : Rules) (input : List ℕ) (start₁ len₁ start₂
 unfolding rangeOutcome rangeRefused
 range-bounded rules input start₁ len₁ start₂ len₂ b c =
     cond-has (Bounded b c) (pastEnd input start₁ len₁ || pastEnd input start₂ len₂) (rangeRefused b c) (outcome rules (range input start₁ len₁) (range input start₂ len₂) b c)
-    (λ t. record {
-      number = omega arith;
-      place = omega arith;
-      offset = omega arith;
-      envelope-len = omega arith;
-      header-len = omega arith;
-      room₁ = omega arith;
-      room₂ = omega arith;
-      size₁ = refl;
-      size₂ = refl;
-      past₁ = refl;
-      past₂ = refl;
-      refused = λ z. (refl, refl);
-    })
+    (λ t. refused-bounded 9 0 0 0 b c (omega arith) (omega arith) (omega arith))
     (λ t. outcome-bounded rules (range input start₁ len₁) (range input start₂ len₂) b c)
 
 pub record-bounded : (rules : Rules) (input records b c : List ℕ) → Bounded b c (recordOutcome rules input records b c)

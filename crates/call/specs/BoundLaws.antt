@@ -39,7 +39,7 @@ use Rattle.call.specs.declared.Refusal.the-variants.{EnvelopeOver, Heade
 use Rattle.call.specs.declared.Verdict.{Verdict}
 use Rattle.call.specs.declared.Verdict.the-variants.{Accept, Refuse}
 use Rattle.call.specs.OutgoingHeader.{outgoingHeader}
-use Rattle.call.specs.Outcome.{numberOf, placeOf, offsetOf, over, ofEnvelope, ofLines, ofOrcpt, ofHeld, firstOf, verdict, Outcome, outcomeOf, outcome}
+use Rattle.call.specs.Outcome.{numberOf, inputOf, placeOf, offsetOf, over, ofEnvelope, ofLines, ofOrcpt, ofHeld, firstOf, verdict, Outcome, outcomeOf, outcome}
 use Rattle.call.specs.OutputLaws.{over-yes, over-no, outgoing-le}
 
 -- ---- places and offsets
@@ -281,6 +281,33 @@ pub record Bounded (b c : List ℕ) (o : Outcome) : Type 0 where
   pub past₂ : drop (o .headerLen) (o .headerBuffer) ≡ drop (o .headerLen) c
   pub refused : (o .number ≡ 0 → ⊥) → (o .envelopeLen ≡ 0) × (o .headerLen ≡ 0)
 
+-- what a refusal answers and leaves
+pub refused-bounded : (number input place offset : ℕ) (b c : List ℕ) → number ≤ greatest32 → place ≤ greatest32 → offset ≤ greatest32
+    → Bounded b c (record {
+      number = number;
+      input = input;
+      place = place;
+      offset = offset;
+      envelopeLen = 0;
+      headerLen = 0;
+      envelopeBuffer = b;
+      headerBuffer = c;
+    })
+refused-bounded number input place offset b c n p o = record {
+  number = n;
+  place = p;
+  offset = o;
+  envelope-len = omega arith;
+  header-len = omega arith;
+  room₁ = omega arith;
+  room₂ = omega arith;
+  size₁ = refl;
+  size₂ = refl;
+  past₁ = refl;
+  past₂ = refl;
+  refused = λ z. (refl, refl);
+}
+
 pub outcome-bounded : (rules : Rules) (e h b c : List ℕ) → Bounded b c (outcome rules e h b c)
 unfolding outcome outcomeOf
 outcome-bounded rules e h b c = go (verdict rules e h (length b) (length c)) (verdict-bound rules e h (length b) (length c))
@@ -300,17 +327,4 @@ outcome-bounded rules e h b c = go (verdict rules e h (length b) (length c)) (ve
       past₂ = overlay-past (outgoingHeader rules e h) c;
       refused = λ z. absurd (z refl);
     }
-    go v (small s) = record {
-      number = omega (arith, s .number);
-      place = s .place;
-      offset = s .offset;
-      envelope-len = omega arith;
-      header-len = omega arith;
-      room₁ = omega arith;
-      room₂ = omega arith;
-      size₁ = refl;
-      size₂ = refl;
-      past₁ = refl;
-      past₂ = refl;
-      refused = λ z. (refl, refl);
-    }
+    go (Refuse refusal) (small s) = refused-bounded (numberOf refusal) (inputOf refusal) (placeOf refusal) (offsetOf refusal) b c (omega (arith, s .number)) (s .place) (s .offset)
