@@ -75,7 +75,42 @@ fn put_one(digits: &[u8; 64], out: &mut [u8], at: usize, a: u8) -> usize
     fourth + 1
 }
 
-// Bytes where there is room for their digits.
+// Fifteen bytes, the third part of the most that an encoded word holds.
+fn put_quads(digits: &[u8; 64], out: &mut [u8], at: usize, bytes: &[u8]) -> usize
+    requires { ⌜ (now digits ≡ digits64) × (length (now bytes) ≡ 15) × (at + 20 ≤ length (now out)) ⌝ }
+    ensures { λ r. ⌜ Appended (inBase64 (now (bytes .entry))) at (now (out .entry)) (now (out .exit)) r ⌝ }
+{
+    let second = put_quad(digits, out, at, bytes[0], bytes[1], bytes[2]);
+    let third = put_quad(digits, out, second, bytes[3], bytes[4], bytes[5]);
+    let fourth = put_quad(digits, out, third, bytes[6], bytes[7], bytes[8]);
+    let fifth = put_quad(digits, out, fourth, bytes[9], bytes[10], bytes[11]);
+    put_quad(digits, out, fifth, bytes[12], bytes[13], bytes[14])
+}
+
+// Bytes where there is room for their digits, group by group.
+fn put_groups(digits: &[u8; 64], out: &mut [u8], at: usize, bytes: &[u8]) -> usize
+    requires { ⌜ (now digits ≡ digits64) × (at + base64Length (length (now bytes)) ≤ length (now out)) ⌝ }
+    ensures { λ r. ⌜ Appended (inBase64 (now (bytes .entry))) at (now (out .entry)) (now (out .exit)) r ⌝ }
+{
+    let mut next = at;
+    let mut i = 0;
+    while 3 <= bytes.len() - i {
+        let j = i + 1;
+        let k = j + 1;
+        next = put_quad(digits, out, next, bytes[i], bytes[j], bytes[k]);
+        i = k + 1;
+    }
+    if bytes.len() - i == 2 {
+        let j = i + 1;
+        return put_two(digits, out, next, bytes[i], bytes[j]);
+    }
+    if bytes.len() - i == 1 {
+        return put_one(digits, out, next, bytes[i]);
+    }
+    next
+}
+
+// The same, five groups at a time as long as there are as many.
 fn put_roomy(out: &mut [u8], at: usize, bytes: &[u8]) -> usize
     requires { ⌜ at + base64Length (length (now bytes)) ≤ length (now out) ⌝ }
     ensures { λ r. ⌜ Appended (inBase64 (now (bytes .entry))) at (now (out .entry)) (now (out .exit)) r ⌝ }
@@ -83,20 +118,12 @@ fn put_roomy(out: &mut [u8], at: usize, bytes: &[u8]) -> usize
     let digits = all_digits();
     let mut next = at;
     let mut i = 0;
-    while 3 <= bytes.len() - i {
-        let j = i + 1;
-        let k = j + 1;
-        next = put_quad(&digits, out, next, bytes[i], bytes[j], bytes[k]);
-        i = k + 1;
+    while 15 <= bytes.len() - i {
+        let e = i + 15;
+        next = put_quads(&digits, out, next, &bytes[i..e]);
+        i = e;
     }
-    if bytes.len() - i == 2 {
-        let j = i + 1;
-        return put_two(&digits, out, next, bytes[i], bytes[j]);
-    }
-    if bytes.len() - i == 1 {
-        return put_one(&digits, out, next, bytes[i]);
-    }
-    next
+    put_groups(&digits, out, next, &bytes[i..])
 }
 
 // Bytes as far as their digits fit: each group of three is written beside the buffer, and then copied.
