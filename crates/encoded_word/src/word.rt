@@ -79,12 +79,12 @@ pub(crate) fn put_word(first: &[u8; 256], out: &mut [u8], at: usize, room: usize
     requires { ⌜ (now first ≡ firstChars) × (room ≤ 63) × (at + 75 ≤ length (now out)) ⌝ }
     ensures { λ r. ⌜ PutWord room (now (s .entry)) at (now (out .entry)) (now (out .exit)) (r .end) (r .at) ⌝ }
 {
-    if word_choice::surely_in_q(s, room) {
-        return put_word_in_q(first, out, at, room, s);
+    if word_choice::surely_in_q(&s[..], room) {
+        return put_word_in_q(first, out, at, room, &s[..]);
     }
-    let choice = word_choice::choose(s, room);
+    let choice = word_choice::choose(&s[..], room);
     match choice {
-        Choice::InQ => put_word_in_q(first, out, at, room, s),
+        Choice::InQ => put_word_in_q(first, out, at, room, &s[..]),
         Choice::InB(e) => Put {
             end: e,
             at: put_word_in_b(out, at, &s[0..e]),
