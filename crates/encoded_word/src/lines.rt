@@ -50,12 +50,7 @@ pub(crate) fn add_first(out: &mut [u8], column: usize, text: &[u8]) -> Put
 }
 
 // Lines from the place `begin` of the text on, as long as the buffer has room for the next whatever it is.
-pub(crate) fn put_lines(
-    out: &mut [u8],
-    start: usize,
-    text: &[u8],
-    begin: usize,
-) -> Put
+pub(crate) fn put_lines(out: &mut [u8], start: usize, text: &[u8], begin: usize) -> Put
     requires { ⌜ begin ≤ length (now text) ⌝ }
     ensures { λ r. ⌜ Ran (now (text .entry)) begin start (now (out .entry)) (now (out .exit)) (r .end) (r .at) ⌝ }
 {
@@ -73,12 +68,7 @@ pub(crate) fn put_lines(
 }
 
 // Lines from the place `begin` of the text on, clipped: each is written beside the buffer, and then copied as far as it fits.
-pub(crate) fn add_lines(
-    out: &mut [u8],
-    start: usize,
-    text: &[u8],
-    begin: usize,
-) -> usize
+pub(crate) fn add_lines(out: &mut [u8], start: usize, text: &[u8], begin: usize) -> usize
     requires { ⌜ begin ≤ length (now text) ⌝ }
     ensures { λ r. ⌜ AppendedCapped (row (drop begin (now (text .entry)))) start (now (out .entry)) (now (out .exit)) r ⌝ }
 {
