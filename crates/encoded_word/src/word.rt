@@ -74,7 +74,7 @@ fn put_word_in_b(out: &mut [u8], at: usize, bytes: &[u8]) -> usize
     put_closing(out, after)
 }
 
-// The word at the front of a text.
+// The word at the front of a text, which is lent anew to be handed on (docs/ARCHITECTURE.md, Speed).
 pub(crate) fn put_word(out: &mut [u8], at: usize, room: usize, s: &[u8]) -> Put
     requires { ⌜ (room ≤ 63) × (at + 75 ≤ length (now out)) ⌝ }
     ensures { λ r. ⌜ PutWord room (now (s .entry)) at (now (out .entry)) (now (out .exit)) (r .end) (r .at) ⌝ }

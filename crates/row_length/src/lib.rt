@@ -39,6 +39,7 @@ fn in_q(first: &[u8; 256], text: &[u8], room: usize) -> Word
     Word { end: e, size: n }
 }
 
+// The word at the front of a text, which is lent anew to be handed on (docs/ARCHITECTURE.md, Speed).
 fn word_at(first: &[u8; 256], text: &[u8], room: usize) -> Word
     requires { ⌜ (now first ≡ firstChars) × (room ≤ 63) ⌝ }
     ensures { λ r. ⌜ WordAt room (now (text .entry)) (r .end) (r .size) ⌝ }
