@@ -113,11 +113,11 @@ pub(crate) fn regular(s: &[u8]) -> bool
         return false;
     }
     let mut ok = true;
-    let mut k = 0;
-    while k < 48 {
-        let l = k + 1;
-        let m = l + 1;
-        ok = ok & is_placed(s[k], s[l], s[m]);
+    let mut k = 2;
+    while k < 50 {
+        let i = k - 2;
+        let j = k - 1;
+        ok = ok & is_placed(s[i], s[j], s[k]);
         k += 1;
     }
     ok
