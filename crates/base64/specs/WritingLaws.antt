@@ -1,7 +1,7 @@
 -- Base64 as code writes it: the table of its digits, and the digits of a text from a place on. Assumes nothing.
 use mathlib.Core.Path.{_≡_, refl, sym, ap, _∙_}
 use mathlib.Core.List.{List, [], _∷_, _++_}
-use Prim.Native.Nat.{ℕ, zero, suc, _+_, _-_, _*_, _≤_, _<_, min}
+use Prim.Native.Nat.{ℕ, zero, suc, _+_, _-_, _*_, _/_, _%_, _≤_, _<_, min}
 use native.Mathlib.Nat.{add-zero, zero-add, add-suc, suc-add, le-of-suc-le-suc, not-suc-le-zero}
 use native.Mathlib.Numerals.{add-one}
 use native.Mathlib.Omega.{arith}
@@ -31,6 +31,24 @@ digits-from k (suc n) (suc j) h = digits-from (suc k) n j (le-of-suc-le-suc h) �
 pub digits-at : (v : ℕ) → v < 64 → getD digits64 v 0 ≡ digit64 v
 unfolding digits64
 digits-at v h = digits-from 0 64 v h ∙ ap digit64 (zero-add v)
+
+-- ---- the bits of a group
+
+abbrev pub bitsOf : ℕ → ℕ → ℕ → ℕ
+bitsOf a b c = a * 65536 + b * 256 + c
+
+-- by sixes
+pub sixes : (a b c : ℕ) {bits : ℕ} → a < 256 → b < 256 → c < 256 → bits ≡ bitsOf a b c
+    → (bits / 262144 % 64 ≡ a / 4) × (bits / 4096 % 64 ≡ a % 4 * 16 + b / 16) × (bits / 64 % 64 ≡ b % 16 * 4 + c / 64) × (bits % 64 ≡ c % 64)
+sixes a b c ha hb hc e = (omega arith, omega arith, omega arith, omega arith)
+
+-- of the last two bytes, and of the last one
+pub sixes-of-two : (a b : ℕ) {bits : ℕ} → a < 256 → b < 256 → bits ≡ bitsOf a b 0
+    → (bits / 262144 % 64 ≡ a / 4) × (bits / 4096 % 64 ≡ a % 4 * 16 + b / 16) × (bits / 64 % 64 ≡ b % 16 * 4)
+sixes-of-two a b ha hb e = let six = sixes a b 0 ha hb (omega arith) e in (six .0, six .1, omega (arith, six .2))
+
+pub sixes-of-one : (a : ℕ) {bits : ℕ} → a < 256 → bits ≡ bitsOf a 0 0 → (bits / 262144 % 64 ≡ a / 4) × (bits / 4096 % 64 ≡ a % 4 * 16)
+sixes-of-one a ha e = let six = sixes a 0 0 ha (omega arith) (omega arith) e in (six .0, omega (arith, six .1))
 
 -- ---- a text from a place on
 

@@ -1,10 +1,10 @@
 // Base64 with its padding (RFC 4648, section 4), written.
 ghost use mathlib.Core.Path.{_≡_};
-ghost use Prim.Native.Nat.{_+_, _≤_, _<_};
+ghost use Prim.Native.Nat.{_+_, _%_, _≤_};
 ghost use lib.ListN.{length};
 ghost use Rattle.buffer.specs.Buffer.{Appended, AppendedCapped};
 ghost use Rattle.base64.specs.Base64.{digit64, quad, quadOfTwo, quadOfOne, inBase64, base64Length};
-ghost use Rattle.base64.specs.WritingLaws.{digits64};
+ghost use Rattle.base64.specs.WritingLaws.{digits64, bitsOf};
 
 // The digits, by their values.
 const DIGITS: [u8; 64] = *b"ABCDEFGHIJKLMNOPQRSTUVWXYZabcdefghijklmnopqrstuvwxyz0123456789+/";
@@ -22,12 +22,19 @@ fn wide(b: u8) -> usize
     b as usize
 }
 
-// The digit of a value, by the table of them.
-fn digit(digits: &[u8; 64], v: u8) -> u8
-    requires { ⌜ (now digits ≡ digits64) × (v < 64) ⌝ }
-    ensures { λ r. ⌜ r ≡ digit64 v ⌝ }
+// The digit of the last six of some bits, by the table of the digits.
+fn digit(digits: &[u8; 64], bits: usize) -> u8
+    requires { ⌜ now digits ≡ digits64 ⌝ }
+    ensures { λ r. ⌜ r ≡ digit64 (bits % 64) ⌝ }
 {
-    digits[wide(v)]
+    digits[bits % 64]
+}
+
+// The 24 bits of three bytes.
+fn group(a: u8, b: u8, c: u8) -> usize
+    ensures { λ r. ⌜ r ≡ bitsOf a b c ⌝ }
+{
+    wide(a) * 65536 + wide(b) * 256 + wide(c)
 }
 
 // Three bytes.
@@ -35,13 +42,14 @@ fn put_quad(digits: &[u8; 64], out: &mut [u8], at: usize, a: u8, b: u8, c: u8) -
     requires { ⌜ (now digits ≡ digits64) × (at + 4 ≤ length (now out)) ⌝ }
     ensures { λ r. ⌜ Appended (quad a b c) at (now (out .entry)) (now (out .exit)) r ⌝ }
 {
+    let bits = group(a, b, c);
     let second = at + 1;
     let third = second + 1;
     let fourth = third + 1;
-    out[at] = digit(digits, a / 4);
-    out[second] = digit(digits, a % 4 * 16 + b / 16);
-    out[third] = digit(digits, b % 16 * 4 + c / 64);
-    out[fourth] = digit(digits, c % 64);
+    out[at] = digit(digits, bits / 262144);
+    out[second] = digit(digits, bits / 4096);
+    out[third] = digit(digits, bits / 64);
+    out[fourth] = digit(digits, bits);
     fourth + 1
 }
 
@@ -50,12 +58,13 @@ fn put_two(digits: &[u8; 64], out: &mut [u8], at: usize, a: u8, b: u8) -> usize
     requires { ⌜ (now digits ≡ digits64) × (at + 4 ≤ length (now out)) ⌝ }
     ensures { λ r. ⌜ Appended (quadOfTwo a b) at (now (out .entry)) (now (out .exit)) r ⌝ }
 {
+    let bits = group(a, b, 0);
     let second = at + 1;
     let third = second + 1;
     let fourth = third + 1;
-    out[at] = digit(digits, a / 4);
-    out[second] = digit(digits, a % 4 * 16 + b / 16);
-    out[third] = digit(digits, b % 16 * 4);
+    out[at] = digit(digits, bits / 262144);
+    out[second] = digit(digits, bits / 4096);
+    out[third] = digit(digits, bits / 64);
     out[fourth] = 61;
     fourth + 1
 }
@@ -65,11 +74,12 @@ fn put_one(digits: &[u8; 64], out: &mut [u8], at: usize, a: u8) -> usize
     requires { ⌜ (now digits ≡ digits64) × (at + 4 ≤ length (now out)) ⌝ }
     ensures { λ r. ⌜ Appended (quadOfOne a) at (now (out .entry)) (now (out .exit)) r ⌝ }
 {
+    let bits = group(a, 0, 0);
     let second = at + 1;
     let third = second + 1;
     let fourth = third + 1;
-    out[at] = digit(digits, a / 4);
-    out[second] = digit(digits, a % 4 * 16);
+    out[at] = digit(digits, bits / 262144);
+    out[second] = digit(digits, bits / 4096);
     out[third] = 61;
     out[fourth] = 61;
     fourth + 1
