@@ -31,7 +31,7 @@ fn digit(digits: &[u8; 64], bits: usize) -> u8
 }
 
 // The 24 bits of three bytes.
-fn group(a: u8, b: u8, c: u8) -> usize
+fn bits_of(a: u8, b: u8, c: u8) -> usize
     ensures { λ r. ⌜ r ≡ bitsOf a b c ⌝ }
 {
     wide(a) * 65536 + wide(b) * 256 + wide(c)
@@ -42,7 +42,7 @@ fn put_quad(digits: &[u8; 64], out: &mut [u8], at: usize, a: u8, b: u8, c: u8) -
     requires { ⌜ (now digits ≡ digits64) × (at + 4 ≤ length (now out)) ⌝ }
     ensures { λ r. ⌜ Appended (quad a b c) at (now (out .entry)) (now (out .exit)) r ⌝ }
 {
-    let bits = group(a, b, c);
+    let bits = bits_of(a, b, c);
     let second = at + 1;
     let third = second + 1;
     let fourth = third + 1;
@@ -58,7 +58,7 @@ fn put_two(digits: &[u8; 64], out: &mut [u8], at: usize, a: u8, b: u8) -> usize
     requires { ⌜ (now digits ≡ digits64) × (at + 4 ≤ length (now out)) ⌝ }
     ensures { λ r. ⌜ Appended (quadOfTwo a b) at (now (out .entry)) (now (out .exit)) r ⌝ }
 {
-    let bits = group(a, b, 0);
+    let bits = bits_of(a, b, 0);
     let second = at + 1;
     let third = second + 1;
     let fourth = third + 1;
@@ -74,7 +74,7 @@ fn put_one(digits: &[u8; 64], out: &mut [u8], at: usize, a: u8) -> usize
     requires { ⌜ (now digits ≡ digits64) × (at + 4 ≤ length (now out)) ⌝ }
     ensures { λ r. ⌜ Appended (quadOfOne a) at (now (out .entry)) (now (out .exit)) r ⌝ }
 {
-    let bits = group(a, 0, 0);
+    let bits = bits_of(a, 0, 0);
     let second = at + 1;
     let third = second + 1;
     let fourth = third + 1;

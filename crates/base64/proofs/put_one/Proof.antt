@@ -11,11 +11,11 @@ use Rattle.base64.proofs.put_one.Tie as tie
 use Rattle.base64.proofs.put_one.Reads as reads
 use Rattle.base64.proofs.put_one.Lts as lts
 use Rattle.base64.proofs.digit.Reads as digit-reads
-use Rattle.base64.proofs.group.Reads as group-reads
+use Rattle.base64.proofs.bits_of.Reads as bits-of-reads
 
 -- src/lib.rt:77:9
-group-requires : tie.Need-group-requires
-group-requires c κs = search needs
+bits-of-requires : tie.Need-bits-of-requires
+bits-of-requires c κs = search needs
 
 -- src/lib.rt:78:18
 add-second : tie.Need-add-second
@@ -64,7 +64,7 @@ same-length c = search needs
 -- src/lib.rt:73:1
 returns : tie.Need-returns
 unfolding stores
-returns c = let six = sixes-of-one (c .before .before .before .before .args .a) (search needs) (c .before .before .group .ensures) in
+returns c = let six = sixes-of-one (c .before .before .before .before .args .a) (search needs) (c .before .before .bits-of .ensures) in
     rw (← (c .before .digit .ensures ∙ ap digit64 (six .0)), ← (c .digit2 .ensures ∙ ap digit64 (six .1)))
     (appended-stores (c .before .digit .result ∷ c .digit2 .result ∷ 61 ∷ 61 ∷ []) _ _ _ (omega arith))
 
@@ -72,7 +72,7 @@ pub put-one-spec : {M : Type 1} → statement M
 put-one-spec =
     tie.close
     (tie.spec
-    group-requires
+    bits-of-requires
     add-second
     add-third
     add-fourth

@@ -11,11 +11,11 @@ use Rattle.base64.proofs.put_quad.Tie as tie
 use Rattle.base64.proofs.put_quad.Reads as reads
 use Rattle.base64.proofs.put_quad.Lts as lts
 use Rattle.base64.proofs.digit.Reads as digit-reads
-use Rattle.base64.proofs.group.Reads as group-reads
+use Rattle.base64.proofs.bits_of.Reads as bits-of-reads
 
 -- src/lib.rt:45:9
-group-requires : tie.Need-group-requires
-group-requires c κs = search needs
+bits-of-requires : tie.Need-bits-of-requires
+bits-of-requires c κs = search needs
 
 -- src/lib.rt:46:18
 add-second : tie.Need-add-second
@@ -72,7 +72,7 @@ same-length c = search needs
 -- src/lib.rt:41:1
 returns : tie.Need-returns
 unfolding stores
-returns c = let six = sixes (c .before .before .before .before .before .before .args .a) (c .before .before .before .before .before .before .args .b) (c .before .before .before .before .before .before .args .c) (search needs) (search needs) (search needs) (c .before .before .before .before .group .ensures) in
+returns c = let six = sixes (c .before .before .before .before .before .before .args .a) (c .before .before .before .before .before .before .args .b) (c .before .before .before .before .before .before .args .c) (search needs) (search needs) (search needs) (c .before .before .before .before .bits-of .ensures) in
     rw (← (c .before .before .before .digit .ensures ∙ ap digit64 (six .0)), ← (c .before .before .digit2 .ensures ∙ ap digit64 (six .1)), ← (c .before .digit3 .ensures ∙ ap digit64 (six .2)), ← (c .digit4 .ensures ∙ ap digit64 (six .3)))
     (appended-stores (c .before .before .before .digit .result ∷ c .before .before .digit2 .result ∷ c .before .digit3 .result ∷ c .digit4 .result ∷ []) _ _ _ (omega arith))
 
@@ -80,7 +80,7 @@ pub put-quad-spec : {M : Type 1} → statement M
 put-quad-spec =
     tie.close
     (tie.spec
-    group-requires
+    bits-of-requires
     add-second
     add-third
     add-fourth

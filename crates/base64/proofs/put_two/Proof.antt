@@ -11,11 +11,11 @@ use Rattle.base64.proofs.put_two.Tie as tie
 use Rattle.base64.proofs.put_two.Reads as reads
 use Rattle.base64.proofs.put_two.Lts as lts
 use Rattle.base64.proofs.digit.Reads as digit-reads
-use Rattle.base64.proofs.group.Reads as group-reads
+use Rattle.base64.proofs.bits_of.Reads as bits-of-reads
 
 -- src/lib.rt:61:9
-group-requires : tie.Need-group-requires
-group-requires c κs = search needs
+bits-of-requires : tie.Need-bits-of-requires
+bits-of-requires c κs = search needs
 
 -- src/lib.rt:62:18
 add-second : tie.Need-add-second
@@ -68,7 +68,7 @@ same-length c = search needs
 -- src/lib.rt:57:1
 returns : tie.Need-returns
 unfolding stores
-returns c = let six = sixes-of-two (c .before .before .before .before .before .args .a) (c .before .before .before .before .before .args .b) (search needs) (search needs) (c .before .before .before .group .ensures) in
+returns c = let six = sixes-of-two (c .before .before .before .before .before .args .a) (c .before .before .before .before .before .args .b) (search needs) (search needs) (c .before .before .before .bits-of .ensures) in
     rw (← (c .before .before .digit .ensures ∙ ap digit64 (six .0)), ← (c .before .digit2 .ensures ∙ ap digit64 (six .1)), ← (c .digit3 .ensures ∙ ap digit64 (six .2)))
     (appended-stores (c .before .before .digit .result ∷ c .before .digit2 .result ∷ c .digit3 .result ∷ 61 ∷ []) _ _ _ (omega arith))
 
@@ -76,7 +76,7 @@ pub put-two-spec : {M : Type 1} → statement M
 put-two-spec =
     tie.close
     (tie.spec
-    group-requires
+    bits-of-requires
     add-second
     add-third
     add-fourth
