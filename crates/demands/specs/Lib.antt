@@ -1,3 +1,4 @@
+pub mod Downgraded
 pub mod Demands
 pub mod DemandsLaws
 pub mod DeterminedLaws

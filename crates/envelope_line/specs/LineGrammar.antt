@@ -76,22 +76,33 @@ pub record Line (mail : Bool) (path : List ℕ) (alternative : Option (List ℕ)
   pub is-path : Path mail path
   pub is-tail : Tail alternative tail
 
--- The answers to a line: 2 "envelope line malformed", 3 "path not ASCII, no ALT-ADDRESS", 4 "ALT-ADDRESS beside an ASCII path, or not
--- xtext of an ASCII address", 10 "ALT-ADDRESS in a current message".
-pub data Answer (rules : Rules) (mail : Bool) (line : List ℕ) : Fault → Type 0 where
-  malformed : ((path : List ℕ) (alternative : Option (List ℕ)) → Line mail path alternative line → ⊥) → Answer rules mail line Malformed
-  no-alternative : {path : List ℕ} → Line mail path none line → T (not (all isAscii path)) → Answer rules mail line NoAlternative
-  beside-ascii : {path v : List ℕ} → T (allowsAlternative rules) → Line mail path (some v) line → T (all isAscii path) → Answer rules mail line BadAlternative
-  no-address : {path v : List ℕ} → T (allowsAlternative rules) → Line mail path (some v) line → T (not (all isAscii path)) → ((address : List ℕ) → AltAddress v address → ⊥)
-      → Answer rules mail line BadAlternative
-  retired : {path v : List ℕ} → T (not (allowsAlternative rules)) → Line mail path (some v) line → Answer rules mail line RetiredAlternative
-  as-it-is : {path : List ℕ} → Line mail path none line → T (all isAscii path) → Answer rules mail line Fine
-  to-replace : {path v new : List ℕ} → T (allowsAlternative rules) → Line mail path (some v) line → T (not (all isAscii path)) → AltAddress v new → Answer rules mail line Fine
+-- any well-formed line
+abbrev pub WellFormed : Bool → List ℕ → Type 0
+WellFormed mail line = (path : List ℕ) × (alternative : Option (List ℕ)) × Line mail path alternative line
 
--- A line and what is written for it: "A non-ASCII path is replaced by the decoded ALT-ADDRESS, and that parameter goes with the space
--- before it. .. Nothing else changes." A line that is written has passed the check; what is said of it here is what fixes the output.
-pub data Written (rules : Rules) (mail : Bool) : List ℕ → List ℕ → Type 0 where
-  copied : {line path : List ℕ} → Line mail path none line → T (all isAscii path) → Written rules mail line line
-  replaced : {front path before p v new after : List ℕ} → T (allowsAlternative rules) → Verb mail front → Path mail path → T (not (all isAscii path))
-      → Others before → Alt v p → AltAddress v new → Others after
-      → Written rules mail (front ++ (path ++ (62 ∷ (before ++ (32 ∷ (p ++ after)))))) (front ++ (new ++ (62 ∷ (before ++ after))))
+-- How many bytes of a tail stand before the value of ALT-ADDRESS: past its space, its keyword and `=`.
+unfoldable pub valuePlace : {v tail : List ℕ} → Tail (some v) tail → ℕ
+valuePlace (Tail.with-alt {before} o (Alt.alt {k} t w x) y) = length before + (length k + 2)
+
+-- "that parameter goes with the space before it": the parameters that stay
+unfoldable pub othersOf : {v tail : List ℕ} → Tail (some v) tail → List ℕ
+othersOf (Tail.with-alt {before} {after} o a y) = before ++ after
+
+-- The byte of a line at which the value of ALT-ADDRESS starts.
+abbrev pub valueByte : {mail : Bool} {path v line : List ℕ} → Line mail path (some v) line → ℕ
+valueByte {path} l = length (l .front) + (length path + suc (valuePlace (l .is-tail)))
+
+-- The refusals of a well-formed line, and the byte that each points to: 3 "path not ASCII, no ALT-ADDRESS", "the start of the path"; 4 "ALT-ADDRESS beside an
+-- ASCII path, or not xtext of an ASCII address", 10 "ALT-ADDRESS in a current message", "the start of the ALT-ADDRESS value".
+pub data LineRefused (rules : Rules) (mail : Bool) (line : List ℕ) : ℕ → ℕ → Type 0 where
+  no-alternative : {path : List ℕ} (l : Line mail path none line) → T (not (all isAscii path)) → LineRefused rules mail line 3 (length (l .front))
+  beside-ascii : {path v : List ℕ} (l : Line mail path (some v) line) → T (allowsAlternative rules) → T (all isAscii path) → LineRefused rules mail line 4 (valueByte l)
+  no-address : {path v : List ℕ} (l : Line mail path (some v) line) → T (allowsAlternative rules) → ((address : List ℕ) → AltAddress v address → ⊥) → LineRefused rules mail line 4 (valueByte l)
+  retired : {path v : List ℕ} (l : Line mail path (some v) line) → T (not (allowsAlternative rules)) → LineRefused rules mail line 10 (valueByte l)
+
+-- A line that is not refused: its tail, what is written for it, and the text `<old <new>>` where its path is replaced, else none. "A non-ASCII path is replaced by the
+-- decoded ALT-ADDRESS, and that parameter goes with the space before it. .. Nothing else changes." `<` is 60, space 32.
+pub data Written (rules : Rules) (mail : Bool) (line : List ℕ) : List ℕ → List ℕ → List ℕ → Type 0 where
+  copied : {path : List ℕ} (l : Line mail path none line) → T (all isAscii path) → Written rules mail line (l .tail) line []
+  replaced : {path v new : List ℕ} (l : Line mail path (some v) line) → T (allowsAlternative rules) → T (not (all isAscii path)) → AltAddress v new
+      → Written rules mail line (l .tail) (l .front ++ (new ++ (62 ∷ othersOf (l .is-tail)))) (60 ∷ (path ++ (32 ∷ 60 ∷ (new ++ (62 ∷ 62 ∷ [])))))

@@ -1,0 +1,113 @@
+-- What is written for an envelope and a header that pass, by the paper's grammar, and what passes. Assumes nothing.
+use mathlib.Core.Path.{_≡_}
+use mathlib.Core.Bool.{not}
+use mathlib.Core.List.{List, [], _∷_, _++_}
+use Prim.Native.Nat.{ℕ, suc, _+_, _≤_}
+use lib.Dec.{T, eqb}
+use lib.ListN.{length}
+use Rattle.lists.specs.Byte.{isAscii}
+use Rattle.lists.specs.Lists.{all}
+use Rattle.letter_case.specs.LetterCase.{bytes}
+use Rattle.rules.specs.declared.Rules.{Rules}
+use Rattle.encoded_word.specs.Segments.{Segment}
+use Rattle.encoded_word.specs.Segments.Segment.{raw}
+use Rattle.line_stop.specs.FirstBad.{FirstBad}
+use Rattle.envelope.specs.EnvelopeDemand.{EnvelopeLines}
+use Rattle.header_line.specs.Lines.{wellFormed}
+use Rattle.header.specs.Fields.{fieldsOf, nameOf, valueOf, textOf}
+use Rattle.header_name.specs.declared.Kind.{Kind}
+use Rattle.header_name.specs.declared.Kind.the-variants.{Address, PlainText, Received, Commented, Other}
+use Rattle.header_name.specs.Names.{kindOf}
+use Rattle.field.specs.Field.{encodedField}
+use Rattle.address_pieces.specs.AddressField.{addressField}
+use Rattle.structured_field.specs.Tokens.{asciiOutsideComments}
+use Rattle.structured_field.specs.StructuredField.{structuredField}
+use Rattle.received.specs.Received.{passes, receivedField}
+use Rattle.call.specs.OutgoingHeader.{newField}
+
+-- ---- lines
+
+-- a text of L and the CRLF that ends it
+abbrev pub Ended : (List ℕ → Type 0) → List ℕ → Type 0
+Ended L l = (text : List ℕ) × (l ≡ text ++ (13 ∷ 10 ∷ [])) × L text
+
+-- The line at the front of what follows `start` is malformed: no text of L stands there, ended by CRLF. The offset is that of "the first byte at which .. the
+-- line, its CRLF with it, stops being a beginning of any well-formed line at that number. If no byte does that, it is the line's end."
+pub record MalformedAt (L : List ℕ → Type 0) (start rest : List ℕ) (offset : ℕ) : Type 0 where
+  pub none : (line more : List ℕ) → Ended L line → rest ≡ line ++ more → ⊥
+  pub byte : ℕ
+  pub first : FirstBad (Ended L) rest byte
+  pub offset-is : offset ≡ length start + byte
+
+-- ---- the envelope
+
+-- "Envelope at most 16,384 bytes, header 32,768"
+pub record InLimits (e h : List ℕ) : Type 0 where
+  pub envelope : length e ≤ 16384
+  pub header : length h ≤ 32768
+
+-- no line is refused: "One MAIL line, then 1 to 100 RCPT lines"
+pub record EnvelopePasses (rules : Rules) (Asked : List ℕ → Type 0) (e h out : List ℕ) (texts : List (List ℕ)) : Type 0 where
+  pub limits : InLimits e h
+  pub count : ℕ
+  pub enough : 2 ≤ count
+  pub lines : EnvelopeLines rules Asked count e out texts
+
+-- nothing is asked; "an ORCPT carries non-ASCII" is asked not to be: after the path only an ORCPT may
+abbrev pub Any : List ℕ → Type 0
+Any tail = Unit {0}
+
+abbrev pub Ascii : List ℕ → Type 0
+Ascii tail = T (all isAscii tail)
+
+-- "New first fields: `Downgraded-Mail-From` when the MAIL path was replaced, then `Downgraded-Rcpt-To` when there is exactly one RCPT
+-- line and it was replaced.", by the lines' texts `<old <new>>`
+unfoldable pub firstFields : List (List ℕ) → List Segment
+firstFields [] = []
+firstFields (mail ∷ []) = newField (bytes "Downgraded-Mail-From:") mail
+firstFields (mail ∷ rcpt ∷ []) = newField (bytes "Downgraded-Mail-From:") mail ++ newField (bytes "Downgraded-Rcpt-To:") rcpt
+firstFields (mail ∷ rcpt ∷ next ∷ more) = newField (bytes "Downgraded-Mail-From:") mail
+
+-- ---- the header
+
+-- the first n lines of a header, "each line ends in CRLF"
+pub data HeaderLines : ℕ → List ℕ → Type 0 where
+  none : HeaderLines 0 []
+  then : {n : ℕ} {before line : List ℕ} → HeaderLines n before → Ended (λ text. T (wellFormed (eqb n 0) text)) line → HeaderLines (suc n) (before ++ line)
+
+-- What becomes of a field whose value is not ASCII, by the kind of its name. "Plain text: name, colon, encoded words of the text. Every other name is
+-- encapsulated: `Downgraded-` before the name". Date and the others with comments "are held only if non-ASCII stands outside their comments". Received
+-- fields by request 2. A field of any other kind is held.
+pub data KindBecomes (rules : Rules) (field : List ℕ) : Kind → List Segment → Type 0 where
+  address : KindBecomes rules field Address (addressField rules (nameOf field) (textOf field))
+  plain-text : KindBecomes rules field PlainText (encodedField false (nameOf field) (textOf field))
+  other : KindBecomes rules field Other (encodedField true (nameOf field) (textOf field))
+  commented : T (asciiOutsideComments (valueOf field)) → KindBecomes rules field Commented (structuredField (nameOf field) (valueOf field))
+  received : T (passes (nameOf field) (valueOf field)) → KindBecomes rules field Received (receivedField (nameOf field) (valueOf field))
+
+-- "A field whose value is ASCII is copied."
+pub data Becomes (rules : Rules) (field : List ℕ) : List Segment → Type 0 where
+  copied : T (all isAscii (valueOf field)) → Becomes rules field (raw field ∷ [])
+  rewritten : {segments : List Segment} → T (not (all isAscii (valueOf field))) → KindBecomes rules field (kindOf (nameOf field)) segments → Becomes rules field segments
+
+-- what becomes of fields, one after another
+pub data FieldsBecome (rules : Rules) : List (List ℕ) → List Segment → Type 0 where
+  none : FieldsBecome rules [] []
+  then : {field : List ℕ} {fields : List (List ℕ)} {segments more : List Segment} → Becomes rules field segments → FieldsBecome rules fields more
+      → FieldsBecome rules (field ∷ fields) (segments ++ more)
+
+-- a field is held for which nothing is written
+abbrev pub Held : Rules → List ℕ → Type 0
+Held rules field = (segments : List Segment) → Becomes rules field segments → ⊥
+
+-- ---- both
+
+-- Both pass: `out` is the outgoing envelope, and the outgoing header is these segments.
+pub record Downgraded (rules : Rules) (e h out : List ℕ) (segments : List Segment) : Type 0 where
+  pub texts : List (List ℕ)
+  pub envelope : EnvelopePasses rules Ascii e h out texts
+  pub count : ℕ
+  pub lines : HeaderLines count h
+  pub rest : List Segment
+  pub fields : FieldsBecome rules (fieldsOf h) rest
+  pub is : segments ≡ firstFields texts ++ rest
