@@ -7,7 +7,7 @@ use mathlib.Core.Path.{_≡_}
 use mathlib.Core.Bool.{Bool, true, false, not}
 use mathlib.Core.List.{List, [], _∷_, _++_}
 use mathlib.Core.Option.{Option, none, some}
-use Prim.Native.Nat.{ℕ, _≤_}
+use Prim.Native.Nat.{ℕ, suc, _+_, _≤_}
 use lib.Dec.{T}
 use lib.ListN.{length, getD}
 use Rattle.lists.specs.Lists.{all, nonempty}
@@ -19,8 +19,6 @@ use Rattle.rules.specs.Rules.{allowsAlternative}
 use Rattle.address.specs.Grammar.{Address}
 use Rattle.xtext.specs.Grammar.{AltAddress}
 use Rattle.parameter.specs.Parameter.{isKeywordByte, isValueByte}
-use Rattle.envelope_line.specs.declared.Fault.{Fault}
-use Rattle.envelope_line.specs.declared.Fault.the-variants.{Fine, Malformed, NoAlternative, BadAlternative, RetiredAlternative}
 use Rattle.envelope_line.specs.EnvelopeLine.{verb}
 
 -- "`MAIL FROM:<path>` or `RCPT TO:<path>`, verbs in any case": what stands before the path
