@@ -36,16 +36,16 @@ pub data Given (rules : Rules) (e h b c : List ℕ) : ℕ → ℕ → ℕ → �
   envelope-malformed : {n offset : ℕ} {start rest out : List ℕ} {texts : List (List ℕ)} → InLimits e h → e ≡ start ++ rest → EnvelopeLines rules Any n start out texts
       → (2 ≤ n → rest ≡ [] → ⊥) → MalformedAt (WellFormedAt n) start rest offset → Given rules e h b c 2 1 n offset
   -- 3, 4 and 10
-  line-refused : {n number byte : ℕ} {start line more out : List ℕ} {texts : List (List ℕ)} → InLimits e h → e ≡ start ++ (line ++ (13 ∷ 10 ∷ more)) → EnvelopeLines rules Any n start out texts
+  line-refused : {n number byte : ℕ} {start line out : List ℕ} {texts : List (List ℕ)} (more : List ℕ) → InLimits e h → e ≡ start ++ (line ++ (13 ∷ 10 ∷ more)) → EnvelopeLines rules Any n start out texts
       → n ≤ 100 → LineRefused rules (eqb n 0) line number byte → Given rules e h b c number 1 n (length start + byte)
   header-malformed : {n offset : ℕ} {start rest out : List ℕ} {texts : List (List ℕ)} → EnvelopePasses rules Any e h out texts → h ≡ start ++ rest → HeaderLines n start
       → (rest ≡ [] → ⊥) → MalformedAt (λ text. T (wellFormed (eqb n 0) text)) start rest offset → Given rules e h b c 5 2 n offset
   -- "For 6 .. the first non-ASCII byte of an ORCPT value": the first after the path, where only an ORCPT may have it
-  orcpt-non-ascii : {n m : ℕ} {start line more path out new : List ℕ} {alternative : Option (List ℕ)} {texts more-texts : List (List ℕ)} → EnvelopePasses rules Any e h out texts → HeaderLines m h
-      → e ≡ start ++ (line ++ (13 ∷ 10 ∷ more)) → EnvelopeLines rules Ascii n start new more-texts → (l : Line (eqb n 0) path alternative line) → (Ascii (l .tail) → ⊥)
+  orcpt-non-ascii : {n m : ℕ} {start line path out new : List ℕ} {alternative : Option (List ℕ)} {texts before : List (List ℕ)} (more : List ℕ) → EnvelopePasses rules Any e h out texts → HeaderLines m h
+      → e ≡ start ++ (line ++ (13 ∷ 10 ∷ more)) → EnvelopeLines rules Ascii n start new before → (l : Line (eqb n 0) path alternative line) → (Ascii (l .tail) → ⊥)
       → Given rules e h b c 6 1 n (length start + (length (l .front) + (length path + suc (run isAscii (l .tail)))))
   -- "a field's place is its first line": its number is how many lines end before it. "For 6 it is the first non-ASCII byte .. of the field"
-  held-non-ascii : {m : ℕ} {field out : List ℕ} {before after texts : List (List ℕ)} {segments : List Segment} → EnvelopePasses rules Ascii e h out texts → HeaderLines m h
+  held-non-ascii : {m : ℕ} {field out : List ℕ} {before texts : List (List ℕ)} {segments : List Segment} (after : List (List ℕ)) → EnvelopePasses rules Ascii e h out texts → HeaderLines m h
       → fieldsOf h ≡ before ++ (field ∷ after) → FieldsBecome rules before segments → Held rules field
       → Given rules e h b c 6 2 (lineCount (joined before)) (length (joined before) + run isAscii field)
   envelope-longer : {out : List ℕ} {segments : List Segment} → Downgraded rules e h out segments → length b < length out → Given rules e h b c 7 1 (length out) 0
