@@ -16,13 +16,13 @@ use Rattle.row.specs.FieldRow.{FieldDemand3}
 use Rattle.encoded_word.specs.Segments.{Segment, rendered}
 use Rattle.encoded_word.specs.Segments.Segment.{raw, words, labelled}
 use Rattle.envelope_line.specs.LineGrammar.{Line, LineRefused}
-use Rattle.envelope.specs.EnvelopeDemand.{WellFormedAt, EnvelopeLines}
-use Rattle.header_line.specs.Lines.{wellFormed}
+use Rattle.line_stop.specs.FirstBad.{MalformedAt}
+use Rattle.envelope.specs.EnvelopeDemand.{WellFormedAt, Any, Ascii, EnvelopeLines}
 use Rattle.header.specs.Fields.{fieldsOf, lineCount}
 use Rattle.rules.specs.declared.Rules.{Rules}
 use Rattle.rules.specs.Rules.{settingRules}
 use Rattle.call.specs.Outcome.{Outcome}
-use Rattle.demands.specs.Downgraded.{MalformedAt, InLimits, EnvelopePasses, Any, Ascii, HeaderLines, FieldsBecome, Held, Downgraded}
+use Rattle.demands.specs.Downgraded.{InLimits, EnvelopePasses, WellFormedAt as HeaderFormedAt, HeaderLines, FieldsBecome, Held, Downgraded}
 
 -- ---- demand 1: "Every input of bytes is taken: downgraded, or refused by one of the numbers 1 to 8 under the exact condition of
 -- that number. A refusal writes to neither buffer. A success gives both lengths and touches nothing past them." "10 ..; demand 1 gains it."
@@ -39,7 +39,7 @@ pub data Given (rules : Rules) (e h b c : List ℕ) : ℕ → ℕ → ℕ → �
   line-refused : {n number byte : ℕ} {start line out : List ℕ} {texts : List (List ℕ)} (more : List ℕ) → InLimits e h → e ≡ start ++ (line ++ (13 ∷ 10 ∷ more)) → EnvelopeLines rules Any n start out texts
       → n ≤ 100 → LineRefused rules (eqb n 0) line number byte → Given rules e h b c number 1 n (length start + byte)
   header-malformed : {n offset : ℕ} {start rest out : List ℕ} {texts : List (List ℕ)} → EnvelopePasses rules Any e h out texts → h ≡ start ++ rest → HeaderLines n start
-      → (rest ≡ [] → ⊥) → MalformedAt (λ text. T (wellFormed (eqb n 0) text)) start rest offset → Given rules e h b c 5 2 n offset
+      → (rest ≡ [] → ⊥) → MalformedAt (HeaderFormedAt n) start rest offset → Given rules e h b c 5 2 n offset
   -- "For 6 .. the first non-ASCII byte of an ORCPT value": the first after the path, where only an ORCPT may have it
   orcpt-non-ascii : {n m : ℕ} {start line path out new : List ℕ} {alternative : Option (List ℕ)} {texts before : List (List ℕ)} (more : List ℕ) → EnvelopePasses rules Any e h out texts → HeaderLines m h
       → e ≡ start ++ (line ++ (13 ∷ 10 ∷ more)) → EnvelopeLines rules Ascii n start new before → (l : Line (eqb n 0) path alternative line) → (Ascii (l .tail) → ⊥)

@@ -11,8 +11,8 @@ use Rattle.letter_case.specs.LetterCase.{bytes}
 use Rattle.rules.specs.declared.Rules.{Rules}
 use Rattle.encoded_word.specs.Segments.{Segment}
 use Rattle.encoded_word.specs.Segments.Segment.{raw}
-use Rattle.line_stop.specs.FirstBad.{FirstBad}
-use Rattle.envelope.specs.EnvelopeDemand.{EnvelopeLines}
+use Rattle.line_stop.specs.FirstBad.{WithCrlf}
+use Rattle.envelope.specs.EnvelopeDemand.{Ascii, EnvelopeLines}
 use Rattle.header_line.specs.Lines.{wellFormed}
 use Rattle.header.specs.Fields.{fieldsOf, nameOf, valueOf, textOf}
 use Rattle.header_name.specs.declared.Kind.{Kind}
@@ -24,20 +24,6 @@ use Rattle.structured_field.specs.Tokens.{asciiOutsideComments}
 use Rattle.structured_field.specs.StructuredField.{structuredField}
 use Rattle.received.specs.Received.{passes, receivedField}
 use Rattle.call.specs.OutgoingHeader.{newField}
-
--- ---- lines
-
--- a text of L and the CRLF that ends it
-abbrev pub Ended : (List ℕ → Type 0) → List ℕ → Type 0
-Ended L l = (text : List ℕ) × (l ≡ text ++ (13 ∷ 10 ∷ [])) × L text
-
--- The line at the front of what follows `start` is malformed: no text of L stands there, ended by CRLF. The offset is that of "the first byte at which .. the
--- line, its CRLF with it, stops being a beginning of any well-formed line at that number. If no byte does that, it is the line's end."
-pub record MalformedAt (L : List ℕ → Type 0) (start rest : List ℕ) (offset : ℕ) : Type 0 where
-  pub none : (line more : List ℕ) → Ended L line → rest ≡ line ++ more → ⊥
-  pub byte : ℕ
-  pub first : FirstBad (Ended L) rest byte
-  pub offset-is : offset ≡ length start + byte
 
 -- ---- the envelope
 
@@ -53,13 +39,6 @@ pub record EnvelopePasses (rules : Rules) (Asked : List ℕ → Type 0) (e h out
   pub enough : 2 ≤ count
   pub lines : EnvelopeLines rules Asked count e out texts
 
--- nothing is asked; "an ORCPT carries non-ASCII" is asked not to be: after the path only an ORCPT may
-abbrev pub Any : List ℕ → Type 0
-Any tail = Unit {0}
-
-abbrev pub Ascii : List ℕ → Type 0
-Ascii tail = T (all isAscii tail)
-
 -- "New first fields: `Downgraded-Mail-From` when the MAIL path was replaced, then `Downgraded-Rcpt-To` when there is exactly one RCPT
 -- line and it was replaced.", by the lines' texts `<old <new>>`
 unfoldable pub firstFields : List (List ℕ) → List Segment
@@ -70,10 +49,14 @@ firstFields (mail ∷ rcpt ∷ next ∷ more) = newField (bytes "Downgraded-Mail
 
 -- ---- the header
 
--- the first n lines of a header, "each line ends in CRLF"
+-- a well-formed line at the number n. "Lines count from 0."
+abbrev pub WellFormedAt : ℕ → List ℕ → Type 0
+WellFormedAt n line = T (wellFormed (eqb n 0) line)
+
+-- the first n lines of a header: "Each line ends in CRLF"
 pub data HeaderLines : ℕ → List ℕ → Type 0 where
   none : HeaderLines 0 []
-  then : {n : ℕ} {before line : List ℕ} → HeaderLines n before → Ended (λ text. T (wellFormed (eqb n 0) text)) line → HeaderLines (suc n) (before ++ line)
+  then : {n : ℕ} {before line : List ℕ} → HeaderLines n before → WithCrlf (WellFormedAt n) line → HeaderLines (suc n) (before ++ line)
 
 -- What becomes of a field whose value is not ASCII, by the kind of its name. "Plain text: name, colon, encoded words of the text. Every other name is
 -- encapsulated: `Downgraded-` before the name". Date and the others with comments "are held only if non-ASCII stands outside their comments". Received

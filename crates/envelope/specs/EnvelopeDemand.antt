@@ -3,7 +3,9 @@
 use mathlib.Core.Path.{_≡_}
 use mathlib.Core.List.{List, [], _∷_, _++_}
 use Prim.Native.Nat.{ℕ, suc, _≤_}
-use lib.Dec.{eqb}
+use lib.Dec.{T, eqb}
+use Rattle.lists.specs.Byte.{isAscii}
+use Rattle.lists.specs.Lists.{all}
 use Rattle.rules.specs.declared.Rules.{Rules}
 use Rattle.envelope_line.specs.LineGrammar.{WellFormed, Written}
 
@@ -16,6 +18,13 @@ eachEnded (line ∷ more) = line ++ (13 ∷ 10 ∷ eachEnded more)
 pub record WellFormedAt (n : ℕ) (line : List ℕ) : Type 0 where
   pub few : n ≤ 100
   pub formed : WellFormed (eqb n 0) line
+
+-- what may be asked of the bytes after a path: nothing; or that they are ASCII, so that no "ORCPT carries non-ASCII": only an ORCPT may
+abbrev pub Any : List ℕ → Type 0
+Any tail = Unit {0}
+
+abbrev pub Ascii : List ℕ → Type 0
+Ascii tail = T (all isAscii tail)
 
 -- The first n lines of an envelope, "each ended by CRLF", none of them refused: their bytes, what is written for them, and for each line the text
 -- `<old <new>>` where its path is replaced. `Asked` is what is asked of the bytes after each line's path.
