@@ -3,7 +3,7 @@
 use mathlib.Core.Bool.{Bool, false, cond, _&&_}
 use mathlib.Core.List.{List}
 use Prim.Native.Nat.{ℕ, suc, _+_, _-_}
-use lib.Dec.{leb, ltb, eqb}
+use lib.Dec.{T, leb, ltb, eqb}
 use Rattle.envelope_line.specs.EnvelopeLine.{verb, verbLen, wellFormed}
 use Rattle.line_stop.specs.declared.Begun.{Begun}
 use Rattle.line_stop.specs.FirstBad.{FirstBad, WithCrlf}

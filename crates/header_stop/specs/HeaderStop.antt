@@ -3,7 +3,7 @@
 use mathlib.Core.Bool.{Bool, true, false, not, cond, _&&_}
 use mathlib.Core.List.{List}
 use Prim.Native.Nat.{ℕ, zero, suc}
-use lib.Dec.{eqb}
+use lib.Dec.{T, eqb}
 use Rattle.line.specs.Line.{blank}
 use Rattle.header_line.specs.Lines.{lineByte, nameByte, wellFormed}
 use Rattle.line_stop.specs.declared.Begun.{Begun}
