@@ -20,9 +20,9 @@ use Rattle.line_stop.specs.FirstBad.{MalformedAt}
 use Rattle.envelope.specs.EnvelopeDemand.{WellFormedAt, Any, Ascii, EnvelopeLines}
 use Rattle.header.specs.Fields.{fieldsOf, lineCount}
 use Rattle.rules.specs.declared.Rules.{Rules}
-use Rattle.rules.specs.Rules.{settingRules}
+use Rattle.rules.specs.Rules.{settingRules, allowsAlternative}
 use Rattle.call.specs.Outcome.{Outcome}
-use Rattle.demands.specs.Downgraded.{InLimits, EnvelopePasses, WellFormedAt as HeaderFormedAt, HeaderLines, FieldsBecome, Held, Downgraded}
+use Rattle.demands.specs.Downgraded.{InLimits, EnvelopePasses, firstFields, WellFormedAt as HeaderFormedAt, HeaderLines, FieldsBecome, Held, Downgraded}
 
 -- ---- demand 1: "Every input of bytes is taken: downgraded, or refused by one of the numbers 1 to 8 under the exact condition of
 -- that number. A refusal writes to neither buffer. A success gives both lengths and touches nothing past them." "10 ..; demand 1 gains it."
@@ -75,8 +75,8 @@ pub record Demand1 (rules : Rules) (e h b c : List ℕ) (o : Outcome) : Type 0 w
   pub success : o .number ≡ 0 → KeptPast (o .envelopeLen) b (o .envelopeBuffer) × KeptPast (o .headerLen) c (o .headerBuffer)
 
 -- ---- demand 2: "The outgoing envelope and header are those that RFC 5504 asks for, as the paper spells it out: all ASCII, each
--- field that was ASCII copied byte for byte." "Demand 2 reads so for current messages." What is written is `Downgraded`; a field that is ASCII is
--- copied by `Becomes`, and by `Written` a current message's envelope.
+-- field that was ASCII copied byte for byte." "Demand 2 reads so for current messages." What is written is `Downgraded`; that a
+-- field whose value is ASCII is copied stands in `Becomes`.
 
 -- what stands in the buffers
 abbrev pub envelopeOut : Outcome → List ℕ
@@ -91,6 +91,8 @@ pub record Demand2 (rules : Rules) (e h : List ℕ) (o : Outcome) : Type 0 where
   pub header : headerOut o ≡ rendered segments
   pub envelope-ascii : T (all isAscii (envelopeOut o))
   pub header-ascii : T (all isAscii (headerOut o))
+  -- "In a current message any ALT-ADDRESS is refused": its envelope goes as it came, and it gets none of the new first fields
+  pub retired : T (not (allowsAlternative rules)) → (envelopeOut o ≡ e) × (firstFields (downgraded .texts) ≡ [])
 
 -- ---- demand 3: "Every row of encoded words reads back, by RFC 2047, as exactly its text; each word is at most 75 characters and
 -- holds whole characters; no other row in our spelling that reads back as the same text has fewer words." "Wherever a rule asks for
