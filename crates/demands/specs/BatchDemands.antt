@@ -14,8 +14,8 @@ use Rattle.demands.specs.Demands.{Demands}
 -- input buffer, before all others, place, offset and lengths 0." Else "Each record's answer and bytes equal those of a single call given the
 -- room that is left".
 pub data SingleOrNine (rules : Rules) (input : List ℕ) (start₁ len₁ start₂ len₂ : ℕ) (b c : List ℕ) : Outcome → Type 0 where
-  envelope-past : length input < start₁ + len₁ → SingleOrNine rules input start₁ len₁ start₂ len₂ b c (rangeRefused b c)
-  header-past : length input < start₂ + len₂ → SingleOrNine rules input start₁ len₁ start₂ len₂ b c (rangeRefused b c)
+  envelope-past-end : length input < start₁ + len₁ → SingleOrNine rules input start₁ len₁ start₂ len₂ b c (rangeRefused b c)
+  header-past-end : length input < start₂ + len₂ → SingleOrNine rules input start₁ len₁ start₂ len₂ b c (rangeRefused b c)
   single : {o : Outcome} → start₁ + len₁ ≤ length input → start₂ + len₂ ≤ length input → Demands rules (take len₁ (drop start₁ input)) (take len₂ (drop start₂ input)) b c o
       → SingleOrNine rules input start₁ len₁ start₂ len₂ b c o
 

@@ -7,7 +7,7 @@ use native.Mathlib.Omega.{arith}
 use lib.ListN.{length, take, drop, getD}
 use Rattle.lists.specs.ListsLaws.{cond-has}
 use Rattle.rules.specs.declared.Rules.{Rules}
-use Rattle.envelope.specs.Envelope.{mailReplacement, rcptReplacement}
+use Rattle.envelope.specs.Envelope.{rcptReplacement}
 use Rattle.envelope.specs.EnvelopeDemand.{eachEnded}
 use Rattle.undisclosed_recipients.specs.FirstLineLaws.{same-mail, several-rcpts}
 use Rattle.call.specs.OutgoingHeader.{newFields, outgoingSegments, outgoingHeader}
