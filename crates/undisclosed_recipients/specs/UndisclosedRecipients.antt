@@ -6,8 +6,7 @@ use lib.ListN.{length, take, drop, getD}
 use Rattle.envelope.specs.EnvelopeDemand.{eachEnded}
 use Rattle.call.specs.Outcome.{Outcome}
 use Rattle.batch.specs.Batch.{Batch}
-use Rattle.batch.specs.BatchRecords.{fromRecord, used₂}
-use Rattle.demands.specs.BatchDemands.{envelopeOf, headerOf}
+use Rattle.batch.specs.BatchRecords.{fromRecord, envelopeOf, headerOf, used₂}
 
 -- "two envelopes with the same MAIL line, each with any two or more RCPT lines"
 pub record SameSender (e f : List ℕ) : Type 0 where
