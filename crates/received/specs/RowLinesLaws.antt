@@ -17,7 +17,8 @@ use Rattle.utf8.specs.Utf8Laws.{char-len-le}
 use Rattle.cut.specs.CutLaws.{AllFit, cut-fits}
 use Rattle.hex.specs.Hex.{hexDigit}
 use Rattle.word_spelling.specs.Spelling.{closing, bare, escape, spellByte, spell}
-use Rattle.base64.specs.Base64.{isDigit64, inBase64}
+use Rattle.base64.specs.Base64.{inBase64}
+use Rattle.base64.specs.Reading.{isDigit64}
 use Rattle.base64.specs.Base64Laws.{isBase64, all-base64}
 use Rattle.row.specs.declared.Encoding.{Encoding}
 use Rattle.row.specs.declared.Encoding.the-variants.{Q, B}

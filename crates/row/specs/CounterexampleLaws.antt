@@ -17,7 +17,8 @@ use Rattle.lists.specs.Lists.{all, joined}
 use Rattle.utf8.specs.Utf8.{leadingOnes, charLen, secondLow, secondHigh, isChar, chars, utf8}
 use Rattle.cut.specs.Cut.{cut}
 use Rattle.hex.specs.Hex.{hexDigit}
-use Rattle.base64.specs.Base64.{digit64, inBase64, isDigit64, value64, fromTwo, fromLast, fromBase64}
+use Rattle.base64.specs.Base64.{digit64, inBase64}
+use Rattle.base64.specs.Reading.{isDigit64, value64, fromTwo, fromLast, fromBase64}
 use Rattle.word_spelling.specs.Spelling.{closing, bare, spellByte, spell}
 use Rattle.row.specs.declared.Encoding.{Encoding}
 use Rattle.row.specs.declared.Encoding.the-variants.{Q, B}

@@ -8,7 +8,7 @@ use mathlib.Core.List.{List, [], _∷_, _++_}
 use mathlib.Core.Option.{Option, none, some}
 use Prim.Native.Nat.{ℕ, _+_, _-_, _*_, _≤_}
 use Rattle.lists.specs.Byte.{within}
-use Rattle.base64.specs.Base64.{fromBase64}
+use Rattle.base64.specs.Grammar.{FromBase64}
 use Rattle.word_spelling.specs.Spelling.{closing}
 use Rattle.row.specs.declared.Encoding.{Encoding}
 use Rattle.row.specs.declared.Encoding.the-variants.{Q, B}
@@ -32,7 +32,7 @@ pub data Adds : List ℕ → List ℕ → Type 0 where
 -- what stands in a word, and the bytes that it adds: "document 01's reading then takes `=?UTF-8?B?` words too, by base64"
 abbrev pub AddsIn : Encoding → List ℕ → List ℕ → Type 0
 AddsIn Q standing added = Adds standing added
-AddsIn B standing added = fromBase64 standing ≡ some added
+AddsIn B standing added = FromBase64 standing added
 
 -- a word: its encoding, what stands between its `=?UTF-8?Q?` or `=?UTF-8?B?` and its `?=`, and the bytes that it adds
 pub record Word : Type 0 where

@@ -17,7 +17,7 @@ use Rattle.lists.specs.ByteLaws.{below, implies, within-low, within-high}
 use Rattle.hex.specs.Hex.{hexDigit}
 use Rattle.word_spelling.specs.Spelling.{bare, escape, spellByte, spell}
 use Rattle.word_spelling.specs.SpellingLaws.{spell-bare, spell-space, spell-hex}
-use Rattle.base64.specs.Base64Laws.{base64-reads, base64-only}
+use Rattle.base64.specs.GrammarLaws.{base64-reads, base64-only}
 use Rattle.row.specs.declared.Encoding.{Encoding}
 use Rattle.row.specs.declared.Encoding.the-variants.{Q, B}
 use Rattle.row.specs.Word.{spellIn, word}
@@ -92,7 +92,7 @@ module _ (es : List Encoding) (room : ℕ) where
 
 -- every word in B that reads is in B with the usual padding
 pub base64-spelt : {standing added : List ℕ} → AddsIn B standing added → standing ≡ spellIn B added
-base64-spelt {standing} {added} e = sym (base64-only standing added e)
+base64-spelt g = sym (base64-only g)
 
 -- ---- in our spelling, byte for byte
 
