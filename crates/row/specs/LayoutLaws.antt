@@ -21,9 +21,13 @@ use Rattle.base64.specs.GrammarLaws.{base64-reads, base64-only}
 use Rattle.row.specs.declared.Encoding.{Encoding}
 use Rattle.row.specs.declared.Encoding.the-variants.{Q, B}
 use Rattle.row.specs.Word.{spellIn, word}
-use Rattle.row.specs.Layout.{anyCaseValue, Adds, AddsIn, Word, Reads, LaidAfter, Laid}
+use Rattle.row.specs.Layout.{anyCaseValue, Adds, AddsIn, Word, Reads, LaidAfter}
 use Rattle.row.specs.Layout.LaidAfter.{empty, space, crlf}
 use Rattle.row.specs.Row.{chosen, lines}
+
+-- a whole row and its words
+abbrev pub Laid : List ℕ → List Word → Type 0
+Laid row ws = LaidAfter false row ws
 
 -- ---- a byte
 

@@ -21,8 +21,9 @@ use Rattle.word_spelling.specs.Spelling.{closing}
 use Rattle.row.specs.declared.Encoding.{Encoding}
 use Rattle.row.specs.declared.Encoding.the-variants.{Q, B}
 use Rattle.row.specs.Word.{openingIn}
-use Rattle.row.specs.Layout.{anyCaseValue, Adds, AddsIn, Word, wordBytes, Reads, LaidAfter, Laid, addedText}
+use Rattle.row.specs.Layout.{anyCaseValue, Adds, AddsIn, Word, wordBytes, Reads, LaidAfter, addedText}
 use Rattle.row.specs.Layout.LaidAfter.{empty, space, crlf, word}
+use Rattle.row.specs.LayoutLaws.{Laid}
 use Rattle.row.specs.Reading.{State, opened, extended, role, charset, letterOf, stepBetween, stepOpens, stepLetter, openIn, stepInWord, stepDigit, stepSecond, closedB, step, reading, finish, wordsRead, readsAs}
 use Rattle.row.specs.Reading.State.{fault, between, afterCr, opens, letter, afterLetter, inWord, afterEquals, afterDigit, closes, inWordB, closesB}
 use Rattle.row.specs.Reading.Role.{itself}
