@@ -46,8 +46,7 @@ wordIn es room bytes = word (chosen es room bytes) bytes
 
 -- "Every word has a line of its own: CRLF and one space come before it". 13 is CR, 10 is LF, 32 is the space.
 unfoldable pub lines : List Encoding → ℕ → List (List ℕ) → List ℕ
-lines es room [] = []
-lines es room (bytes ∷ more) = (13 ∷ 10 ∷ 32 ∷ wordIn es room bytes) ++ lines es room more
+lines es room words = joined (map (λ (bytes : List ℕ). 13 ∷ 10 ∷ 32 ∷ wordIn es room bytes) words)
 
 -- the row of a text in words of 1 to so many characters, each in one of these encodings
 unfoldable pub rowIn : List Encoding → ℕ → List ℕ → List ℕ
