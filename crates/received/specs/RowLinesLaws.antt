@@ -97,7 +97,7 @@ lines-column k column (r ∷ rs) f =
     ap (λ (l : List ℕ). columnAfter column l) (append-assoc first more newLine)
     ∙ (column-append column first (more ++ newLine)
     ∙ (lines-column (suc k) (columnAfter column first) rs (f .1)
-    ∙ word-column column e (joined r) (chosen-holds encodings 63 (joined r) (f .0) .small)))
+    ∙ word-column column e (joined r) (chosen-holds encodings 63 0 r (f .0) .small)))
 
 abbrev short : List ℕ → Bool
 short c = leb (length c) 8

@@ -19,7 +19,7 @@ use Rattle.row.specs.Word.{openingIn, spellIn}
 use Rattle.row.specs.Row.{encodings, fitsRoom, runs, chosen, wordIn, rowIn, row}
 use Rattle.row.specs.Layout.{Word, wordBytes, addedText}
 use Rattle.row.specs.LayoutLaws.{Laid, oursIn, lines-laid}
-use Rattle.row.specs.FitsLaws.{length-opening-in, length-word-in, spell-in-some, fits-part, some-of, char-fits, chosen-holds}
+use Rattle.row.specs.FitsLaws.{length-opening-in, length-word-in, spell-in-some, fits-any-line, fits-part, some-of, char-fits, chosen-holds}
 use Rattle.row.specs.Demand3.{Proper, RowOf, Demand3In, LaidWords, Demand3}
 
 -- ---- words that are proper
@@ -83,8 +83,8 @@ runsOf (w ∷ ws) = chars (w .added) ∷ runsOf ws
 -- A proper word holds its characters in any room that what stands in it has.
 pub word-fits : {es : List Encoding} {limit : ℕ} {w : Word} (room k : ℕ) → Proper es limit w → length (w .standing) ≤ room → T (fitsRoom es room k (chars (w .added)))
 word-fits {w = w} room k p h =
-    rw (chars-joined (w .added))
-    (some-of room (w .added) (p .allowed) (le→leb (length (spellIn (w .encoding) (w .added))) room (rw (← (p .spelt)) h)))
+    some-of room k (chars (w .added)) (p .allowed)
+    (rw (chars-joined (w .added)) (le→leb (length (spellIn (w .encoding) (w .added))) room (rw (← (p .spelt)) h)))
 
 module _ (es : List Encoding) (room : ℕ) where
   pub runs-of-fit : (k : ℕ) (ws : List Word) → AllProper es (room + 12) ws → AllFit (fitsRoom es room) k (runsOf ws)
@@ -123,7 +123,7 @@ module _ (es : List Encoding) (room : ℕ) where
   -- a run that fits makes a proper word, of any limit that its room allows
   pub our-proper : (limit k : ℕ) (r : List (List ℕ)) → room + 12 ≤ limit → T (fitsRoom es room k r) → T (all isChar r) → Proper es limit (oursIn es room (joined r))
   our-proper limit k r l f h =
-      let c = chosen-holds es room (joined r) f in record {
+      let c = chosen-holds es room k r f in record {
         allowed = c .allowed;
         spelt = refl;
         short = omega (arith, l, length-word (oursIn es room (joined r)), c .small);
@@ -186,7 +186,7 @@ demand-3-q text u = demand-3-in (Q ∷ []) 63 text tt (lit≤ tt) u
 fit-mem : (es : List Encoding) (room k : ℕ) {rs : List (List (List ℕ))} {run : List (List ℕ)} → AllFit (fitsRoom es room) k rs → List·Memᴰ run rs
     → T (fitsRoom es room k run)
 fit-mem es room k f (List·Memᴰ·head {x} {xs} e) = rw e (f .0)
-fit-mem es room k f (List·Memᴰ·tail {x} {xs} m) = fit-mem es room (suc k) (f .1) m
+fit-mem es room k {run = run} f (List·Memᴰ·tail {x} {xs} m) = rw (fits-any-line es room k (suc k) run) (fit-mem es room (suc k) (f .1) m)
 
 run-some : (run : List (List ℕ)) → T (nonempty run) → T (all isChar run) → 1 ≤ length (joined run)
 run-some [] n t = absurd n
@@ -198,7 +198,7 @@ pub run-length : (es : List Encoding) (room : ℕ) (text : List ℕ) → T (none
     → (1 ≤ length (oursIn es room (joined run) .standing)) × (length (oursIn es room (joined run) .standing) ≤ room)
 unfolding utf8
 run-length es room text n h u run m =
-    let chosen-one = chosen-holds es room (joined run) (fit-mem es room 0 (runs-fit es room n h (chars text) u) m) in (
+    let chosen-one = chosen-holds es room 0 run (fit-mem es room 0 (runs-fit es room n h (chars text) u) m) in (
       spell-in-some (chosen es room (joined run)) (joined run)
           (run-some run (all-mem nonempty (runs-some es room (chars text)) m)
           (all-mem (all isChar) (all-joined isChar (runs es room (chars text)) (rw (runs-joined es room (chars text)) u)) m)),

@@ -16,11 +16,11 @@ use Rattle.utf8.specs.Utf8Laws.{chars-joined, utf8-bytes}
 use Rattle.cut.specs.CutLaws.{AllFit, cut-joined, cut-fits, cut-first, fewest}
 use Rattle.row.specs.declared.Encoding.{Encoding}
 use Rattle.row.specs.Word.{word}
-use Rattle.row.specs.Row.{encodings, fitsRoom, chosen, lines, roomsAfter, fitsAfter, runsAfter, linesAfter, rowAfterIn, rowAfter}
+use Rattle.row.specs.Row.{encodings, fitsRoom, chosen, lines, fitsAfter, runsAfter, linesAfter, rowAfterIn, rowAfter}
 use Rattle.row.specs.Layout.{Word, LaidAfter, addedText}
 use Rattle.row.specs.Layout.LaidAfter.{empty, space, crlf}
 use Rattle.row.specs.LayoutLaws.{Laid, oursIn, ours-reads}
-use Rattle.row.specs.FitsLaws.{spell-in-some, fits-part, none-fits, char-fits, chosen-holds}
+use Rattle.row.specs.FitsLaws.{spell-in-some, fits-after-part, none-fits, char-fits, chosen-holds}
 use Rattle.row.specs.Demand3.{Proper, RowOf, Demand3In}
 use Rattle.row.specs.Demand3Laws.{AllProper, cons-proper, first-proper, rest-proper, length-word, word-fits, runsOf, runs-of-fit, runs-of-whole, length-runs-of, ours-text, our-proper, ours-proper}
 use Rattle.row.specs.FieldRow.{OwnLines, SetAfter, FieldDemand3}
@@ -47,7 +47,7 @@ module _ (es : List Encoding) (some : T (nonempty es)) (room column : ℕ) where
   lines-fewest : (cs h : List (List ℕ)) (hs : List (List (List ℕ))) → AllFit (fitsAfter es room column) 0 (h ∷ hs) → h ++ joined hs ≡ cs
       → length (runsAfter es room column cs) ≤ suc (length hs)
   unfolding runsAfter
-  lines-fewest cs h hs f e = fewest (fitsAfter es room column) (λ k d m e. fits-part es (roomsAfter room column k) k d m e) 0 [] [] cs h hs f e
+  lines-fewest cs h hs f e = fewest (fitsAfter es room column) (fits-after-part es room column) 0 [] [] cs h hs f e
 
   set-fewest : {row : List ℕ} {ws : List Word} {n : ℕ} → SetAfter (room + 12) column row ws n → AllProper es (room + 12) ws
       → length (runsAfter es room column (chars (addedText ws))) ≤ n
@@ -78,7 +78,7 @@ module _ (es : List Encoding) (room column : ℕ) where
   set-ours : (k : ℕ) (r : List (List ℕ)) (ls : List (List ℕ)) → T (all (all isByte) (joined r ∷ ls)) → T (fitsRoom es (room - column) k r)
       → SetAfter (room + 12) column (linesAfter es room column (joined r ∷ ls)) (afterWords (joined r ∷ ls)) (suc (length ls))
   unfolding linesAfter word afterWords
-  set-ours k r ls h f = go (joined r) h (chosen-holds es (room - column) (joined r) f .small)
+  set-ours k r ls h f = go (joined r) h (chosen-holds es (room - column) k r f .small)
     where
       go : (l : List ℕ) → T (all (all isByte) (l ∷ ls)) → length (oursIn es (room - column) l .standing) ≤ room - column
           → SetAfter (room + 12) column (linesAfter es room column (l ∷ ls)) (afterWords (l ∷ ls)) (suc (length ls))
