@@ -10,7 +10,8 @@ use Rattle.utf8.specs.Utf8.{leadingOnes, charLen, chars}
 use Rattle.lists.specs.CutBy.{cutAfter, cutBy}
 use Rattle.cut.specs.Cut.{cut}
 use Rattle.hex.specs.Hex.{hexDigit}
-use Rattle.base64.specs.Base64.{digit64, inBase64, isDigit64, value64, fromQuad, fromThree, fromTwo, fromLast, fromBase64}
+use Rattle.base64.specs.Base64.{digit64, inBase64}
+use Rattle.base64.specs.Reading.{isDigit64, value64, fromQuad, fromThree, fromTwo, fromLast, fromBase64}
 use Rattle.word_spelling.specs.Spelling.{opening, closing, bare, spellByte, spell}
 use Rattle.row.specs.declared.Encoding.the-variants.{B}
 use Rattle.row.specs.Word.{openingIn, word}
