@@ -1,4 +1,5 @@
 pub mod PartGrammar
+pub mod AddressField
 pub mod GrammarLaws
 pub mod PartGrammarLaws
 pub mod FoundLaws
