@@ -4,4 +4,6 @@ pub mod GrammarLaws
 pub mod PartGrammarLaws
 pub mod FoundLaws
 pub mod FittingLaws
+pub mod PartListLaws
+pub mod PhraseWordsLaws
 pub mod ListCases
