@@ -6,4 +6,5 @@ pub mod FoundLaws
 pub mod FittingLaws
 pub mod PartListLaws
 pub mod PhraseWordsLaws
+pub mod FormPartsLaws
 pub mod ListCases
