@@ -62,8 +62,8 @@ pub data Mailbox (rules : Rules) : List ℕ → List Segment → Bool → Bool �
 -- mailboxes with commas between them. "A comma joins the end of the piece before it."
 pub data Mailboxes (rules : Rules) : List ℕ → List Segment → Bool → Bool → Type 0 where
   one : {m : List ℕ} {p : List Segment} {lost changed : Bool} → Mailbox rules m p lost changed → Mailboxes rules m p lost changed
-  then : {m g ms : List ℕ} {p q r : List Segment} {l c lost changed : Bool} → Mailbox rules m p l c → Gap g q → Mailboxes rules ms r lost changed
-      → Mailboxes rules (m ++ (44 ∷ (g ++ ms))) (p ++ (raw (44 ∷ []) ∷ (q ++ r))) (l || lost) (c || changed)
+  then : {ms g m : List ℕ} {p q r : List Segment} {lost changed l c : Bool} → Mailboxes rules ms p lost changed → Gap g q → Mailbox rules m r l c
+      → Mailboxes rules (ms ++ (44 ∷ (g ++ m))) (p ++ (raw (44 ∷ []) ∷ (q ++ r))) (lost || l) (changed || c)
 
 -- what stands between the colon and the semicolon of a group: "mailboxes .., perhaps none"
 pub data Members (rules : Rules) : List ℕ → List Segment → Bool → Bool → Type 0 where

@@ -54,27 +54,24 @@ after-gap K ks ls e k = rw e k
 before-gap : (K : List PartKind → Type 0) (ks ls : List PartKind) → K ks → NoKind ls → K (ks ++ ls)
 before-gap K ks ls k e = rw (e, append-nil ks) k
 
--- mailboxes after a comma, before a first mailbox, and between a colon and a semicolon
-record CommaFirst (ks : List PartKind) : Type 0 where
+-- a mailbox after a comma
+record AfterComma (ks : List PartKind) : Type 0 where
   after : List PartKind
   made : ks ≡ Comma ∷ after
-  are : MailboxesKinds after
+  is : MailboxKinds after
 
-comma-first : (ks ls : List PartKind) → OneKind Comma ks → MailboxesKinds ls → CommaFirst (ks ++ ls)
-comma-first ks ls e m = record { after = ls; made = rw e; are = m }
+after-comma : (ks ls : List PartKind) → OneKind Comma ks → MailboxKinds ls → AfterComma (ks ++ ls)
+after-comma ks ls e m = record { after = ls; made = rw e; is = m }
 
-mailbox-then : {m ms : List PartKind} → MailboxKinds m → MailboxesKinds ms → MailboxesKinds (m ++ (Comma ∷ ms))
-mailbox-then a (MailboxesKinds.one b) = MailboxesKinds.then (MailboxesKinds.one a) b
-mailbox-then a (MailboxesKinds.then bs b) = rw append-assoc at (MailboxesKinds.then (mailbox-then a bs) b)
+mailboxes-then : (ks ls : List PartKind) → MailboxesKinds ks → AfterComma ls → MailboxesKinds (ks ++ ls)
+mailboxes-then ks ls a c = rw (c .made) (MailboxesKinds.then a (c .is))
 
-mailbox-first : (ks ls : List PartKind) → MailboxKinds ks → CommaFirst ls → MailboxesKinds (ks ++ ls)
-mailbox-first ks ls a c = rw (c .made) (mailbox-then a (c .are))
-
+-- what stands between a group's colon and its semicolon
 abbrev InGroup : List PartKind → Type 0
 InGroup ks = ItemKinds (PhraseKind ∷ Colon ∷ (ks ++ (Semicolon ∷ [])))
 
 -- the address in a text where it starts after so many bytes
-inner : (x a y : List ℕ) (n : ℕ) → n ≡ length x → take (length a) (drop n (x ++ (a ++ y))) ≡ a
+pub inner : (x a y : List ℕ) (n : ℕ) → n ≡ length x → take (length a) (drop n (x ++ (a ++ y))) ≡ a
 inner x a y n e = rw (e, drop-append-seam x (a ++ y), take-append-seam a y)
 
 module _ {rules : Rules} where
@@ -170,8 +167,8 @@ module _ {rules : Rules} where
   mailboxes-parts : {m : List ℕ} {p : List Segment} {l c : Bool} → Mailboxes rules m p l c → Parted rules MailboxesKinds m p l c
   unfolding pieces
   mailboxes-parts (Mailboxes.one h) = let a = mailbox-parts h in record { parts = a .parts; plain = a .plain; kinds = MailboxesKinds.one (a .kinds) }
-  mailboxes-parts (Mailboxes.then h g more) =
-      parted-both MailboxesKinds mailbox-first (mailbox-parts h) (parted-both CommaFirst comma-first comma-parts (parted-both MailboxesKinds (after-gap MailboxesKinds) (gap-parts g) (mailboxes-parts more)))
+  mailboxes-parts (Mailboxes.then more g h) =
+      parted-both MailboxesKinds mailboxes-then (mailboxes-parts more) (parted-both AfterComma after-comma comma-parts (parted-both MailboxKinds (after-gap MailboxKinds) (gap-parts g) (mailbox-parts h)))
 
   members-parts : {m : List ℕ} {p : List Segment} {l c : Bool} → Members rules m p l c → Parted rules InGroup m p l c
   members-parts (Members.none g) = let a = gap-parts g in record { parts = a .parts; plain = a .plain; kinds = rw (a .kinds) ItemKinds.emptyGroup }
