@@ -7,4 +7,5 @@ pub mod FittingLaws
 pub mod PartListLaws
 pub mod PhraseWordsLaws
 pub mod FormPartsLaws
+pub mod PartsFormLaws
 pub mod ListCases
