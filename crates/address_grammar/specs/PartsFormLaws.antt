@@ -108,6 +108,9 @@ record Cut (rules : Rules) (ks ls : List PartKind) (ps : List Part) : Type 0 whe
   front : Parted rules ks before
   back : Parted rules ls after
 
+comma-made : (before rest : List Part) {ps after : List Part} {t : List ℕ} → ps ≡ before ++ after → after ≡ part Comma t ∷ rest → t ≡ 44 ∷ [] → ps ≡ before ++ (part Comma (44 ∷ []) ∷ rest)
+comma-made before rest e f g = rw (e, f, g)
+
 made-of : (p : Part) (gap : List Part) {ps rest is : List Part} → ps ≡ p ∷ (gap ++ rest) → rest ≡ is → ps ≡ p ∷ (gap ++ is)
 made-of p gap e f = rw (e, f)
 
@@ -218,3 +221,106 @@ module _ {rules : Rules} where
         form = Mailbox.named (n .form) (h .gap-is .form) (f .form) (i .gap-is .form);
         plain = plain-both (n .plain) (plain-both (h .gap-is .plain) (plain-gap (f .plain) (i .gap-is)));
       })
+
+  mailboxes-formed : {ms : List PartKind} → MailboxesKinds ms → (ps : List Part) → Parted rules ms ps → Formed rules (Mailboxes rules) ps
+  unfolding pieces isLost changes
+  mailboxes-formed (MailboxesKinds.one a) ps h =
+      let f = mailbox-formed a ps h in
+      record { text = _; segments = _; lost = _; changed = _; form = Mailboxes.one (f .form); plain = f .plain }
+  mailboxes-formed (MailboxesKinds.then {ms} {m} a b) ps h =
+      let c = cut rules ms (Comma ∷ m) ps h in
+      let d = c .back in
+      let x = mailboxes-formed a (c .before) (c .front) in
+      let y = mailbox-formed b (d .rest) (d .more) in
+      rw (comma-made (c .before) (d .gap ++ d .rest) (c .made) (d .made) (d .is))
+      (record {
+        text = _;
+        segments = _;
+        lost = _;
+        changed = _;
+        form = Mailboxes.then (x .form) (d .gap-is .form) (y .form);
+        plain = plain-both (x .plain) (plain-both (plain-one Comma refl tt) (plain-both (d .gap-is .plain) (y .plain)));
+      })
+
+  -- a gap after a group's colon, and the mailboxes after it, perhaps none
+  no-members : (gs : List Part) → GapFormed rules gs → (ps : List Part) → Parted rules [] ps → Formed rules (Members rules) (gs ++ ps)
+  no-members gs g ps e = rw (e, append-nil gs) (record { text = _; segments = _; lost = _; changed = _; form = Members.none (g .form); plain = g .plain })
+
+  some-members : {ms : List PartKind} → MailboxesKinds ms → (gs : List Part) → GapFormed rules gs → (ps : List Part) → Parted rules ms ps → Formed rules (Members rules) (gs ++ ps)
+  some-members a gs g ps h =
+      let x = mailboxes-formed a ps h in
+      record { text = _; segments = _; lost = _; changed = _; form = Members.some (g .form) (x .form); plain = plain-both (g .plain) (x .plain) }
+
+-- ---- items
+
+pub record ItemFormed (rules : Rules) (F : List ℕ → List Segment → Bool → Type 0) (ps : List Part) : Type 0 where
+  pub text : List ℕ
+  pub segments : List Segment
+  pub changed : Bool
+  pub form : F text segments changed
+  pub written : WrittenParts rules ps text segments changed
+
+group-made : (p : Part) (g₁ g₂ before g₃ : List Part) {ps r₁ r₂ after : List Part} {t u : List ℕ} → ps ≡ p ∷ (g₁ ++ r₁) → r₁ ≡ part Colon t ∷ (g₂ ++ r₂) → t ≡ 58 ∷ [] → r₂ ≡ before ++ after
+    → after ≡ part Semicolon u ∷ g₃ → u ≡ 59 ∷ [] → ps ≡ p ∷ (g₁ ++ (colon ∷ ((g₂ ++ before) ++ (semicolon ∷ g₃))))
+group-made p g₁ g₂ before g₃ e₁ e₂ e₃ e₄ e₅ e₆ = rw (e₁, e₂, e₃, e₄, e₅, e₆, append-assoc g₂ before (semicolon ∷ g₃))
+
+module _ {rules : Rules} where
+  -- a phrase and a gap, members between a colon and a semicolon, and a gap
+  by-lost : {f : List ℕ} {gs ms hs : List Part} {t : List ℕ} {s : List Segment} (l : Bool) {c : Bool} → PhraseFormed rules f → GapFormed rules gs → Members rules t s l c → PlainParts rules ms t s l c → GapFormed rules hs
+      → ItemFormed rules (Item rules) (part PhraseKind f ∷ (gs ++ (colon ∷ (ms ++ (semicolon ∷ hs)))))
+  by-lost false {c} f g m p h = record {
+    text = _;
+    segments = _;
+    changed = c;
+    form = Item.group (f .form) (g .form) m (h .form);
+    written = rw (or-false c) at (written-both (plain-written (f .plain)) (written-both (plain-written (g .plain)) (group-written p (plain-written (h .plain)))));
+  }
+  by-lost true {c} f g m p h = record {
+    text = _;
+    segments = _;
+    changed = c;
+    form = Item.lostGroup (f .form) (g .form) m (h .form);
+    written = rw (or-false c) at (written-both (plain-written (f .plain)) (written-both (plain-written (g .plain)) (lost-written p (plain-written (h .plain)))));
+  }
+
+  group-formed : (ks : List PartKind) → ((gs : List Part) → GapFormed rules gs → (ps : List Part) → Parted rules ks ps → Formed rules (Members rules) (gs ++ ps)) → (ps : List Part)
+      → Parted rules (PhraseKind ∷ Colon ∷ (ks ++ (Semicolon ∷ []))) ps → ItemFormed rules (Item rules) ps
+  group-formed ks members ps h =
+      let i = h .more in
+      let c = cut rules ks (Semicolon ∷ []) (i .rest) (i .more) in
+      let j = c .back in
+      let m = members (i .gap) (i .gap-is) (c .before) (c .front) in
+      rw (group-made (part PhraseKind (h .text)) (h .gap) (i .gap) (c .before) (j .gap) (h .made) (i .made) (i .is) (c .made) (front-last j) (j .is))
+      (by-lost (m .lost) (phrase-formed rules (h .text) (h .is)) (h .gap-is) (m .form) (m .plain) (j .gap-is))
+
+  item-formed : {i : List PartKind} → ItemKinds i → (ps : List Part) → Parted rules i ps → ItemFormed rules (Item rules) ps
+  item-formed (ItemKinds.mailbox a) ps h =
+      let f = mailbox-formed a ps h in
+      record { text = _; segments = _; changed = _; form = Item.mailbox (f .form); written = plain-written (f .plain) }
+  item-formed ItemKinds.emptyGroup ps h = group-formed [] no-members ps h
+  item-formed (ItemKinds.group {ms} a) ps h = group-formed ms (some-members a) ps h
+
+  items-formed : {is : List PartKind} → ItemsKinds is → (ps : List Part) → Parted rules is ps → ItemFormed rules (Items rules) ps
+  unfolding pieces isLost changes
+  items-formed (ItemsKinds.one a) ps h =
+      let f = item-formed a ps h in
+      record { text = _; segments = _; changed = _; form = Items.one (f .form); written = f .written }
+  items-formed (ItemsKinds.then {i} {is} a b) ps h =
+      let c = cut rules i (Comma ∷ is) ps h in
+      let d = c .back in
+      let x = item-formed a (c .before) (c .front) in
+      let y = items-formed b (d .rest) (d .more) in
+      rw (comma-made (c .before) (d .gap ++ d .rest) (c .made) (d .made) (d .is))
+      (record {
+        text = _;
+        segments = _;
+        changed = _;
+        form = Items.then (x .form) (d .gap-is .form) (y .form);
+        written = written-both (x .written) (written-both (plain-written (plain-one Comma refl tt)) (written-both (plain-written (d .gap-is .plain)) (y .written)));
+      })
+
+  pub value-formed : (ps : List Part) → EachIsPart rules ps → ItemsKinds (kindsOf ps) → ItemFormed rules (AddressValue rules) ps
+  value-formed ps e k =
+      let a = after-gap ps e in
+      let f = items-formed k (a .rest) (a .parted) in
+      rw (a .made) (record { text = _; segments = _; changed = _; form = AddressValue.value (a .gap-is .form) (f .form); written = written-both (plain-written (a .gap-is .plain)) (f .written) })
