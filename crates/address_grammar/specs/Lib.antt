@@ -8,4 +8,5 @@ pub mod PartListLaws
 pub mod PhraseWordsLaws
 pub mod FormPartsLaws
 pub mod PartsFormLaws
+pub mod AddressFieldLaws
 pub mod ListCases
