@@ -2,8 +2,8 @@
 -- must be a comma list of mailboxes or groups"; "The rewritten value is a row of pieces". AddressFieldLaws.antt proves that code
 -- writes just these pieces. Assumes nothing.
 --
--- `lost`: it has "a non-ASCII address without an alternative". `changed`: "any address was replaced or removed". A comma is 44, `:` 58, `;`
--- 59, `<` 60, `>` 62.
+-- A form's indices are its text, its pieces and, as far as it has them, `lost`: it has "a non-ASCII address without an alternative"; and
+-- `changed`: "any address was replaced or removed". A comma is 44, `:` 58, `;` 59, `<` 60, `>` 62.
 use mathlib.Core.Bool.{Bool, true, false, not, _||_}
 use mathlib.Core.List.{List, [], _∷_, _++_, map}
 use Prim.Native.Nat.{ℕ}
@@ -45,11 +45,12 @@ pub data Phrase : List ℕ → List Segment → Type 0 where
   other : {t : List ℕ} {ws : List (List ℕ)} → Words t ws → T (not (all isAscii t)) → Phrase t (words (joinedBySpaces (map unquoted ws)) ∷ [])
 
 -- "`<address>`, or with an alternative `<address <ASCII address>>`, the first non-ASCII, at least one space or TAB between", where the
--- rules allow it; "an alternative replaces the first". Text, pieces, lost, changed.
+-- rules allow it; "an alternative replaces the first"
 pub data InAngles (rules : Rules) : List ℕ → List Segment → Bool → Bool → Type 0 where
   sole : (gap : List ℕ) {a : List ℕ} → Blanks gap → AddressText a
       → InAngles rules (60 ∷ (gap ++ (a ++ (62 ∷ [])))) (addressPieces rules inAngles a) (not (all isAscii a)) (not (all isAscii a))
-  alternative : (gap gap₂ : List ℕ) {a between b : List ℕ} → T (allowsAlternative rules) → Blanks gap → AddressText a → T (not (all isAscii a)) → SomeBlanks between → Blanks gap₂ → AddressText b → T (all isAscii b)
+  alternative : (gap gap₂ : List ℕ) {a between b : List ℕ} → T (allowsAlternative rules) → Blanks gap → AddressText a → T (not (all isAscii a)) → SomeBlanks between
+      → Blanks gap₂ → AddressText b → T (all isAscii b)
       → InAngles rules (60 ∷ (gap ++ (a ++ (between ++ (60 ∷ (gap₂ ++ (b ++ (62 ∷ 62 ∷ [])))))))) (inAngles b ∷ []) false true
 
 -- "A mailbox is a bare address, or an optional phrase and `<address>`, or with an alternative", and the gap after it
@@ -70,9 +71,9 @@ pub data Members (rules : Rules) : List ℕ → List Segment → Bool → Bool �
   none : {g : List ℕ} {p : List Segment} → Gap g p → Members rules g p false false
   some : {g ms : List ℕ} {p q : List Segment} {lost changed : Bool} → Gap g p → Mailboxes rules ms q lost changed → Members rules (g ++ ms) (p ++ q) lost changed
 
--- "mailboxes or groups (`phrase : mailboxes ;`, perhaps none)". "`:` and `;` of a group are pieces." "If any member of a group has a non-ASCII
--- address without an alternative, the whole group becomes the pieces before its colon, `Internationalized Address`, encoded words of everything between
--- its colon and semicolon (spaces and TABs at both ends dropped), `Removed:;`." Text, pieces, changed.
+-- "mailboxes or groups (`phrase : mailboxes ;`, perhaps none)". "`:` and `;` of a group are pieces." "If any member of a group has a
+-- non-ASCII address without an alternative, the whole group becomes the pieces before its colon, `Internationalized Address`, encoded
+-- words of everything between its colon and semicolon (spaces and TABs at both ends dropped), `Removed:;`."
 pub data Item (rules : Rules) : List ℕ → List Segment → Bool → Type 0 where
   mailbox : {m : List ℕ} {p : List Segment} {lost changed : Bool} → Mailbox rules m p lost changed → Item rules m p changed
   group : {f g m h : List ℕ} {p q r s : List Segment} {changed : Bool} → Phrase f p → Gap g q → Members rules m r false changed → Gap h s
@@ -94,8 +95,8 @@ pub data AddressValue (rules : Rules) : List ℕ → List Segment → Bool → T
 abbrev pub rewritten : List ℕ → List Segment → List Segment
 rewritten name pieces = raw (name ++ (58 ∷ [])) ∷ (pieces ++ (raw (13 ∷ 10 ∷ []) ∷ []))
 
--- What a field with this name and text becomes. "If any address was replaced or removed, a `Downgraded-` field with encoded words of the original
--- text follows the rewritten field." "Text that does not fit is encapsulated."
+-- What a field with this name and text becomes. "If any address was replaced or removed, a `Downgraded-` field with encoded words of
+-- the original text follows the rewritten field." "Text that does not fit is encapsulated."
 pub data AddressField (rules : Rules) (name text : List ℕ) : List Segment → Type 0 where
   kept : {pieces : List Segment} → AddressValue rules text pieces false → AddressField rules name text (rewritten name pieces)
   changed : {pieces : List Segment} → AddressValue rules text pieces true → AddressField rules name text (rewritten name pieces ++ encodedField true name text)

@@ -1,12 +1,10 @@
 -- What an address field becomes is what the grammar of AddressField.antt makes of its text. Assumes nothing.
 use mathlib.Core.Path.{_≡_, refl, sym, _∙_}
 use mathlib.Core.Bool.{Bool, true, false, cond}
-use mathlib.Core.List.{List, [], _∷_, _++_, append-nil}
+use mathlib.Core.List.{List, [], append-nil}
 use Prim.Native.Nat.{ℕ}
 use Rattle.rules.specs.declared.Rules.{Rules}
 use Rattle.encoded_word.specs.Segments.{Segment}
-use Rattle.encoded_word.specs.Segments.Segment.{raw}
-use Rattle.field.specs.Field.{encodedField}
 use Rattle.address_list.specs.Parts.{Part, partsOf, anyChanges}
 use Rattle.address_list.specs.Table.{fits, examined}
 use Rattle.address_list.specs.declared.Examined.{Examined}
@@ -14,7 +12,7 @@ use Rattle.address_list.specs.declared.Examined.the-variants.{DoesNotFit, Kept,
 use Rattle.group.specs.Group.{turnsFrom, turnsOf}
 use Rattle.address_pieces.specs.Pieces.{piecesOf}
 use Rattle.address_pieces.specs.AddressField.{rewrittenField, fieldBy, addressField}
-use Rattle.address_grammar.specs.PartGrammar.{joinedParts, AddressList}
+use Rattle.address_grammar.specs.PartGrammar.{AddressList}
 use Rattle.address_grammar.specs.PartGrammarLaws.{parts-made, parts-joined}
 use Rattle.address_grammar.specs.GrammarLaws.{fits-made, examined-is, kept-examined, changed-examined}
 use Rattle.address_grammar.specs.FittingLaws.{one-reading, listed-fits, unfit-text, text-unfit}

@@ -1,8 +1,8 @@
 -- A text that the grammar of AddressField.antt makes has parts that are a comma list, with the same pieces. Assumes nothing.
-use mathlib.Core.Path.{_≡_, refl, ap, sym, _∙_}
-use mathlib.Core.Bool.{Bool, true, false, not, _||_, or-false}
+use mathlib.Core.Path.{_≡_, refl}
+use mathlib.Core.Bool.{Bool, false, _||_, or-false}
 use mathlib.Core.List.{List, [], _∷_, _++_, append-assoc, append-nil, map}
-use Prim.Native.Nat.{ℕ, suc, _+_}
+use Prim.Native.Nat.{ℕ, _+_}
 use native.Mathlib.Omega.{arith}
 use lib.Dec.{T}
 use lib.ListN.{length, take, drop, length-append}
@@ -10,7 +10,6 @@ use lib.Seq.{drop-append-seam, take-append-seam}
 use Rattle.lists.specs.Byte.{isAscii}
 use Rattle.lists.specs.Lists.{all}
 use Rattle.lists.specs.ListsLaws.{yes-true, no-false}
-use Rattle.line.specs.Line.{blank as isBlank}
 use Rattle.unquote.specs.Unquote.{unquoted}
 use Rattle.phrase.specs.Phrase.{joinedBySpaces, phraseText}
 use Rattle.rules.specs.declared.Rules.{Rules}
@@ -22,9 +21,9 @@ use Rattle.address_list.specs.Grammar.{unlessGap, kindsOf, InAngles as AnglesKi
 use Rattle.address_list.specs.declared.PartKind.{PartKind}
 use Rattle.address_list.specs.declared.PartKind.the-variants.{Blank, Comment, Comma, Colon, Semicolon, Phrase as PhraseKind, Address, Angled, Alternative}
 use Rattle.group.specs.Group.{isLost}
-use Rattle.address_pieces.specs.Pieces.{phrasePieces, inAngles, addressPieces, pieces}
-use Rattle.address_grammar.specs.PartGrammar.{IsPart, Blanks, AngledText, AlternativeText}
-use Rattle.address_grammar.specs.AddressField.{Gap, Words, Phrase, InAngles, Mailbox, Mailboxes, Members, Item, Items, AddressValue}
+use Rattle.address_pieces.specs.Pieces.{phrasePieces, pieces}
+use Rattle.address_grammar.specs.PartGrammar.{IsPart, AngledText, AlternativeText}
+use Rattle.address_grammar.specs.AddressField.{Gap, Phrase, InAngles, Mailbox, Mailboxes, Members, Item, Items, AddressValue}
 use Rattle.address_grammar.specs.PartListLaws.{part, isUnmarked, colon, semicolon, kinds-append, PlainParts, plain-none, plain-one, plain-both, WrittenParts, plain-written, written-both, group-written, lost-written}
 use Rattle.address_grammar.specs.PhraseWordsLaws.{words-phrase, words-are}
 
@@ -194,28 +193,23 @@ unfolding kindsOf unlessGap
 items-then is js i gs g j = rw (kinds-append is (part Comma (44 ∷ []) ∷ (gs ++ js)), kinds-append gs js, g) (ItemsKinds.then i j)
 
 module _ {rules : Rules} where
+  -- a phrase and a gap, and a group from its colon on, with the gap after it
+  grouped : {f g h t : List ℕ} {p q s r : List Segment} {c : Bool} → Phrase f p → Gap g q → (ms : List Part) → InGroup (kindsOf ms) → (e : Gap h s)
+      → WrittenParts rules (colon ∷ (ms ++ (semicolon ∷ gap-parts {rules = rules} e .parts))) t r (c || false) → ItemParted rules ItemKinds (f ++ (g ++ t)) (p ++ (q ++ r)) c
+  grouped {c = c} h g ms k e w =
+      let f = phrase-parts {rules = rules} h in
+      let a = gap-parts {rules = rules} g in
+      let d = gap-parts {rules = rules} e in
+      record {
+        parts = f .parts ++ (a .parts ++ (colon ∷ (ms ++ (semicolon ∷ d .parts))));
+        written = rw (or-false c) at (written-both (plain-written (f .plain)) (written-both (plain-written (a .plain)) w));
+        kinds = group-kinds (f .parts) (a .parts) ms (d .parts) (f .kinds) (a .kinds) k (d .kinds);
+      }
+
   item-parts : {i : List ℕ} {p : List Segment} {c : Bool} → Item rules i p c → ItemParted rules ItemKinds i p c
   item-parts (Item.mailbox h) = let a = mailbox-parts h in record { parts = a .parts; written = plain-written (a .plain); kinds = ItemKinds.mailbox (a .kinds) }
-  item-parts (Item.group {changed = c} h g m e) =
-      let f = phrase-parts {rules = rules} h in
-      let a = gap-parts {rules = rules} g in
-      let b = members-parts m in
-      let d = gap-parts {rules = rules} e in
-      record {
-        parts = f .parts ++ (a .parts ++ (colon ∷ (b .parts ++ (semicolon ∷ d .parts))));
-        written = rw (or-false c) at (written-both (plain-written (f .plain)) (written-both (plain-written (a .plain)) (group-written (b .plain) (plain-written (d .plain)))));
-        kinds = group-kinds (f .parts) (a .parts) (b .parts) (d .parts) (f .kinds) (a .kinds) (b .kinds) (d .kinds);
-      }
-  item-parts (Item.lostGroup {changed = c} h g m e) =
-      let f = phrase-parts {rules = rules} h in
-      let a = gap-parts {rules = rules} g in
-      let b = members-parts m in
-      let d = gap-parts {rules = rules} e in
-      record {
-        parts = f .parts ++ (a .parts ++ (colon ∷ (b .parts ++ (semicolon ∷ d .parts))));
-        written = rw (or-false c) at (written-both (plain-written (f .plain)) (written-both (plain-written (a .plain)) (lost-written (b .plain) (plain-written (d .plain)))));
-        kinds = group-kinds (f .parts) (a .parts) (b .parts) (d .parts) (f .kinds) (a .kinds) (b .kinds) (d .kinds);
-      }
+  item-parts (Item.group h g m e) = let b = members-parts m in grouped h g (b .parts) (b .kinds) e (group-written (b .plain) (plain-written (gap-parts e .plain)))
+  item-parts (Item.lostGroup h g m e) = let b = members-parts m in grouped h g (b .parts) (b .kinds) e (lost-written (b .plain) (plain-written (gap-parts e .plain)))
 
   items-parts : {i : List ℕ} {p : List Segment} {c : Bool} → Items rules i p c → ItemParted rules ItemsKinds i p c
   unfolding pieces isLost changes

@@ -1,9 +1,9 @@
 -- Parts that are a comma list have a text that the grammar of AddressField.antt makes, with the pieces that are written. Assumes
 -- nothing.
-use mathlib.Core.Path.{_≡_, refl, sym, _∙_}
-use mathlib.Core.Bool.{Bool, true, false, not, _||_, or-false}
+use mathlib.Core.Path.{_≡_, refl, _∙_}
+use mathlib.Core.Bool.{Bool, true, false, not, or-false}
 use mathlib.Core.List.{List, [], _∷_, _++_, append-assoc, append-nil, map}
-use Prim.Native.Nat.{ℕ, suc, _+_}
+use Prim.Native.Nat.{ℕ, _+_}
 use native.Mathlib.Omega.{arith}
 use lib.Dec.{T}
 use lib.ListN.{length, take, drop, length-append}
@@ -22,7 +22,7 @@ use Rattle.address_list.specs.declared.PartKind.{PartKind}
 use Rattle.address_list.specs.declared.PartKind.the-variants.{Blank, Comment, Comma, Colon, Semicolon, Phrase as PhraseKind, Address, Angled, Alternative, Stray}
 use Rattle.group.specs.Group.{isLost}
 use Rattle.address_pieces.specs.Pieces.{phrasePieces, inAngles, addressPieces, pieces}
-use Rattle.address_grammar.specs.PartGrammar.{PhraseText, AngledText, AlternativeText, IsPart, EachIsPart}
+use Rattle.address_grammar.specs.PartGrammar.{PhraseText, AlternativeText, IsPart, EachIsPart}
 use Rattle.address_grammar.specs.AddressField.{Gap, Phrase, InAngles, Mailbox, Mailboxes, Members, Item, Items, AddressValue}
 use Rattle.address_grammar.specs.PartListLaws.{part, colon, semicolon, PlainParts, plain-none, plain-one, plain-both, WrittenParts, plain-written, written-both, group-written, lost-written}
 use Rattle.address_grammar.specs.PhraseWordsLaws.{phrase-words, words-are}
@@ -37,7 +37,7 @@ record GapFormed (rules : Rules) (gs : List Part) : Type 0 where
   plain : PlainParts rules gs text segments false false
 
 -- a part of such a kind, the gap after it, and more
-record Front (rules : Rules) (k : PartKind) (More : List Part → Type 0) (ps : List Part) : Type 0 where
+record FirstPart (rules : Rules) (k : PartKind) (More : List Part → Type 0) (ps : List Part) : Type 0 where
   text : List ℕ
   is : IsPart rules k text
   gap : List Part
@@ -47,66 +47,66 @@ record Front (rules : Rules) (k : PartKind) (More : List Part → Type 0) (ps : 
   more : More rest
 
 -- parts of such kinds, each with the gap after it
-abbrev Parted : Rules → List PartKind → List Part → Type 0
-Parted rules [] ps = ps ≡ []
-Parted rules (k ∷ ks) ps = Front rules k (Parted rules ks) ps
+abbrev PartsOfKinds : Rules → List PartKind → List Part → Type 0
+PartsOfKinds rules [] ps = ps ≡ []
+PartsOfKinds rules (k ∷ ks) ps = FirstPart rules k (PartsOfKinds rules ks) ps
 
 -- a gap, and such parts
-record AfterGap (rules : Rules) (ks : List PartKind) (ps : List Part) : Type 0 where
+record GapFirst (rules : Rules) (ks : List PartKind) (ps : List Part) : Type 0 where
   gap : List Part
   gap-is : GapFormed rules gap
   rest : List Part
   made : ps ≡ gap ++ rest
-  parted : Parted rules ks rest
+  parts : PartsOfKinds rules ks rest
 
 no-gap : (rules : Rules) → GapFormed rules []
 no-gap rules = record { text = []; segments = []; form = Gap.none; plain = plain-none rules }
 
 module _ {rules : Rules} where
-  part-front : {ks : List PartKind} (k : PartKind) (t : List ℕ) (ps : List Part) → IsPart rules k t → AfterGap rules ks ps → AfterGap rules (k ∷ ks) (part k t ∷ ps)
-  part-front k t ps p a = record {
+  part-first : {ks : List PartKind} (k : PartKind) (t : List ℕ) (ps : List Part) → IsPart rules k t → GapFirst rules ks ps → GapFirst rules (k ∷ ks) (part k t ∷ ps)
+  part-first k t ps p a = record {
     gap = [];
     gap-is = no-gap rules;
     rest = part k t ∷ ps;
     made = refl;
-    parted = record { text = t; is = p; gap = a .gap; gap-is = a .gap-is; rest = a .rest; made = rw (← a .made); more = a .parted };
+    parts = record { text = t; is = p; gap = a .gap; gap-is = a .gap-is; rest = a .rest; made = rw (← a .made); more = a .parts };
   }
 
-  part-gap : {ks : List PartKind} (p : Part) (ps : List Part) {t : List ℕ} {s : List Segment} → PlainParts rules (p ∷ []) t s false false → (a : AfterGap rules ks ps) → Gap (t ++ a .gap-is .text) (s ++ a .gap-is .segments)
-      → AfterGap rules ks (p ∷ ps)
+  part-gap : {ks : List PartKind} (p : Part) (ps : List Part) {t : List ℕ} {s : List Segment} → PlainParts rules (p ∷ []) t s false false → (a : GapFirst rules ks ps) → Gap (t ++ a .gap-is .text) (s ++ a .gap-is .segments)
+      → GapFirst rules ks (p ∷ ps)
   part-gap p ps one a g = record {
     gap = p ∷ a .gap;
     gap-is = record { text = _; segments = _; form = g; plain = plain-both one (a .gap-is .plain) };
     rest = a .rest;
     made = rw (← a .made);
-    parted = a .parted;
+    parts = a .parts;
   }
 
-  next : {ks : List PartKind} (k : PartKind) (t : List ℕ) (ps : List Part) → IsPart rules k t → AfterGap rules ks ps → AfterGap rules (unlessGap k ks) (part k t ∷ ps)
+  next : {ks : List PartKind} (k : PartKind) (t : List ℕ) (ps : List Part) → IsPart rules k t → GapFirst rules ks ps → GapFirst rules (unlessGap k ks) (part k t ∷ ps)
   unfolding unlessGap pieces isLost changes
   next Blank t ps p a = part-gap (part Blank t) ps (plain-one Blank p tt) a (rw (p .made) (Gap.blank (p .is) (a .gap-is .form)))
   next Comment t ps p a = part-gap (part Comment t) ps (plain-one Comment p tt) a (Gap.comment (p .form) (p .runs) (a .gap-is .form))
-  next Comma t ps p a = part-front Comma t ps p a
-  next Colon t ps p a = part-front Colon t ps p a
-  next Semicolon t ps p a = part-front Semicolon t ps p a
-  next PhraseKind t ps p a = part-front PhraseKind t ps p a
-  next Address t ps p a = part-front Address t ps p a
-  next (Angled start size) t ps p a = part-front (Angled start size) t ps p a
-  next (Alternative start size) t ps p a = part-front (Alternative start size) t ps p a
-  next Stray t ps p a = part-front Stray t ps p a
+  next Comma t ps p a = part-first Comma t ps p a
+  next Colon t ps p a = part-first Colon t ps p a
+  next Semicolon t ps p a = part-first Semicolon t ps p a
+  next PhraseKind t ps p a = part-first PhraseKind t ps p a
+  next Address t ps p a = part-first Address t ps p a
+  next (Angled start size) t ps p a = part-first (Angled start size) t ps p a
+  next (Alternative start size) t ps p a = part-first (Alternative start size) t ps p a
+  next Stray t ps p a = part-first Stray t ps p a
 
-  after-gap : (ps : List Part) → EachIsPart rules ps → AfterGap rules (kindsOf ps) ps
+  gap-first : (ps : List Part) → EachIsPart rules ps → GapFirst rules (kindsOf ps) ps
   unfolding kindsOf
-  after-gap [] e = record { gap = []; gap-is = no-gap rules; rest = []; made = refl; parted = refl }
-  after-gap (p ∷ ps) e = next (p .kind) (p .text) ps (e .0) (after-gap ps (e .1))
+  gap-first [] e = record { gap = []; gap-is = no-gap rules; rest = []; made = refl; parts = refl }
+  gap-first (p ∷ ps) e = next (p .kind) (p .text) ps (e .0) (gap-first ps (e .1))
 
 -- parts of some kinds, and parts of others after them
-record Cut (rules : Rules) (ks ls : List PartKind) (ps : List Part) : Type 0 where
+record Split (rules : Rules) (ks ls : List PartKind) (ps : List Part) : Type 0 where
   before : List Part
   after : List Part
   made : ps ≡ before ++ after
-  front : Parted rules ks before
-  back : Parted rules ls after
+  front : PartsOfKinds rules ks before
+  back : PartsOfKinds rules ls after
 
 comma-made : (before rest : List Part) {ps after : List Part} {t : List ℕ} → ps ≡ before ++ after → after ≡ part Comma t ∷ rest → t ≡ 44 ∷ [] → ps ≡ before ++ (part Comma (44 ∷ []) ∷ rest)
 comma-made before rest e f g = rw (e, f, g)
@@ -114,17 +114,17 @@ comma-made before rest e f g = rw (e, f, g)
 made-of : (p : Part) (gap : List Part) {ps rest is : List Part} → ps ≡ p ∷ (gap ++ rest) → rest ≡ is → ps ≡ p ∷ (gap ++ is)
 made-of p gap e f = rw (e, f)
 
-cut-later : (p : Part) (gap before after : List Part) {ps rest : List Part} → ps ≡ p ∷ (gap ++ rest) → rest ≡ before ++ after → ps ≡ (p ∷ (gap ++ before)) ++ after
-cut-later p gap before after e f = made-of p gap e f ∙ rw (append-assoc gap before after)
+split-later : (p : Part) (gap before after : List Part) {ps rest : List Part} → ps ≡ p ∷ (gap ++ rest) → rest ≡ before ++ after → ps ≡ (p ∷ (gap ++ before)) ++ after
+split-later p gap before after e f = made-of p gap e f ∙ rw (append-assoc gap before after)
 
-cut : (rules : Rules) (ks ls : List PartKind) (ps : List Part) → Parted rules (ks ++ ls) ps → Cut rules ks ls ps
-cut rules [] ls ps h = record { before = []; after = ps; made = refl; front = refl; back = h }
-cut rules (k ∷ ks) ls ps h =
-    let c = cut rules ks ls (h .rest) (h .more) in
+split : (rules : Rules) (ks ls : List PartKind) (ps : List Part) → PartsOfKinds rules (ks ++ ls) ps → Split rules ks ls ps
+split rules [] ls ps h = record { before = []; after = ps; made = refl; front = refl; back = h }
+split rules (k ∷ ks) ls ps h =
+    let c = split rules ks ls (h .rest) (h .more) in
     record {
       before = part k (h .text) ∷ (h .gap ++ c .before);
       after = c .after;
-      made = cut-later (part k (h .text)) (h .gap) (c .before) (c .after) (h .made) (c .made);
+      made = split-later (part k (h .text)) (h .gap) (c .before) (c .after) (h .made) (c .made);
       front = record { text = h .text; is = h .is; gap = h .gap; gap-is = h .gap-is; rest = c .before; made = refl; more = c .front };
       back = c .back;
     }
@@ -197,22 +197,22 @@ module _ {rules : Rules} where
   plain-gap {l = l} {c = c} a g = rw (or-false l, or-false c) at (plain-both a (g .plain))
 
   -- the last part
-  front-last : {k : PartKind} {ps : List Part} (h : Front rules k (Parted rules []) ps) → ps ≡ part k (h .text) ∷ h .gap
-  front-last h = h .made ∙ rw (h .more, append-nil (h .gap))
+  last-part : {k : PartKind} {ps : List Part} (h : FirstPart rules k (PartsOfKinds rules []) ps) → ps ≡ part k (h .text) ∷ h .gap
+  last-part h = h .made ∙ rw (h .more, append-nil (h .gap))
 
-  mailbox-formed : {m : List PartKind} → MailboxKinds m → (ps : List Part) → Parted rules m ps → Formed rules (Mailbox rules) ps
+  mailbox-formed : {m : List PartKind} → MailboxKinds m → (ps : List Part) → PartsOfKinds rules m ps → Formed rules (Mailbox rules) ps
   unfolding pieces isLost changes
   mailbox-formed MailboxKinds.bare ps h =
-      rw (front-last h)
+      rw (last-part h)
       (record { text = _; segments = _; lost = _; changed = _; form = Mailbox.bare (h .is) (h .gap-is .form); plain = plain-gap (plain-one Address (h .is) tt) (h .gap-is) })
   mailbox-formed (MailboxKinds.angled a) ps h =
       let f = angles-formed a (h .text) (h .is) in
-      rw (front-last h) (record { text = _; segments = _; lost = _; changed = _; form = Mailbox.angled (f .form) (h .gap-is .form); plain = plain-gap (f .plain) (h .gap-is) })
+      rw (last-part h) (record { text = _; segments = _; lost = _; changed = _; form = Mailbox.angled (f .form) (h .gap-is .form); plain = plain-gap (f .plain) (h .gap-is) })
   mailbox-formed (MailboxKinds.named a) ps h =
       let n = phrase-formed rules (h .text) (h .is) in
       let i = h .more in
       let f = angles-formed a (i .text) (i .is) in
-      rw (made-of (part PhraseKind (h .text)) (h .gap) (h .made) (front-last i))
+      rw (made-of (part PhraseKind (h .text)) (h .gap) (h .made) (last-part i))
       (record {
         text = _;
         segments = _;
@@ -222,13 +222,13 @@ module _ {rules : Rules} where
         plain = plain-both (n .plain) (plain-both (h .gap-is .plain) (plain-gap (f .plain) (i .gap-is)));
       })
 
-  mailboxes-formed : {ms : List PartKind} → MailboxesKinds ms → (ps : List Part) → Parted rules ms ps → Formed rules (Mailboxes rules) ps
+  mailboxes-formed : {ms : List PartKind} → MailboxesKinds ms → (ps : List Part) → PartsOfKinds rules ms ps → Formed rules (Mailboxes rules) ps
   unfolding pieces isLost changes
   mailboxes-formed (MailboxesKinds.one a) ps h =
       let f = mailbox-formed a ps h in
       record { text = _; segments = _; lost = _; changed = _; form = Mailboxes.one (f .form); plain = f .plain }
   mailboxes-formed (MailboxesKinds.then {ms} {m} a b) ps h =
-      let c = cut rules ms (Comma ∷ m) ps h in
+      let c = split rules ms (Comma ∷ m) ps h in
       let d = c .back in
       let x = mailboxes-formed a (c .before) (c .front) in
       let y = mailbox-formed b (d .rest) (d .more) in
@@ -243,10 +243,10 @@ module _ {rules : Rules} where
       })
 
   -- a gap after a group's colon, and the mailboxes after it, perhaps none
-  no-members : (gs : List Part) → GapFormed rules gs → (ps : List Part) → Parted rules [] ps → Formed rules (Members rules) (gs ++ ps)
+  no-members : (gs : List Part) → GapFormed rules gs → (ps : List Part) → PartsOfKinds rules [] ps → Formed rules (Members rules) (gs ++ ps)
   no-members gs g ps e = rw (e, append-nil gs) (record { text = _; segments = _; lost = _; changed = _; form = Members.none (g .form); plain = g .plain })
 
-  some-members : {ms : List PartKind} → MailboxesKinds ms → (gs : List Part) → GapFormed rules gs → (ps : List Part) → Parted rules ms ps → Formed rules (Members rules) (gs ++ ps)
+  some-members : {ms : List PartKind} → MailboxesKinds ms → (gs : List Part) → GapFormed rules gs → (ps : List Part) → PartsOfKinds rules ms ps → Formed rules (Members rules) (gs ++ ps)
   some-members a gs g ps h =
       let x = mailboxes-formed a ps h in
       record { text = _; segments = _; lost = _; changed = _; form = Members.some (g .form) (x .form); plain = plain-both (g .plain) (x .plain) }
@@ -283,30 +283,30 @@ module _ {rules : Rules} where
     written = rw (or-false c) at (written-both (plain-written (f .plain)) (written-both (plain-written (g .plain)) (lost-written p (plain-written (h .plain)))));
   }
 
-  group-formed : (ks : List PartKind) → ((gs : List Part) → GapFormed rules gs → (ps : List Part) → Parted rules ks ps → Formed rules (Members rules) (gs ++ ps)) → (ps : List Part)
-      → Parted rules (PhraseKind ∷ Colon ∷ (ks ++ (Semicolon ∷ []))) ps → ItemFormed rules (Item rules) ps
+  group-formed : (ks : List PartKind) → ((gs : List Part) → GapFormed rules gs → (ps : List Part) → PartsOfKinds rules ks ps → Formed rules (Members rules) (gs ++ ps)) → (ps : List Part)
+      → PartsOfKinds rules (PhraseKind ∷ Colon ∷ (ks ++ (Semicolon ∷ []))) ps → ItemFormed rules (Item rules) ps
   group-formed ks members ps h =
       let i = h .more in
-      let c = cut rules ks (Semicolon ∷ []) (i .rest) (i .more) in
+      let c = split rules ks (Semicolon ∷ []) (i .rest) (i .more) in
       let j = c .back in
       let m = members (i .gap) (i .gap-is) (c .before) (c .front) in
-      rw (group-made (part PhraseKind (h .text)) (h .gap) (i .gap) (c .before) (j .gap) (h .made) (i .made) (i .is) (c .made) (front-last j) (j .is))
+      rw (group-made (part PhraseKind (h .text)) (h .gap) (i .gap) (c .before) (j .gap) (h .made) (i .made) (i .is) (c .made) (last-part j) (j .is))
       (by-lost (m .lost) (phrase-formed rules (h .text) (h .is)) (h .gap-is) (m .form) (m .plain) (j .gap-is))
 
-  item-formed : {i : List PartKind} → ItemKinds i → (ps : List Part) → Parted rules i ps → ItemFormed rules (Item rules) ps
+  item-formed : {i : List PartKind} → ItemKinds i → (ps : List Part) → PartsOfKinds rules i ps → ItemFormed rules (Item rules) ps
   item-formed (ItemKinds.mailbox a) ps h =
       let f = mailbox-formed a ps h in
       record { text = _; segments = _; changed = _; form = Item.mailbox (f .form); written = plain-written (f .plain) }
   item-formed ItemKinds.emptyGroup ps h = group-formed [] no-members ps h
   item-formed (ItemKinds.group {ms} a) ps h = group-formed ms (some-members a) ps h
 
-  items-formed : {is : List PartKind} → ItemsKinds is → (ps : List Part) → Parted rules is ps → ItemFormed rules (Items rules) ps
+  items-formed : {is : List PartKind} → ItemsKinds is → (ps : List Part) → PartsOfKinds rules is ps → ItemFormed rules (Items rules) ps
   unfolding pieces isLost changes
   items-formed (ItemsKinds.one a) ps h =
       let f = item-formed a ps h in
       record { text = _; segments = _; changed = _; form = Items.one (f .form); written = f .written }
   items-formed (ItemsKinds.then {i} {is} a b) ps h =
-      let c = cut rules i (Comma ∷ is) ps h in
+      let c = split rules i (Comma ∷ is) ps h in
       let d = c .back in
       let x = item-formed a (c .before) (c .front) in
       let y = items-formed b (d .rest) (d .more) in
@@ -321,6 +321,6 @@ module _ {rules : Rules} where
 
   pub value-formed : (ps : List Part) → EachIsPart rules ps → ItemsKinds (kindsOf ps) → ItemFormed rules (AddressValue rules) ps
   value-formed ps e k =
-      let a = after-gap ps e in
-      let f = items-formed k (a .rest) (a .parted) in
+      let a = gap-first ps e in
+      let f = items-formed k (a .rest) (a .parts) in
       rw (a .made) (record { text = _; segments = _; changed = _; form = AddressValue.value (a .gap-is .form) (f .form); written = written-both (plain-written (a .gap-is .plain)) (f .written) })

@@ -1,17 +1,15 @@
 -- The words of a phrase are those by which the grammar makes it. Assumes nothing.
-use mathlib.Core.Path.{_≡_, refl, sym, _∙_}
+use mathlib.Core.Path.{_≡_, refl, _∙_}
 use mathlib.Core.Bool.{false}
 use mathlib.Core.List.{List, [], _∷_, _++_, append-nil}
 use Prim.Native.Nat.{ℕ, _+_, _<_}
 use native.Mathlib.Nat.{not-suc-le-zero}
 use native.Mathlib.Omega.{arith}
-use lib.Dec.{T, eqb}
 use borrow.Author.Tests.{ne-eqb}
-use lib.ListN.{length, take, drop, getD, length-append}
+use lib.ListN.{length, drop, getD, length-append}
 use lib.Seq.{drop-append-seam, drop-drop, take-append-seam}
 use Rattle.lists.specs.Run.{run}
 use Rattle.line.specs.Line.{blank}
-use Rattle.phrase.specs.Words.{wordLen}
 use Rattle.phrase.specs.Phrase.{wordSize, wordsFrom, phraseWords}
 use Rattle.phrase.specs.PhraseLaws.{phrase-words-front}
 use Rattle.address_grammar.specs.PartGrammar.{WordText, PhraseText}
