@@ -2,7 +2,7 @@
 use mathlib.Core.Path.{_≡_, refl, sym}
 use mathlib.Core.Bool.{Bool, true, false, not, or-true}
 use mathlib.Core.List.{List, [], _∷_, _++_, map}
-use mathlib.Core.Option.{Option, none}
+use mathlib.Core.Option.{Option}
 use Prim.Native.Nat.{ℕ, _+_}
 use native.Mathlib.Omega.{arith}
 use lib.Dec.{T, eqb, eqb→eq}
@@ -21,7 +21,7 @@ use Rattle.parameter.specs.Parameter.{spacedLen, params, isKeywordByte, isValue
 use Rattle.parameter.specs.AsciiLaws.{tail-ascii}
 use Rattle.envelope_line.specs.EnvelopeLine.{verb, tail, orcptFault}
 use Rattle.rules.specs.declared.Rules.{Rules}
-use Rattle.envelope_line.specs.LineGrammar.{Verb, Path, Keyword, Value, Parameter, Others, Alt, Tail, Line, Written}
+use Rattle.envelope_line.specs.LineGrammar.{Verb, Path, Keyword, Value, Parameter, Others, Alt, Tail, Line, LineRefused, Written}
 use Rattle.envelope_line.specs.LineGrammarLaws.{lower-mark, line-tail}
 use Rattle.envelope_line.specs.TailGrammarLaws.{tail-reads}
 
@@ -81,12 +81,22 @@ with-alt-no-cr {before} {p} {v} {after} o a q = all-append notCr before (32 ∷ 
 parts-no-cr : {mail : Bool} {front p : List ℕ} → Verb mail front → Path mail p → (t : List ℕ) → T (all notCr t) → T (all notCr (front ++ (p ++ (62 ∷ t))))
 parts-no-cr {mail} {front} {p} f q t h = all-append notCr front (p ++ (62 ∷ t)) (same-no-cr (verb mail) front (f .same) (verb-no-cr mail)) (all-append notCr p (62 ∷ t) (path-no-cr q) h)
 
-plain-no-cr : {t : List ℕ} → Tail none t → T (all notCr t)
-plain-no-cr (Tail.plain o) = others-no-cr o
+tail-no-cr : {v : Option (List ℕ)} {t : List ℕ} → Tail v t → T (all notCr t)
+tail-no-cr (Tail.plain o) = others-no-cr o
+tail-no-cr (Tail.with-alt o a q) = with-alt-no-cr o a q
 
-pub written-no-cr : {rules : Rules} {mail : Bool} {line out : List ℕ} → Written rules mail line out → T (all notCr line)
-written-no-cr (Written.copied l h) = rw (l .is) (parts-no-cr (l .is-front) (l .is-path) (l .tail) (plain-no-cr (l .is-tail)))
-written-no-cr (Written.replaced {before} {p} {after} u f q h o x a y) = parts-no-cr f q (before ++ (32 ∷ (p ++ after))) (with-alt-no-cr o x y)
+pub line-no-cr : {mail : Bool} {p : List ℕ} {v : Option (List ℕ)} {line : List ℕ} → Line mail p v line → T (all notCr line)
+line-no-cr l = rw (l .is) (parts-no-cr (l .is-front) (l .is-path) (l .tail) (tail-no-cr (l .is-tail)))
+
+pub written-no-cr : {rules : Rules} {mail : Bool} {line t out text : List ℕ} → Written rules mail line t out text → T (all notCr line)
+written-no-cr (Written.copied l h) = line-no-cr l
+written-no-cr (Written.replaced l a h k) = line-no-cr l
+
+pub refused-no-cr : {rules : Rules} {mail : Bool} {line : List ℕ} {number byte : ℕ} → LineRefused rules mail line number byte → T (all notCr line)
+refused-no-cr (LineRefused.no-alternative l h) = line-no-cr l
+refused-no-cr (LineRefused.beside-ascii l a h) = line-no-cr l
+refused-no-cr (LineRefused.no-address l a h) = line-no-cr l
+refused-no-cr (LineRefused.retired l n) = line-no-cr l
 
 -- ---- ORCPT
 
@@ -118,3 +128,7 @@ orcpt-exact {mail} {p} {v} {line} l =
     (by-test (all isAscii t)
     (λ h. rw (yes-true (all isAscii t) h, yes-true (all orcptClean (params t)) (all-weaken (all isAscii) orcptClean ascii-clean (params t) (params-ascii t h))))
     (λ h. rw (no-false (all isAscii t) h, no-false (all orcptClean (params t)) (not-T (all orcptClean (params t)) (λ c. T-not (all isAscii t) (tail-ascii t (r .is-spaced) (r .each) c) h)))))
+
+pub written-orcpt : {rules : Rules} {mail : Bool} {line t out text : List ℕ} → Written rules mail line t out text → orcptFault mail line ≡ not (all isAscii t)
+written-orcpt (Written.copied l h) = orcpt-exact l
+written-orcpt (Written.replaced l a h k) = orcpt-exact l

@@ -21,7 +21,7 @@ use Rattle.lists.specs.CutByLaws.{cut-nil, cut-front}
 use Rattle.letter_case.specs.LetterCase.{bytes, sameAnyCase}
 use Rattle.parameter.specs.Parameter.{notSpace, spacedLen, params, spaced, isKeywordByte, keywordLen, keyword, hasValue, value, isOrcpt, isAlt, isValueByte, isParam, alts, altsOk, alt, altPlace}
 use Rattle.envelope_line.specs.EnvelopeLine.{withoutAlt}
-use Rattle.envelope_line.specs.LineGrammar.{Keyword, Value, Parameter, Others, Alt, Tail}
+use Rattle.envelope_line.specs.LineGrammar.{Keyword, Value, Parameter, Others, Alt, Tail, valuePlace, othersOf}
 
 -- ---- a parameter, read
 
@@ -340,7 +340,7 @@ module _ {before p v after : List ℕ} (o : Others before) (a : Alt v p) (q : Ot
     alternative = rw (alts-one, alt-read a .value-is);
   }
 
-  pub alt-value : value (alt (params (before ++ rest))) ≡ v
+  alt-value : value (alt (params (before ++ rest))) ≡ v
   unfolding alt
   alt-value = rw alts-one (alt-read a .value-is)
 
@@ -349,7 +349,7 @@ module _ {before p v after : List ℕ} (o : Others before) (a : Alt v p) (q : Ot
   place = front .place-of ∙ rw (rest-params, alt-read a .is-alt) (add-zero (length before))
 
   -- "that parameter goes with the space before it"
-  pub alt-gone : withoutAlt (before ++ rest) ≡ before ++ after
+  alt-gone : withoutAlt (before ++ rest) ≡ before ++ after
   unfolding withoutAlt alt
   alt-gone =
       rw (place, alts-one, take-append-seam before rest, drop-append-add before rest (suc (length p)), drop-append-seam p after)
@@ -362,3 +362,18 @@ tail-reads (Tail.with-alt o a q) = alt-reads o a q
 pub value-le : {v t : List ℕ} → Tail (some v) t → length v ≤ length t
 value-le (Tail.with-alt {before} {p} {v} {after} o (Alt.alt {k} a w x) q) =
     simp length-append (omega arith)
+
+-- ---- what a tail with ALT-ADDRESS is read as
+
+pub tail-value : {v t : List ℕ} → Tail (some v) t → value (alt (params t)) ≡ v
+tail-value (Tail.with-alt o a q) = alt-value o a q
+
+pub tail-others : {v t : List ℕ} (x : Tail (some v) t) → withoutAlt t ≡ othersOf x
+unfolding othersOf
+tail-others (Tail.with-alt o a q) = alt-gone o a q
+
+pub value-place : {v t : List ℕ} (x : Tail (some v) t) → valuePlace x ≡ altPlace (params t) + (keywordLen (alt (params t)) + 2)
+unfolding valuePlace alt
+value-place (Tail.with-alt o (Alt.alt a w x) q) =
+    let p = Alt.alt a w x in
+    rw (place o p q, alts-one o p q, keyword-front w x)
