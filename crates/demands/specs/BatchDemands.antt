@@ -5,9 +5,8 @@ use mathlib.Core.List.{List, _∷_, _++_}
 use Prim.Native.Nat.{ℕ, _+_, _≤_, _<_}
 use lib.ListN.{length, take, drop}
 use Rattle.rules.specs.declared.Rules.{Rules}
-use Rattle.rules.specs.Rules.{settingRules}
 use Rattle.call.specs.Outcome.{Outcome}
-use Rattle.batch.specs.Batch.{rangeRefused, Batch}
+use Rattle.batch.specs.Batch.{rangeRefused}
 use Rattle.demands.specs.Demands.{Demands}
 
 -- What becomes of a record, b and c being the room that is left. "Refusals: 9 (demand 1 gains it), a start plus its length past the end of the
@@ -20,20 +19,16 @@ pub data SingleOrNine (rules : Rules) (input : List ℕ) (start₁ len₁ start�
       → SingleOrNine rules input start₁ len₁ start₂ len₂ b c o
 
 -- The records, the envelope buffer and the header buffer before, then the same three afterwards; of the buffers the room that is left.
-pub data RecordsDemands (rules : Rules) (input : List ℕ) : List ℕ → List ℕ → List ℕ → List ℕ → List ℕ → List ℕ → Type 0 where
+pub data BatchDemands (rules : Rules) (input : List ℕ) : List ℕ → List ℕ → List ℕ → List ℕ → List ℕ → List ℕ → Type 0 where
   -- "a last part of fewer than nine [is] not touched"; past the last output both buffers are as before
-  last-part : {records b c : List ℕ} → length records < 9 → RecordsDemands rules input records b c records b c
+  last-part : {records b c : List ℕ} → length records < 9 → BatchDemands rules input records b c records b c
   -- "start and length of the envelope, then of the header, in one input buffer, then five we fill: number, place, offset and the two output
   -- lengths", which held any numbers, v to z, before. "Input numbers .. are not touched". "Outputs go one after another into the two buffers": a
   -- record's output is the front of its room as far as the length that it answers, and the room of those after it lies past that. "a refused
   -- record takes no room", since it answers both lengths as 0, "and does not stop those after it".
   next-record : {start₁ len₁ start₂ len₂ v w x y z : ℕ} {more b c more′ b′ c′ : List ℕ} {o : Outcome} → SingleOrNine rules input start₁ len₁ start₂ len₂ b c o
-      → RecordsDemands rules input more (drop (o .envelopeLen) (o .envelopeBuffer)) (drop (o .headerLen) (o .headerBuffer)) more′ b′ c′
-      → RecordsDemands rules input (start₁ ∷ len₁ ∷ start₂ ∷ len₂ ∷ v ∷ w ∷ x ∷ y ∷ z ∷ more) b c
+      → BatchDemands rules input more (drop (o .envelopeLen) (o .envelopeBuffer)) (drop (o .headerLen) (o .headerBuffer)) more′ b′ c′
+      → BatchDemands rules input (start₁ ∷ len₁ ∷ start₂ ∷ len₂ ∷ v ∷ w ∷ x ∷ y ∷ z ∷ more) b c
       (start₁ ∷ len₁ ∷ start₂ ∷ len₂ ∷ o .number ∷ o .place ∷ o .offset ∷ o .envelopeLen ∷ o .headerLen ∷ more′)
       (take (o .envelopeLen) (o .envelopeBuffer) ++ b′)
       (take (o .headerLen) (o .headerBuffer) ++ c′)
-
--- the demands on the exported call: "A batch has one setting."
-abbrev pub BatchDemands : ℕ → List ℕ → List ℕ → List ℕ → List ℕ → Batch → Type 0
-BatchDemands setting input records b c after = RecordsDemands (settingRules setting) input records b c (after .records) (after .envelopeBuffer) (after .headerBuffer)

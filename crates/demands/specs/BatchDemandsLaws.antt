@@ -10,9 +10,9 @@ use Rattle.batch.specs.Batch.{range, rangeRefused, rangeOutcome, recordOutcome,
 use Rattle.batch.specs.BatchLaws.{by-range, after, fronted, batch-step, batch-end}
 use Rattle.demands.specs.DemandsLaws.{demands}
 use Rattle.demands.specs.DeterminedLaws.{determined}
-use Rattle.demands.specs.BatchDemands.{SingleOrNine, RecordsDemands, BatchDemands}
+use Rattle.demands.specs.BatchDemands.{SingleOrNine, BatchDemands}
 use Rattle.demands.specs.BatchDemands.SingleOrNine.{envelope-past-end, header-past-end, single}
-use Rattle.demands.specs.BatchDemands.RecordsDemands.{last-part, next-record}
+use Rattle.demands.specs.BatchDemands.BatchDemands.{last-part, next-record}
 
 -- ---- a record
 
@@ -47,7 +47,7 @@ unfolding recordOutcome
 by-first-record rules input start₁ len₁ start₂ len₂ v w x y z more b c = batch-step rules input (start₁ ∷ len₁ ∷ start₂ ∷ len₂ ∷ v ∷ w ∷ x ∷ y ∷ z ∷ more) b c (omega arith)
 
 abbrev Demanded : Rules → List ℕ → List ℕ → List ℕ → List ℕ → Batch → Type 0
-Demanded rules input records b c after = RecordsDemands rules input records b c (after .records) (after .envelopeBuffer) (after .headerBuffer)
+Demanded rules input records b c after = BatchDemands rules input records b c (after .records) (after .envelopeBuffer) (after .headerBuffer)
 
 none-left : (rules : Rules) (input records b c : List ℕ) → length records < 9 → Demanded rules input records b c (batch rules input records b c)
 none-left rules input records b c k = rw (batch-end rules input records b c k) (last-part {records = records} (omega arith))
@@ -70,7 +70,7 @@ batch-demands rules input (s ∷ l ∷ t ∷ m ∷ v ∷ w ∷ x ∷ y ∷ z ∷
     (next-record (single-or-nine rules input s l t m b c) (batch-demands rules input more (drop (o .envelopeLen) (o .envelopeBuffer)) (drop (o .headerLen) (o .headerBuffer))))
 
 -- What meets them is the batch.
-pub batch-determined : (rules : Rules) (input : List ℕ) {records b c records′ b′ c′ : List ℕ} → RecordsDemands rules input records b c records′ b′ c′
+pub batch-determined : (rules : Rules) (input : List ℕ) {records b c records′ b′ c′ : List ℕ} → BatchDemands rules input records b c records′ b′ c′
     → afterwards records′ b′ c′ ≡ batch rules input records b c
 unfolding after fronted answers
 batch-determined rules input (last-part {records} {b} {c} k) = sym (batch-end rules input records b c (omega arith))
@@ -78,8 +78,9 @@ batch-determined rules input (next-record {start₁} {len₁} {start₂} {len₂
     sym (rw (by-first-record rules input start₁ len₁ start₂ len₂ v w x y z more b c, ← only-single-or-nine rules input start₁ len₁ start₂ len₂ b c one, ← batch-determined rules input d))
 
 -- So two that meet them for one call are equal.
-pub batch-unique : (setting : ℕ) (input records b c : List ℕ) (o p : Batch) → BatchDemands setting input records b c o → BatchDemands setting input records b c p → o ≡ p
-batch-unique setting input records b c o p d e = batch-determined _ input d ∙ sym (batch-determined _ input e)
+pub batch-unique : (rules : Rules) (input records b c : List ℕ) {records₁ b₁ c₁ records₂ b₂ c₂ : List ℕ} → BatchDemands rules input records b c records₁ b₁ c₁
+    → BatchDemands rules input records b c records₂ b₂ c₂ → afterwards records₁ b₁ c₁ ≡ afterwards records₂ b₂ c₂
+batch-unique rules input records b c d e = batch-determined rules input d ∙ sym (batch-determined rules input e)
 
 -- What equals the batch meets them.
 pub batch-met : {rules : Rules} {input records b c : List ℕ} {after : Batch} → after ≡ batch rules input records b c → Demanded rules input records b c after

@@ -15,12 +15,13 @@ use Rattle.lists.specs.Run.{run}
 use Rattle.rules.specs.declared.Rules.{Rules}
 use Rattle.encoded_word.specs.Segments.{Segment}
 use Rattle.encoded_word.specs.Segments.Segment.{raw}
-use Rattle.header.specs.Fields.{fieldsOf, nameOf, valueOf, lineCount}
+use Rattle.header.specs.Fields.{fieldsOf, nameOf, valueOf, textOf, lineCount}
 use Rattle.header.specs.FieldLaws.{fields-joined}
 use Rattle.header.specs.AsciiFieldsLaws.{value-ascii}
 use Rattle.header_name.specs.declared.Kind.{Kind}
 use Rattle.header_name.specs.declared.Kind.the-variants.{Address, PlainText, Received, Commented, Parameterized, Held as HeldKind, Other}
 use Rattle.header_name.specs.Names.{kindOf}
+use Rattle.address_grammar.specs.AddressFieldLaws.{field-made, field-only}
 use Rattle.structured_field.specs.Tokens.{asciiOutsideComments}
 use Rattle.structured_field.specs.StructuredField.{structuredField}
 use Rattle.received.specs.Received.{passes, receivedField}
@@ -44,7 +45,7 @@ fated-written (Fated.something w) = w
 module _ (rules : Rules) (field : List ℕ) where
   kind-fated : (kind : Kind) → Fated (KindBecomes rules field kind) (kindFate rules kind field)
   unfolding kindFate
-  kind-fated Address = Fated.something KindBecomes.address
+  kind-fated Address = Fated.something (KindBecomes.address (field-made rules (nameOf field) (textOf field)))
   kind-fated PlainText = Fated.something KindBecomes.plain-text
   kind-fated Received =
       cond-has (Fated (KindBecomes rules field Received)) (passes (nameOf field) (valueOf field)) (written (receivedField (nameOf field) (valueOf field))) held
@@ -72,7 +73,7 @@ module _ (rules : Rules) (field : List ℕ) where
 
   kind-exact : {kind : Kind} {segments : List Segment} → KindBecomes rules field kind segments → kindFate rules kind field ≡ written segments
   unfolding kindFate
-  kind-exact (KindBecomes.address) = refl
+  kind-exact (KindBecomes.address a) = ap written (field-only rules (nameOf field) (textOf field) a)
   kind-exact (KindBecomes.plain-text) = refl
   kind-exact (KindBecomes.other) = refl
   kind-exact (KindBecomes.commented t) = rw (yes-true (asciiOutsideComments (valueOf field)) t)

@@ -20,7 +20,7 @@ use Rattle.line_stop.specs.FirstBad.{MalformedAt}
 use Rattle.envelope.specs.EnvelopeDemand.{WellFormedAt, Any, Ascii, EnvelopeLines}
 use Rattle.header.specs.Fields.{fieldsOf, lineCount}
 use Rattle.rules.specs.declared.Rules.{Rules}
-use Rattle.rules.specs.Rules.{settingRules, allowsAlternative}
+use Rattle.rules.specs.Rules.{allowsAlternative}
 use Rattle.call.specs.Outcome.{Outcome}
 use Rattle.demands.specs.Downgraded.{InLimits, EnvelopePasses, firstFields, WellFormedAt as HeaderFormedAt, HeaderLines, FieldsBecome, Held, Downgraded}
 
@@ -53,14 +53,7 @@ pub data Given (rules : Rules) (e h b c : List ℕ) : ℕ → ℕ → ℕ → �
       → Given rules e h b c 8 2 (length (rendered segments)) 0
   none-holds : {out : List ℕ} {segments : List Segment} → Downgraded rules e h out segments → length out ≤ length b → length (rendered segments) ≤ length c → Given rules e h b c 0 0 0 0
 
--- "A refusal changes no byte of either buffer and gives both lengths as 0."
-pub record Untouched (b c : List ℕ) (o : Outcome) : Type 0 where
-  pub envelope-len : o .envelopeLen ≡ 0
-  pub header-len : o .headerLen ≡ 0
-  pub envelope-buffer : o .envelopeBuffer ≡ b
-  pub header-buffer : o .headerBuffer ≡ c
-
--- "After 0 the bytes past each length are as before."
+-- so many bytes at the front of a buffer may have changed, and no other: "the bytes past each length are as before"
 pub record KeptPast (len : ℕ) (before after : List ℕ) : Type 0 where
   pub inside : len ≤ length before
   pub size : length after ≡ length before
@@ -71,8 +64,10 @@ pub record Demand1 (rules : Rules) (e h b c : List ℕ) (o : Outcome) : Type 0 w
   pub answered : Given rules e h b c (o .number) (o .input) (o .place) (o .offset)
   -- a condition holds for that answer alone
   pub exact : (number input place offset : ℕ) → Given rules e h b c number input place offset → (number ≡ o .number) × (input ≡ o .input) × (place ≡ o .place) × (offset ≡ o .offset)
-  pub refusal : (o .number ≡ 0 → ⊥) → Untouched b c o
-  pub success : o .number ≡ 0 → KeptPast (o .envelopeLen) b (o .envelopeBuffer) × KeptPast (o .headerLen) c (o .headerBuffer)
+  -- "A refusal changes no byte of either buffer and gives both lengths as 0. After 0 the bytes past each length are as before."
+  pub refusal : (o .number ≡ 0 → ⊥) → (o .envelopeLen ≡ 0) × (o .headerLen ≡ 0)
+  pub envelope-kept : KeptPast (o .envelopeLen) b (o .envelopeBuffer)
+  pub header-kept : KeptPast (o .headerLen) c (o .headerBuffer)
 
 -- ---- demand 2: "The outgoing envelope and header are those that RFC 5504 asks for, as the paper spells it out: all ASCII, each
 -- field that was ASCII copied byte for byte." "Demand 2 reads so for current messages." What is written is `Downgraded`; that a
@@ -122,7 +117,3 @@ pub record Demands (rules : Rules) (e h b c : List ℕ) (o : Outcome) : Type 0 w
   pub demand-1 : Demand1 rules e h b c o
   pub demand-2 : o .number ≡ 0 → Demand2 rules e h o
   pub demand-3 : o .number ≡ 0 → DemandThree rules e h o
-
--- "The caller says by a number whether a message is from the spool .. or current": the demands on the exported call with this setting
-abbrev pub SettingDemands : ℕ → List ℕ → List ℕ → List ℕ → List ℕ → Outcome → Type 0
-SettingDemands setting e h b c o = Demands (settingRules setting) e h b c o

@@ -19,7 +19,7 @@ use Rattle.header_name.specs.declared.Kind.{Kind}
 use Rattle.header_name.specs.declared.Kind.the-variants.{Address, PlainText, Received, Commented, Other}
 use Rattle.header_name.specs.Names.{kindOf}
 use Rattle.field.specs.Field.{encodedField}
-use Rattle.address_pieces.specs.AddressField.{addressField}
+use Rattle.address_grammar.specs.AddressField.{AddressField}
 use Rattle.structured_field.specs.Tokens.{asciiOutsideComments}
 use Rattle.structured_field.specs.StructuredField.{structuredField}
 use Rattle.received.specs.Received.{passes, receivedField}
@@ -62,7 +62,7 @@ pub data HeaderLines : ℕ → List ℕ → Type 0 where
 -- encapsulated: `Downgraded-` before the name". Date and the others with comments "are held only if non-ASCII stands outside their comments". Received
 -- fields by request 2. A field of any other kind is held.
 pub data KindBecomes (rules : Rules) (field : List ℕ) : Kind → List Segment → Type 0 where
-  address : KindBecomes rules field Address (addressField rules (nameOf field) (textOf field))
+  address : {segments : List Segment} → AddressField rules (nameOf field) (textOf field) segments → KindBecomes rules field Address segments
   plain-text : KindBecomes rules field PlainText (encodedField false (nameOf field) (textOf field))
   other : KindBecomes rules field Other (encodedField true (nameOf field) (textOf field))
   commented : T (asciiOutsideComments (valueOf field)) → KindBecomes rules field Commented (structuredField (nameOf field) (valueOf field))

@@ -15,7 +15,7 @@ use Rattle.call.specs.Outcome.{Outcome, outcome}
 use Rattle.batch.specs.Batch.{Batch, pastEnd, rangeRefused, rangeOutcome, recordOutcome, batch}
 use Rattle.batch.specs.BatchRecords.{fromRecord, envelopeOf, headerOf, used₁, used₂}
 use Rattle.batch.specs.BatchRecordsLaws.{batch-done}
-use Rattle.demands.specs.DemandsLaws.{demands}
+use Rattle.demands.specs.DemandsLaws.{header-left}
 use Rattle.undisclosed_recipients.specs.UndisclosedRecipients.{SameSender, Undisclosed, numberAt, headerLenAt, headerBytesAt, UndisclosedRecords}
 
 none-replaced : (mail : List ℕ) (rcpts : List (List ℕ)) → 2 ≤ length rcpts → rcptReplacement (eachEnded (mail ∷ rcpts)) ≡ []
@@ -36,11 +36,11 @@ same-outgoing rules e f h s = rw (same-new-fields e f s)
 pub undisclosed : (rules : Rules) (e f h b c b′ c′ : List ℕ) → Undisclosed e f (outcome rules e h b c) (outcome rules f h b′ c′)
 undisclosed rules e f h b c b′ c′ = record {
   same = λ s z z′.
-      let o = demands rules e h b c .demand-2 z in
-      let p = demands rules f h b′ c′ .demand-2 z′ in
+      let o = header-left rules e h b c z in
+      let p = header-left rules f h b′ c′ z′ in
       record {
-        len = o .header-len ∙ ap length (same-outgoing rules e f h s) ∙ sym (p .header-len);
-        bytes = o .header ∙ same-outgoing rules e f h s ∙ sym (p .header);
+        len = o .0 ∙ ap length (same-outgoing rules e f h s) ∙ sym (p .0);
+        bytes = o .1 ∙ same-outgoing rules e f h s ∙ sym (p .1);
       };
 }
 
