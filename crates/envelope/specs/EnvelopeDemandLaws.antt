@@ -1,11 +1,11 @@
 -- The lines of an envelope by the grammar are those that are checked and written. Assumes nothing.
 use mathlib.Core.Path.{_≡_, refl, ap, sym, _∙_}
-use mathlib.Core.Bool.{Bool, true, false, not, _&&_, and-false}
+use mathlib.Core.Bool.{Bool, true, false, not}
 use mathlib.Core.List.{List, [], _∷_, _++_, map, append-assoc, append-nil}
 use Prim.Native.Nat.{ℕ, suc, pred, _+_, _≤_, _<_}
 use native.Mathlib.Omega.{arith}
-use lib.Dec.{T, eqb, leb, ltb, eqb→eq, eqb·suc-zero}
-use lib.ListN.{length, take, drop, length-append, length-drop, length-take, take-append-drop}
+use lib.Dec.{T, eqb, leb, ltb, eqb·suc-zero}
+use lib.ListN.{length, take, length-append, length-take, drop-of-length-le}
 use lib.Seq.{take-append-seam, drop-append-seam, take-append-add, drop-append-add}
 use mir.Facts.{and-yes, leb-yes, yes-leb, ltb-no}
 use borrow.Author.Tests.{not-true, not-false, le-leb, le-ltb}
@@ -20,12 +20,12 @@ use Rattle.rules.specs.Rules.{allowsAlternative}
 use Rattle.envelope_line.specs.declared.Fault.{Fault}
 use Rattle.envelope_line.specs.declared.Fault.the-variants.{Malformed}
 use Rattle.envelope_line.specs.EnvelopeLine.{tail, lineFault, orcptFault, writtenLine, replacement}
-use Rattle.envelope_line.specs.LineGrammarLaws.{line-written, written-exact, written-kept}
+use Rattle.envelope_line.specs.LineGrammarLaws.{line-written, written-exact, written-kept as line-kept}
 use Rattle.envelope_line.specs.LineBytesLaws.{written-no-cr, written-orcpt}
 use Rattle.envelope.specs.declared.Checked.the-variants.{Passed, Refused}
 use Rattle.envelope.specs.declared.Orcpt.the-variants.{Clean, At}
 use Rattle.envelope.specs.Envelope.{lines, lineText, endedFault, faultOf, faultNumber, isFine, counted, checkedFrom, checked, texts, orcptFrom, orcptLine, writtenEnded, writtenOf, written}
-use Rattle.envelope.specs.LinesLaws.{lines-joined, lines-end, lines-at}
+use Rattle.envelope.specs.LinesLaws.{lines-joined, text-ended, lines-end, lines-at}
 use Rattle.envelope.specs.CheckLaws.{ended, ended-fine, fine-few, fine-ended}
 use Rattle.envelope.specs.PassedLaws.{passed-line}
 use Rattle.envelope.specs.EnvelopeDemand.{Any, Ascii, EnvelopeLines}
@@ -58,7 +58,7 @@ module _ (l rest : List ℕ) (h : T (all notCr l)) where
   unfolding faultOf endedFault crlf
   fault-found rules n few = rw (le-leb n 100 few, line-len l rest h, drop-append-seam l (13 ∷ 10 ∷ rest), text-found)
 
-texts-found : (l rest : List ℕ) → T (all notCr l) → texts (l ++ (13 ∷ 10 ∷ rest)) ≡ l ∷ texts rest
+pub texts-found : (l rest : List ℕ) → T (all notCr l) → texts (l ++ (13 ∷ 10 ∷ rest)) ≡ l ∷ texts rest
 unfolding texts
 texts-found l rest h = rw (lines-found l rest h, text-found l [] h)
 
@@ -140,19 +140,19 @@ module _ {rules : Rules} where
 
 -- ---- all lines
 
-no-lines : lines [] ≡ []
+pub no-lines : lines [] ≡ []
 no-lines = lines-end [] 0 (omega arith)
 
-module _ {rules : Rules} {n : ℕ} {e out : List ℕ} {ts : List (List ℕ)} where
-  pub lines-passed : {Asked : List ℕ → Type 0} → EnvelopeLines rules Asked n e out ts → 2 ≤ n → (checked rules e ≡ Passed (pred n)) × (out ≡ written e) × (ts ≡ replacements e)
-  unfolding checkedFrom counted texts writtenFrom replacementsFrom
-  lines-passed k h =
-      let passed : checkedFrom rules n (lines []) ≡ Passed (pred n) = rw (no-lines, le-ltb n 2 h) in
-      (rw append-nil at (checked-past k []) ∙ passed, rw (no-lines, append-nil, append-nil) at (sym (written-past k [])), rw (no-lines, append-nil, append-nil) at (sym (replaced-past k [])))
+pub lines-passed : {rules : Rules} {Asked : List ℕ → Type 0} {n : ℕ} {e out : List ℕ} {ts : List (List ℕ)} → EnvelopeLines rules Asked n e out ts → 2 ≤ n
+    → (checked rules e ≡ Passed (pred n)) × (out ≡ written e) × (ts ≡ replacements e)
+unfolding checkedFrom counted texts writtenFrom replacementsFrom
+lines-passed {rules} {n = n} k h =
+    let passed : checkedFrom rules n (lines []) ≡ Passed (pred n) = rw (no-lines, le-ltb n 2 h) in
+    (rw append-nil at (checked-past k []) ∙ passed, rw (no-lines, append-nil, append-nil) at (sym (written-past k [])), rw (no-lines, append-nil, append-nil) at (sym (replaced-past k [])))
 
-  pub lines-clean : EnvelopeLines rules Ascii n e out ts → orcptLine e ≡ Clean
-  unfolding orcptFrom texts
-  lines-clean k = rw (no-lines, append-nil) at (orcpt-past k [])
+pub lines-clean : {rules : Rules} {n : ℕ} {e out : List ℕ} {ts : List (List ℕ)} → EnvelopeLines rules Ascii n e out ts → orcptLine e ≡ Clean
+unfolding orcptFrom texts
+lines-clean k = rw (no-lines, append-nil) at (orcpt-past k [])
 
 -- where an ALT-ADDRESS is refused the envelope goes as it came, and no line has a text for the header
 pub envelope-kept : {rules : Rules} {Asked : List ℕ → Type 0} {n : ℕ} {e out : List ℕ} {ts : List (List ℕ)} → T (not (allowsAlternative rules)) → EnvelopeLines rules Asked n e out ts
@@ -160,7 +160,7 @@ pub envelope-kept : {rules : Rules} {Asked : List ℕ → Type 0} {n : ℕ} {e o
 envelope-kept n EnvelopeLines.none = (refl, tt)
 envelope-kept n (EnvelopeLines.then {text} {texts = ts} k few w a) =
     let before = envelope-kept n k in
-    let line = written-kept n w in
+    let line = line-kept n w in
     (rw (before .0, line .0), all-append (λ text. not (nonempty text)) ts (text ∷ []) (before .1) (rw (line .1) tt))
 
 -- ---- a line is its text and CRLF
@@ -178,21 +178,11 @@ each-end : (e : List ℕ) → T (all atEnd (lines e))
 unfolding lines
 each-end e = cut-all (λ rest. lineLen rest + 2) atEnd (λ s k. front-end s) e
 
-crlf-only : (s : List ℕ) → crlf s ≡ true → length s ≤ 2 → 13 ∷ 10 ∷ [] ≡ s
-unfolding crlf
-crlf-only [] c h = absurd (true-yes false c)
-crlf-only (a ∷ []) c h = absurd (true-yes false (rw and-false at c))
-crlf-only (a ∷ b ∷ []) c h =
-    let p = and-yes (eqb a 13) (eqb b 10) (true-yes (eqb a 13 && eqb b 10) c) in
-    rw (eqb→eq a 13 (p .0), eqb→eq b 10 (p .1))
-crlf-only (a ∷ b ∷ d ∷ s) c h = absurd (omega arith)
-
-text-ended : (rules : Rules) (mail : Bool) (line : List ℕ) → isFine (endedFault rules mail line) ≡ true → T (atEnd line) → lineText line ++ (13 ∷ 10 ∷ []) ≡ line
-unfolding lineText
-text-ended rules mail line f k =
+text-is : (rules : Rules) (mail : Bool) (line : List ℕ) → isFine (endedFault rules mail line) ≡ true → T (atEnd line) → lineText line ++ (13 ∷ 10 ∷ []) ≡ line
+text-is rules mail line f k =
     let n = lineLen line in
-    let last = crlf-only (drop n line) (ended rules mail line f) (rw length-drop (omega (arith, leb-yes {a = length line} {b = n + 2} k))) in
-    rw last (take-append-drop n line)
+    let last = drop-of-length-le line {i = n + 2} (leb-yes {a = length line} {b = n + 2} k) in
+    sym (rw last at (text-ended line (ended rules mail line f)))
 
 -- ---- the lines up to a place
 
@@ -212,7 +202,7 @@ module _ (rules : Rules) {Asked : List ℕ → Type 0} {n : ℕ} {start out : Li
   line-then line t f a =
       let mail = eqb n 0 in
       let g = fine-ended rules n line f in
-      rw (text-ended rules mail line g t) at (EnvelopeLines.then k (fine-few rules n line f) (line-written rules mail (lineText line) (ended-fine rules mail line g)) a)
+      rw (text-is rules mail line g t) at (EnvelopeLines.then k (fine-few rules n line f) (line-written rules mail (lineText line) (ended-fine rules mail line g)) a)
 
   front-here : (rest : List ℕ) → LinesFront rules Asked n (start ++ rest)
   front-here rest = record { start = start; rest = rest; out = out; texts = ts; is = refl; lines = k }
@@ -320,6 +310,10 @@ module _ (rules : Rules) (e : List ℕ) (m : ℕ) (p : checked rules e ≡ Passe
   pub envelope-passed : (1 ≤ m) × EnvelopeLines rules Any (suc m) e (written e) (replacements e)
   envelope-passed = passed-whole (each-any 0 (lines e))
 
-  pub envelope-clean : orcptLine e ≡ Clean → (1 ≤ m) × EnvelopeLines rules Ascii (suc m) e (written e) (replacements e)
+  pub envelope-clean : orcptLine e ≡ Clean → EnvelopeLines rules Ascii (suc m) e (written e) (replacements e)
   unfolding checked orcptLine texts
-  envelope-clean o = passed-whole (each-ascii rules (lines e) 0 m p o)
+  envelope-clean o = passed-whole (each-ascii rules (lines e) 0 m p o) .1
+
+-- where an ALT-ADDRESS is refused the envelope goes as it came
+pub written-kept : (rules : Rules) (e : List ℕ) (m : ℕ) → T (not (allowsAlternative rules)) → checked rules e ≡ Passed m → written e ≡ e
+written-kept rules e m n p = envelope-kept n (envelope-passed rules e m p .1) .0

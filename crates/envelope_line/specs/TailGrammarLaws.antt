@@ -377,3 +377,7 @@ unfolding valuePlace alt
 value-place (Tail.with-alt o (Alt.alt a w x) q) =
     let p = Alt.alt a w x in
     rw (place o p q, alts-one o p q, keyword-front w x)
+
+pub value-within : {v t : List ℕ} (x : Tail (some v) t) → valuePlace x ≤ length t
+unfolding valuePlace
+value-within (Tail.with-alt o (Alt.alt a w x) q) = simp length-append (omega arith)

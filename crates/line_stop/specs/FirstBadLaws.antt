@@ -60,6 +60,15 @@ module _ {L : List ℕ → Type 0} where
     bad = λ k p. f .bad (omega (arith, length-append a b)) (rw (take-append-le (suc n) a b h) p);
   }
 
+-- it is the same for lines that are formed so and those that are formed so otherwise said
+pub first-formed : {Formed Other : List ℕ → Type 0} {s : List ℕ} {n : ℕ} → ((l : List ℕ) → Formed l → Other l) → ((l : List ℕ) → Other l → Formed l)
+    → FirstBad (WithCrlf Formed) s n → FirstBad (WithCrlf Other) s n
+first-formed there back f =
+    first-same
+    (λ l w. record { text = w .text; ends = w .ends; formed = back (w .text) (w .formed) })
+    (λ l w. record { text = w .text; ends = w .ends; formed = there (w .text) (w .formed) })
+    f
+
 -- ---- a malformed line has the byte in itself, its CRLF with it, whatever follows it
 
 -- a text without CR is cut from its CRLF in one way only
