@@ -60,8 +60,8 @@ module _ (rules : Rules) (text : List ℕ) where
   pub changed-value : examined rules text ≡ Changed → AddressValue rules text (writtenPieces rules text) true
   changed-value h = let k = changed-examined rules text h in rw (k .1) at (fitting-value (k .0))
 
-  pub unfit-value : examined rules text ≡ DoesNotFit → (pieces : List Segment) (changed : Bool) → AddressValue rules text pieces changed → ⊥
-  unfit-value h pieces changed v = unfit-text rules text h (value-list v)
+  pub unfit-value : {pieces : List Segment} {changed : Bool} → examined rules text ≡ DoesNotFit → AddressValue rules text pieces changed → ⊥
+  unfit-value h v = unfit-text rules text h (value-list v)
 
   pub value-unfit : ((pieces : List Segment) (changed : Bool) → AddressValue rules text pieces changed → ⊥) → examined rules text ≡ DoesNotFit
   value-unfit none = text-unfit rules text (λ l. none (writtenPieces rules text) (anyChanges (partsOf rules text)) (fitting-value (listed-fits rules text l)))
@@ -81,7 +81,7 @@ module _ (rules : Rules) (name text : List ℕ) where
       go : (e : Examined) → examined rules text ≡ e → AddressField rules name text (fieldBy e rules name text)
       go Kept h = rw (← rewritten-pieces) (AddressField.kept (kept-value rules text h))
       go Changed h = rw (← rewritten-pieces) (AddressField.changed (changed-value rules text h))
-      go DoesNotFit h = AddressField.unfit (unfit-value rules text h)
+      go DoesNotFit h = AddressField.unfit (λ pieces c v. unfit-value rules text h v)
 
   -- and it makes nothing else
   pub field-only : {segments : List Segment} → AddressField rules name text segments → addressField rules name text ≡ segments
