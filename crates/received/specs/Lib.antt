@@ -6,3 +6,4 @@ pub mod TokenLaws
 pub mod PassesLaws
 pub mod WritingLaws
 pub mod ReceivedLaws
+pub mod Grammar
