@@ -21,18 +21,17 @@ use Rattle.received_token.specs.Grammar.{Clause}
 abbrev pub clauseSegments : List ℕ → List Segment
 clauseSegments clause = cond (all isAscii clause) (raw clause ∷ []) []
 
--- white space, all that stands there, and what follows it, which is no for
+-- white space and what follows it: neither more white space nor a for
 pub record White (white more : List ℕ) : Type 0 where
   pub bytes : T (all isWhite white)
-  pub whole : T (not (isWhite (getD more 0 0)))
-  pub other : T (not (isFor more))
+  pub whole : T (not (isWhite (getD more 0 0) || isFor more))
 
 -- What is left of a value, and what becomes of it. "Comments follow [1]": `comments` says whether one may start, as after an unclosed
 -- parenthesis (40) "nothing .. is a comment". A for with white space before it is that of a clause, as a field "with a for that no such
 -- address, ASCII or not, follows, with non-ASCII left elsewhere .. is still held".
 pub data Left : Bool → List ℕ → List Segment → Type 0 where
   end : {comments : Bool} → Left comments [] []
-  byte : {comments : Bool} {b : ℕ} {more : List ℕ} {p : List Segment} → T (isAscii b) → T (not (isWhite b || eqb b 34 || eqb b 40)) → Left comments more p → Left comments (b ∷ more) (raw (b ∷ []) ∷ p)
+  byte : {comments : Bool} {b : ℕ} {more : List ℕ} {p : List Segment} → T (isAscii b) → T (not (isWhite b)) → T (not (eqb b 34 || eqb b 40)) → Left comments more p → Left comments (b ∷ more) (raw (b ∷ []) ∷ p)
   white : {comments : Bool} {w more : List ℕ} {p : List Segment} → T (nonempty w) → White w more → Left comments more p → Left comments (w ++ more) (raw w ∷ p)
   clause : {comments : Bool} {c more : List ℕ} {p : List Segment} → Clause c → T (isWhite (getD c 0 0)) → Left comments more p → Left comments (c ++ more) (clauseSegments c ++ p)
   string : {comments : Bool} {s more : List ℕ} {p : List Segment} → AfterQuote s more → T (all isAscii s) → Left comments more p → Left comments (34 ∷ (s ++ more)) (raw (34 ∷ s) ∷ p)
