@@ -7,3 +7,5 @@ pub mod PassesLaws
 pub mod WritingLaws
 pub mod ReceivedLaws
 pub mod Grammar
+pub mod TokenGrammarLaws
+pub mod GrammarLaws

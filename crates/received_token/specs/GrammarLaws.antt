@@ -71,7 +71,7 @@ taken-angled s h =
 
 -- ---- the word
 
-white-low : (b : ℕ) → T (isWhite b) → b < 33
+pub white-low : (b : ℕ) → T (isWhite b) → b < 33
 white-low b h =
     by-test (eqb b 32)
     (λ t. omega (arith, eqb→eq b 32 t))
