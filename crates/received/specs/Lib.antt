@@ -6,3 +6,6 @@ pub mod TokenLaws
 pub mod PassesLaws
 pub mod WritingLaws
 pub mod ReceivedLaws
+pub mod Grammar
+pub mod TokenGrammarLaws
+pub mod GrammarLaws
