@@ -1,11 +1,12 @@
 -- What becomes of a header's fields, by relations, is what is written for them and what is held. Assumes nothing.
 use mathlib.Core.Path.{_≡_, refl, sym, ap, _∙_}
-use mathlib.Core.Bool.{Bool, not, cond}
+use mathlib.Core.Bool.{Bool, not, cond, _&&_}
 use mathlib.Core.List.{List, [], _∷_, _++_, append-nil, map}
 use Prim.Native.Nat.{ℕ, suc, _+_}
 use native.Mathlib.Nat.{add-zero, zero-add}
 use native.Mathlib.Omega.{arith}
 use lib.Dec.{T}
+use mir.Facts.{and-yes, yes-and}
 use lib.ListN.{length, take, drop, length-append}
 use lib.Seq.{take-at, drop-at}
 use Rattle.lists.specs.Byte.{isAscii}
@@ -13,7 +14,7 @@ use Rattle.lists.specs.Lists.{all, joined}
 use Rattle.lists.specs.ListsLaws.{by-test, cond-has, yes-true, no-false, joined-append}
 use Rattle.lists.specs.Run.{run}
 use Rattle.rules.specs.declared.Rules.{Rules}
-use Rattle.encoded_word.specs.Segments.{Segment}
+use Rattle.encoded_word.specs.Segments.{Segment, rendered}
 use Rattle.encoded_word.specs.Segments.Segment.{raw}
 use Rattle.header.specs.Fields.{fieldsOf, nameOf, valueOf, textOf, lineCount}
 use Rattle.header.specs.FieldLaws.{fields-joined}
@@ -24,7 +25,10 @@ use Rattle.header_name.specs.Names.{kindOf}
 use Rattle.address_grammar.specs.AddressFieldLaws.{field-made, field-only}
 use Rattle.structured_field.specs.Tokens.{asciiOutsideComments}
 use Rattle.structured_field.specs.StructuredField.{structuredField}
-use Rattle.received.specs.Received.{passes, receivedField}
+use Rattle.structured_field.specs.GrammarLaws.{made-reads as structured-reads, reads-made as reads-structured}
+use Rattle.received_token.specs.Tokens.{tokens as receivedTokens}
+use Rattle.received.specs.Received.{isClear, linesFit, passes, receivedField}
+use Rattle.received.specs.GrammarLaws.{made-reads as received-reads, reads-made as reads-received}
 use Rattle.outgoing_field.specs.Fate.{Fate, kindFate, fateOf, segmentsOf, fieldSegments, headerSegments, isHeld, heldFrom, heldOf}
 use Rattle.outgoing_field.specs.Fate.Fate.{held, written}
 use Rattle.outgoing_field.specs.declared.HeldField.{HeldField}
@@ -44,15 +48,18 @@ fated-written (Fated.something w) = w
 
 module _ (rules : Rules) (field : List ℕ) where
   kind-fated : (kind : Kind) → Fated (KindBecomes rules field kind) (kindFate rules kind field)
-  unfolding kindFate
+  unfolding kindFate structuredField receivedField passes
   kind-fated Address = Fated.something (KindBecomes.address (field-made rules (nameOf field) (textOf field)))
   kind-fated PlainText = Fated.something KindBecomes.plain-text
   kind-fated Received =
       cond-has (Fated (KindBecomes rules field Received)) (passes (nameOf field) (valueOf field)) (written (receivedField (nameOf field) (valueOf field))) held
-      (λ t. Fated.something (KindBecomes.received t)) (λ t. Fated.nothing)
+      (λ t. let b = and-yes (all isClear (receivedTokens (valueOf field))) (linesFit (rendered (receivedField (nameOf field) (valueOf field)))) t in
+      Fated.something (KindBecomes.received (reads-received (record { clear = b .0; is = refl })) (b .1)))
+      (λ t. Fated.nothing)
   kind-fated Commented =
       cond-has (Fated (KindBecomes rules field Commented)) (asciiOutsideComments (valueOf field)) (written (structuredField (nameOf field) (valueOf field))) held
-      (λ t. Fated.something (KindBecomes.commented t)) (λ t. Fated.nothing)
+      (λ t. Fated.something (KindBecomes.commented (reads-structured (record { ascii = t; is = refl }))))
+      (λ t. Fated.nothing)
   kind-fated Parameterized = Fated.nothing
   kind-fated HeldKind = Fated.nothing
   kind-fated Other = Fated.something KindBecomes.other
@@ -72,12 +79,18 @@ module _ (rules : Rules) (field : List ℕ) where
   becomes e = fated-written (rw e at fated)
 
   kind-exact : {kind : Kind} {segments : List Segment} → KindBecomes rules field kind segments → kindFate rules kind field ≡ written segments
-  unfolding kindFate
+  unfolding kindFate structuredField receivedField passes
   kind-exact (KindBecomes.address a) = ap written (field-only rules (nameOf field) (textOf field) a)
   kind-exact (KindBecomes.plain-text) = refl
   kind-exact (KindBecomes.other) = refl
-  kind-exact (KindBecomes.commented t) = rw (yes-true (asciiOutsideComments (valueOf field)) t)
-  kind-exact (KindBecomes.received t) = rw (yes-true (passes (nameOf field) (valueOf field)) t)
+  kind-exact (KindBecomes.commented v) =
+      let r = structured-reads v in
+      rw (r .is, yes-true (asciiOutsideComments (valueOf field)) (r .ascii))
+  kind-exact (KindBecomes.received v fit) =
+      let r = received-reads v in
+      let short = rw (r .is) at fit in
+      let lines = linesFit (rendered (receivedField (nameOf field) (valueOf field))) in
+      rw (r .is, yes-true (all isClear (receivedTokens (valueOf field)) && lines) (yes-and (all isClear (receivedTokens (valueOf field))) lines (r .clear) short))
 
   pub becomes-exact : {segments : List Segment} → Becomes rules field segments → fateOf rules field ≡ written segments
   unfolding fateOf

@@ -9,7 +9,7 @@ use Rattle.lists.specs.Byte.{isAscii}
 use Rattle.lists.specs.Lists.{all}
 use Rattle.letter_case.specs.LetterCase.{bytes}
 use Rattle.rules.specs.declared.Rules.{Rules}
-use Rattle.encoded_word.specs.Segments.{Segment}
+use Rattle.encoded_word.specs.Segments.{Segment, rendered}
 use Rattle.encoded_word.specs.Segments.Segment.{raw}
 use Rattle.line_stop.specs.FirstBad.{WithCrlf}
 use Rattle.envelope.specs.EnvelopeDemand.{Ascii, EnvelopeLines}
@@ -20,9 +20,10 @@ use Rattle.header_name.specs.declared.Kind.the-variants.{Address, PlainText, Re
 use Rattle.header_name.specs.Names.{kindOf}
 use Rattle.field.specs.Field.{encodedField}
 use Rattle.address_grammar.specs.AddressField.{AddressField}
-use Rattle.structured_field.specs.Tokens.{asciiOutsideComments}
-use Rattle.structured_field.specs.StructuredField.{structuredField}
-use Rattle.received.specs.Received.{passes, receivedField}
+use Rattle.structured_field.specs.StructuredField.{named}
+use Rattle.structured_field.specs.Grammar.{StructuredValue}
+use Rattle.received.specs.Received.{linesFit}
+use Rattle.received.specs.Grammar.{ReceivedValue}
 use Rattle.call.specs.OutgoingHeader.{newField}
 
 -- ---- the envelope
@@ -59,14 +60,15 @@ pub data HeaderLines : ℕ → List ℕ → Type 0 where
   then : {n : ℕ} {before line : List ℕ} → HeaderLines n before → WithCrlf (WellFormedAt n) line → HeaderLines (suc n) (before ++ line)
 
 -- What becomes of a field whose value is not ASCII, by the kind of its name. "Plain text: name, colon, encoded words of the text. Every other name is
--- encapsulated: `Downgraded-` before the name". Date and the others with comments "are held only if non-ASCII stands outside their comments". Received
--- fields by request 2. A field of any other kind is held.
+-- encapsulated: `Downgraded-` before the name". Date and the others with comments "are held only if non-ASCII stands outside their comments". A
+-- Received field is held too "with a line grown past 998 bytes". A field of any other kind is held.
 pub data KindBecomes (rules : Rules) (field : List ℕ) : Kind → List Segment → Type 0 where
   address : {segments : List Segment} → AddressField rules (nameOf field) (textOf field) segments → KindBecomes rules field Address segments
   plain-text : KindBecomes rules field PlainText (encodedField false (nameOf field) (textOf field))
   other : KindBecomes rules field Other (encodedField true (nameOf field) (textOf field))
-  commented : T (asciiOutsideComments (valueOf field)) → KindBecomes rules field Commented (structuredField (nameOf field) (valueOf field))
-  received : T (passes (nameOf field) (valueOf field)) → KindBecomes rules field Received (receivedField (nameOf field) (valueOf field))
+  commented : {segments : List Segment} → StructuredValue (valueOf field) segments → KindBecomes rules field Commented (named (nameOf field) segments)
+  received : {segments : List Segment} → ReceivedValue (valueOf field) segments → T (linesFit (rendered (named (nameOf field) segments)))
+      → KindBecomes rules field Received (named (nameOf field) segments)
 
 -- "A field whose value is ASCII is copied."
 pub data Becomes (rules : Rules) (field : List ℕ) : List Segment → Type 0 where
