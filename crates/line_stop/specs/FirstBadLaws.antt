@@ -60,7 +60,7 @@ module _ {L : List ℕ → Type 0} where
     bad = λ k p. f .bad (omega (arith, length-append a b)) (rw (take-append-le (suc n) a b h) p);
   }
 
--- it is the same for lines that are formed so and those that are formed so otherwise said
+-- it is the same for two forms that the same lines have
 pub first-formed : {Formed Other : List ℕ → Type 0} {s : List ℕ} {n : ℕ} → ((l : List ℕ) → Formed l → Other l) → ((l : List ℕ) → Other l → Formed l)
     → FirstBad (WithCrlf Formed) s n → FirstBad (WithCrlf Other) s n
 first-formed there back f =

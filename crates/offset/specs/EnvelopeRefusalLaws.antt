@@ -83,10 +83,11 @@ module _ {rules : Rules} {Asked : List ℕ → Type 0} where
 
 -- ---- the fault of the line at the front of what follows
 
-module _ (rules : Rules) (n : ℕ) (rest : List ℕ) (fault : Fault) (there : 0 < length rest) where
-  front-refused : faultOf rules n rest ≡ fault → isFine fault ≡ false → checkedFrom rules n (lines rest) ≡ Refused fault n
-  front-refused e f = rw e at (checked-stop rules rest 0 n (lineLen rest) there (omega arith) (rw e f))
+front-refused : (rules : Rules) (n : ℕ) (rest : List ℕ) (fault : Fault) → 0 < length rest → faultOf rules n rest ≡ fault → isFine fault ≡ false
+    → checkedFrom rules n (lines rest) ≡ Refused fault n
+front-refused rules n rest fault there e f = rw e at (checked-stop rules rest 0 n (lineLen rest) there (omega arith) (rw e f))
 
+-- no line before line n is refused from line n on
 refused-le : (rules : Rules) (ls : List (List ℕ)) (n m : ℕ) (fault : Fault) → checkedFrom rules n ls ≡ Refused fault m → n ≤ m
 unfolding checkedFrom counted
 refused-le rules [] n m fault p =
@@ -99,15 +100,14 @@ refused-le rules (line ∷ more) n m fault p =
     (λ u. omega (arith, refused-le rules more (suc n) m fault (rw (yes-true f u) at p)))
     (λ u. let q : Refused (faultOf rules n line) n ≡ Refused fault m = rw (no-false f u) at p in let same : n ≡ m = cc in omega arith)
 
-module _ (rules : Rules) (n : ℕ) (rest : List ℕ) (fault : Fault) (there : 0 < length rest) (p : checkedFrom rules n (lines rest) ≡ Refused fault n) where
-  front-fault : faultOf rules n rest ≡ fault
-  front-fault =
-      let f = isFine (faultOf rules n rest) in
-      by-test f
-      (λ u.
-      let next = checked-step rules rest 0 n (lineLen rest) there (omega arith) (yes-true f u) in
-      absurd (omega (arith, refused-le rules (lines (drop (lineLen rest + 2) rest)) (n + 1) n fault (sym next ∙ p))))
-      (λ u. let q : Refused (faultOf rules n rest) n ≡ Refused fault n = sym (checked-stop rules rest 0 n (lineLen rest) there (omega arith) (no-false f u)) ∙ p in cc)
+front-fault : (rules : Rules) (n : ℕ) (rest : List ℕ) (fault : Fault) → 0 < length rest → checkedFrom rules n (lines rest) ≡ Refused fault n → faultOf rules n rest ≡ fault
+front-fault rules n rest fault there p =
+    let f = isFine (faultOf rules n rest) in
+    by-test f
+    (λ u.
+    let next = checked-step rules rest 0 n (lineLen rest) there (omega arith) (yes-true f u) in
+    absurd (omega (arith, refused-le rules (lines (drop (lineLen rest + 2) rest)) (n + 1) n fault (sym next ∙ p))))
+    (λ u. let q : Refused (faultOf rules n rest) n ≡ Refused fault n = sym (checked-stop rules rest 0 n (lineLen rest) there (omega arith) (no-false f u)) ∙ p in cc)
 
 -- ---- a malformed line
 
@@ -199,9 +199,6 @@ not-missing rules n rest fault p h e =
     let q = rw (e, no-lines, le-ltb n 2 h) at p in
     let z : _≡_ {A = ℕ} 0 1 = cc in
     omega arith
-
-fine-formed : Fine ≡ Malformed → ⊥
-fine-formed e = let z : _≡_ {A = ℕ} 0 1 = cc in omega arith
 
 -- line n of an envelope is malformed, or missing
 pub record MalformedFound (rules : Rules) (e : List ℕ) (n offset : ℕ) : Type 0 where
@@ -448,6 +445,9 @@ module _ (n : ℕ) (rest : List ℕ) (p : orcptFrom n (texts rest) ≡ At n) whe
       by-test r (yes-true r)
       (λ u. absurd (omega (arith, orcpt-le (texts (drop (lineLen rest + 2) rest)) (suc n) n (rw (no-false r u) at q))))
 
+fine-not-malformed : Fine ≡ Malformed → ⊥
+fine-not-malformed e = let z : _≡_ {A = ℕ} 0 1 = cc in omega arith
+
 -- the line at the front has no fault where the lines from it on pass
 front-passed : (rules : Rules) (n m : ℕ) (rest : List ℕ) → 0 < length rest → checkedFrom rules n (lines rest) ≡ Passed m → faultOf rules n rest ≡ Fine
 front-passed rules n m rest there p =
@@ -459,7 +459,7 @@ front-passed rules n m rest there p =
 module _ {rules : Rules} {n m : ℕ} {start out : List ℕ} {ts : List (List ℕ)} (k : EnvelopeLines rules Ascii n start out ts) (rest : List ℕ)
     (p : checkedFrom rules n (lines rest) ≡ Passed m) (o : orcptFrom n (texts rest) ≡ At n) where
   orcpt-line : FrontLine rules n rest Fine
-  orcpt-line = front-line rules n rest Fine fine-formed (front-passed rules n m rest (orcpt-nonempty n rest o) p)
+  orcpt-line = front-line rules n rest Fine fine-not-malformed (front-passed rules n m rest (orcpt-nonempty n rest o) p)
 
   orcpt-found : OrcptFound rules (start ++ rest) n (orcptOffset (start ++ rest) n)
   orcpt-found =
