@@ -26,9 +26,9 @@ pub record White (white more : List ℕ) : Type 0 where
   pub bytes : T (all isWhite white)
   pub whole : T (not (isWhite (getD more 0 0) || isFor more))
 
--- What is left of a value, and what becomes of it. "Comments follow [1]": `comments` says whether one may start, as after an unclosed
--- parenthesis (40) "nothing .. is a comment". A for with white space before it is that of a clause, as a field "with a for that no such
--- address, ASCII or not, follows, with non-ASCII left elsewhere .. is still held".
+-- What is left of a value, and what becomes of it: "Comments follow [1].", a clause goes or stays, all else stays.
+-- `comments` says whether a comment may start: of an unclosed parenthesis (40) "nothing after it is a comment". A field is "held" that has
+-- "a for that no such address, ASCII or not, follows", or "non-ASCII left elsewhere": no rule makes these.
 pub data Left : Bool → List ℕ → List Segment → Type 0 where
   end : {comments : Bool} → Left comments [] []
   byte : {comments : Bool} {b : ℕ} {more : List ℕ} {p : List Segment} → T (isAscii b) → T (not (isWhite b)) → T (not (eqb b 34 || eqb b 40)) → Left comments more p → Left comments (b ∷ more) (raw (b ∷ []) ∷ p)
@@ -38,7 +38,8 @@ pub data Left : Bool → List ℕ → List Segment → Type 0 where
   comment : {c more : List ℕ} {p : List Segment} → Comment c → Left true more p → Left true (c ++ more) (joined (map partSegments (parts c)) ++ p)
   unclosed : {comments : Bool} {s : List ℕ} {p : List Segment} → (T comments → (c more : List ℕ) → Comment c → 40 ∷ s ≡ c ++ more → ⊥) → Left false s p → Left comments (40 ∷ s) (raw (40 ∷ []) ∷ p)
 
--- A value: "white space or the colon before" a for, which may stand at the very start.
+-- A value, and what becomes of it: "white space or the colon before" a for, which may stand at the very start.
+-- Where none does, nothing is written for it.
 pub data ReceivedValue : List ℕ → List Segment → Type 0 where
   clause : {c more : List ℕ} {p : List Segment} → Clause c → Left true more p → ReceivedValue (c ++ more) (clauseSegments c ++ p)
   other : {w more : List ℕ} {p : List Segment} → White w more → Left true (w ++ more) p → ReceivedValue (w ++ more) (raw [] ∷ p)

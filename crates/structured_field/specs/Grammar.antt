@@ -14,7 +14,8 @@ use Rattle.comment.specs.Parts.{parts}
 use Rattle.structured_field.specs.StructuredField.{partSegments}
 
 -- What follows the quote (34) that opens a quoted string, up to the string's end, and all that stands after the string. "Outside address
--- fields an unclosed string runs to the field's end; in strings there and in all comments a backslash (92) escapes any next character."
+-- fields an unclosed string runs to the field's end; in strings there and in all comments a backslash escapes any next character." At
+-- that end a backslash (92) has none to escape.
 pub data AfterQuote : List ℕ → List ℕ → Type 0 where
   closed : {more : List ℕ} → AfterQuote (34 ∷ []) more
   unclosed : AfterQuote [] []
@@ -22,8 +23,9 @@ pub data AfterQuote : List ℕ → List ℕ → Type 0 where
   plain : {b : ℕ} {s more : List ℕ} → T (not (eqb b 34 || eqb b 92)) → AfterQuote s more → AfterQuote (b ∷ s) more
   escaped : {b : ℕ} {s more : List ℕ} → AfterQuote s more → AfterQuote (92 ∷ b ∷ s) more
 
--- A value with no "non-ASCII .. outside their comments", and what becomes of it: its comments by their runs, "all else byte for byte".
--- "No comment starts inside a quoted string." Of an unclosed parenthesis (40) "nothing after it is a comment".
+-- A value of a field that is not held, and what becomes of it: "held only if non-ASCII stands outside their comments", which become
+-- what their runs do, "all else byte for byte". "No comment starts inside a quoted string." Of an unclosed parenthesis (40) "nothing
+-- after it is a comment": no comment stands where it does.
 pub data StructuredValue : List ℕ → List Segment → Type 0 where
   end : StructuredValue [] []
   byte : {b : ℕ} {more : List ℕ} {p : List Segment} → T (isAscii b) → T (not (eqb b 34 || eqb b 40)) → StructuredValue more p → StructuredValue (b ∷ more) (raw (b ∷ []) ∷ p)
