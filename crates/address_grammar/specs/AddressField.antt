@@ -14,7 +14,6 @@ use Rattle.line.specs.Line.{blank as isBlank}
 use Rattle.comment.specs.Grammar.{Comment}
 use Rattle.comment.specs.Parts.{parts, fits}
 use Rattle.unquote.specs.Unquote.{unquoted}
-use Rattle.phrase.specs.Phrase.{joinedBySpaces}
 use Rattle.rules.specs.Rules.{allowsAlternative}
 use Rattle.rules.specs.declared.Rules.{Rules}
 use Rattle.encoded_word.specs.Segments.{Segment}
@@ -33,16 +32,17 @@ pub data Gap : List ℕ → List Segment → Type 0 where
   blank : {b : ℕ} {more : List ℕ} {p : List Segment} → T (isBlank b) → Gap more p → Gap (b ∷ more) p
   comment : {c more : List ℕ} {p : List Segment} → Comment c → T (all fits (parts c)) → Gap more p → Gap (c ++ more) (commentPieces c ++ p)
 
--- "A phrase is words parted by one or more spaces or TABs": a text and its words
-pub data Words : List ℕ → List (List ℕ) → Type 0 where
-  one : {w : List ℕ} → WordText w → Words w (w ∷ [])
-  then : {w gap more : List ℕ} {ws : List (List ℕ)} → WordText w → SomeBlanks gap → Words more ws → Words (w ++ (gap ++ more)) (w ∷ ws)
+-- "A phrase is words parted by one or more spaces or TABs": a text, its words, and "its words without quoting and escapes, joined by
+-- single spaces". A space is 32.
+pub data Words : List ℕ → List (List ℕ) → List ℕ → Type 0 where
+  one : {w : List ℕ} → WordText w → Words w (w ∷ []) (unquoted w)
+  then : {w gap more meant : List ℕ} {ws : List (List ℕ)} → WordText w → SomeBlanks gap → Words more ws meant → Words (w ++ (gap ++ more)) (w ∷ ws) (unquoted w ++ (32 ∷ meant))
 
 -- "ASCII phrase: each word as it stands, a piece each. Other phrase: encoded words of its words without quoting and escapes, joined by
 -- single spaces."
 pub data Phrase : List ℕ → List Segment → Type 0 where
-  ascii : {t : List ℕ} {ws : List (List ℕ)} → Words t ws → T (all isAscii t) → Phrase t (map piece ws)
-  other : {t : List ℕ} {ws : List (List ℕ)} → Words t ws → T (not (all isAscii t)) → Phrase t (words (joinedBySpaces (map unquoted ws)) ∷ [])
+  ascii : {t meant : List ℕ} {ws : List (List ℕ)} → Words t ws meant → T (all isAscii t) → Phrase t (map piece ws)
+  other : {t meant : List ℕ} {ws : List (List ℕ)} → Words t ws meant → T (not (all isAscii t)) → Phrase t (words meant ∷ [])
 
 -- "`<address>`, or with an alternative `<address <ASCII address>>`, the first non-ASCII, at least one space or TAB between", where the
 -- rules allow it; "an alternative replaces the first"
