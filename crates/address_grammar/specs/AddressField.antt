@@ -18,7 +18,7 @@ use Rattle.rules.specs.Rules.{allowsAlternative}
 use Rattle.rules.specs.declared.Rules.{Rules}
 use Rattle.encoded_word.specs.Segments.{Segment}
 use Rattle.encoded_word.specs.Segments.Segment.{raw, words}
-use Rattle.field.specs.Field.{encodedField}
+use Rattle.field.specs.Field.{encodedField, named as namedField}
 use Rattle.piece.specs.Piece.{piece}
 use Rattle.piece.specs.CommentPieces.{commentPieces}
 use Rattle.group.specs.Group.{trimmed}
@@ -91,13 +91,9 @@ pub data Items (rules : Rules) : List ℕ → List Segment → Bool → Type 0 w
 pub data AddressValue (rules : Rules) : List ℕ → List Segment → Bool → Type 0 where
   value : {g is : List ℕ} {p q : List Segment} {changed : Bool} → Gap g p → Items rules is q changed → AddressValue rules (g ++ is) (p ++ q) changed
 
--- the name as it came, colon, the pieces, CRLF
-abbrev pub rewritten : List ℕ → List Segment → List Segment
-rewritten name pieces = raw (name ++ (58 ∷ [])) ∷ (pieces ++ (raw (13 ∷ 10 ∷ []) ∷ []))
-
 -- What a field with this name and text becomes. "If any address was replaced or removed, a `Downgraded-` field with encoded words of
 -- the original text follows the rewritten field." "Text that does not fit is encapsulated."
 pub data AddressField (rules : Rules) (name text : List ℕ) : List Segment → Type 0 where
-  kept : {pieces : List Segment} → AddressValue rules text pieces false → AddressField rules name text (rewritten name pieces)
-  changed : {pieces : List Segment} → AddressValue rules text pieces true → AddressField rules name text (rewritten name pieces ++ encodedField true name text)
+  kept : {pieces : List Segment} → AddressValue rules text pieces false → AddressField rules name text (namedField name pieces)
+  changed : {pieces : List Segment} → AddressValue rules text pieces true → AddressField rules name text (namedField name pieces ++ encodedField true name text)
   unfit : ((pieces : List Segment) (c : Bool) → AddressValue rules text pieces c → ⊥) → AddressField rules name text (encodedField true name text)
