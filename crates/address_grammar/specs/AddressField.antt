@@ -14,12 +14,11 @@ use Rattle.line.specs.Line.{blank as isBlank}
 use Rattle.comment.specs.Grammar.{Comment}
 use Rattle.comment.specs.Parts.{parts, fits}
 use Rattle.unquote.specs.Unquote.{unquoted}
-use Rattle.phrase.specs.Phrase.{joinedBySpaces}
 use Rattle.rules.specs.Rules.{allowsAlternative}
 use Rattle.rules.specs.declared.Rules.{Rules}
 use Rattle.encoded_word.specs.Segments.{Segment}
 use Rattle.encoded_word.specs.Segments.Segment.{raw, words}
-use Rattle.field.specs.Field.{encodedField}
+use Rattle.field.specs.Field.{encodedField, named as namedField}
 use Rattle.piece.specs.Piece.{piece}
 use Rattle.piece.specs.CommentPieces.{commentPieces}
 use Rattle.group.specs.Group.{trimmed}
@@ -33,16 +32,17 @@ pub data Gap : List ℕ → List Segment → Type 0 where
   blank : {b : ℕ} {more : List ℕ} {p : List Segment} → T (isBlank b) → Gap more p → Gap (b ∷ more) p
   comment : {c more : List ℕ} {p : List Segment} → Comment c → T (all fits (parts c)) → Gap more p → Gap (c ++ more) (commentPieces c ++ p)
 
--- "A phrase is words parted by one or more spaces or TABs": a text and its words
-pub data Words : List ℕ → List (List ℕ) → Type 0 where
-  one : {w : List ℕ} → WordText w → Words w (w ∷ [])
-  then : {w gap more : List ℕ} {ws : List (List ℕ)} → WordText w → SomeBlanks gap → Words more ws → Words (w ++ (gap ++ more)) (w ∷ ws)
+-- "A phrase is words parted by one or more spaces or TABs": a text, its words, and "its words without quoting and escapes, joined by
+-- single spaces". A space is 32.
+pub data Words : List ℕ → List (List ℕ) → List ℕ → Type 0 where
+  one : {w : List ℕ} → WordText w → Words w (w ∷ []) (unquoted w)
+  then : {w gap more meant : List ℕ} {ws : List (List ℕ)} → WordText w → SomeBlanks gap → Words more ws meant → Words (w ++ (gap ++ more)) (w ∷ ws) (unquoted w ++ (32 ∷ meant))
 
 -- "ASCII phrase: each word as it stands, a piece each. Other phrase: encoded words of its words without quoting and escapes, joined by
 -- single spaces."
 pub data Phrase : List ℕ → List Segment → Type 0 where
-  ascii : {t : List ℕ} {ws : List (List ℕ)} → Words t ws → T (all isAscii t) → Phrase t (map piece ws)
-  other : {t : List ℕ} {ws : List (List ℕ)} → Words t ws → T (not (all isAscii t)) → Phrase t (words (joinedBySpaces (map unquoted ws)) ∷ [])
+  ascii : {t meant : List ℕ} {ws : List (List ℕ)} → Words t ws meant → T (all isAscii t) → Phrase t (map piece ws)
+  other : {t meant : List ℕ} {ws : List (List ℕ)} → Words t ws meant → T (not (all isAscii t)) → Phrase t (words meant ∷ [])
 
 -- "`<address>`, or with an alternative `<address <ASCII address>>`, the first non-ASCII, at least one space or TAB between", where the
 -- rules allow it; "an alternative replaces the first"
@@ -91,13 +91,9 @@ pub data Items (rules : Rules) : List ℕ → List Segment → Bool → Type 0 w
 pub data AddressValue (rules : Rules) : List ℕ → List Segment → Bool → Type 0 where
   value : {g is : List ℕ} {p q : List Segment} {changed : Bool} → Gap g p → Items rules is q changed → AddressValue rules (g ++ is) (p ++ q) changed
 
--- the name as it came, colon, the pieces, CRLF
-abbrev pub rewritten : List ℕ → List Segment → List Segment
-rewritten name pieces = raw (name ++ (58 ∷ [])) ∷ (pieces ++ (raw (13 ∷ 10 ∷ []) ∷ []))
-
 -- What a field with this name and text becomes. "If any address was replaced or removed, a `Downgraded-` field with encoded words of
 -- the original text follows the rewritten field." "Text that does not fit is encapsulated."
 pub data AddressField (rules : Rules) (name text : List ℕ) : List Segment → Type 0 where
-  kept : {pieces : List Segment} → AddressValue rules text pieces false → AddressField rules name text (rewritten name pieces)
-  changed : {pieces : List Segment} → AddressValue rules text pieces true → AddressField rules name text (rewritten name pieces ++ encodedField true name text)
+  kept : {pieces : List Segment} → AddressValue rules text pieces false → AddressField rules name text (namedField name pieces)
+  changed : {pieces : List Segment} → AddressValue rules text pieces true → AddressField rules name text (namedField name pieces ++ encodedField true name text)
   unfit : ((pieces : List Segment) (c : Bool) → AddressValue rules text pieces c → ⊥) → AddressField rules name text (encodedField true name text)

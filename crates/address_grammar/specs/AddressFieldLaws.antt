@@ -5,6 +5,7 @@ use mathlib.Core.List.{List, [], append-nil}
 use Prim.Native.Nat.{ℕ}
 use Rattle.rules.specs.declared.Rules.{Rules}
 use Rattle.encoded_word.specs.Segments.{Segment}
+use Rattle.field.specs.Field.{named}
 use Rattle.address_list.specs.Parts.{Part, partsOf, anyChanges}
 use Rattle.address_list.specs.Table.{fits, examined}
 use Rattle.address_list.specs.declared.Examined.{Examined}
@@ -16,7 +17,7 @@ use Rattle.address_grammar.specs.PartGrammar.{AddressList}
 use Rattle.address_grammar.specs.PartGrammarLaws.{parts-made, parts-joined}
 use Rattle.address_grammar.specs.GrammarLaws.{fits-made, examined-is, kept-examined, changed-examined}
 use Rattle.address_grammar.specs.FittingLaws.{one-reading, listed-fits, unfit-text, text-unfit}
-use Rattle.address_grammar.specs.AddressField.{AddressValue, rewritten, AddressField}
+use Rattle.address_grammar.specs.AddressField.{AddressValue, AddressField}
 use Rattle.address_grammar.specs.PartListLaws.{written, WrittenParts}
 use Rattle.address_grammar.specs.FormPartsLaws.{value-parts}
 use Rattle.address_grammar.specs.PartsFormLaws.{value-formed}
@@ -69,7 +70,7 @@ module _ (rules : Rules) (text : List ℕ) where
 -- ---- what a field becomes
 
 module _ (rules : Rules) (name text : List ℕ) where
-  rewritten-pieces : rewritten name (writtenPieces rules text) ≡ rewrittenField rules name text
+  rewritten-pieces : named name (writtenPieces rules text) ≡ rewrittenField rules name text
   unfolding rewrittenField
   rewritten-pieces = refl
 

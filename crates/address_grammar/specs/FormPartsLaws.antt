@@ -10,8 +10,6 @@ use lib.Seq.{drop-append-seam, take-append-seam}
 use Rattle.lists.specs.Byte.{isAscii}
 use Rattle.lists.specs.Lists.{all}
 use Rattle.lists.specs.ListsLaws.{yes-true, no-false}
-use Rattle.unquote.specs.Unquote.{unquoted}
-use Rattle.phrase.specs.Phrase.{joinedBySpaces, phraseText}
 use Rattle.rules.specs.declared.Rules.{Rules}
 use Rattle.encoded_word.specs.Segments.{Segment}
 use Rattle.encoded_word.specs.Segments.Segment.{words}
@@ -25,7 +23,7 @@ use Rattle.address_pieces.specs.Pieces.{phrasePieces, pieces}
 use Rattle.address_grammar.specs.PartGrammar.{IsPart, AngledText, AlternativeText}
 use Rattle.address_grammar.specs.AddressField.{Gap, Phrase, InAngles, Mailbox, Mailboxes, Members, Item, Items, AddressValue}
 use Rattle.address_grammar.specs.PartListLaws.{part, isUnmarked, colon, semicolon, kinds-append, PlainParts, plain-none, plain-one, plain-both, WrittenParts, plain-written, written-both, group-written, lost-written}
-use Rattle.address_grammar.specs.PhraseWordsLaws.{words-phrase, words-are}
+use Rattle.address_grammar.specs.PhraseWordsLaws.{words-phrase, words-are, text-is}
 
 -- ---- forms without a colon or a semicolon
 
@@ -102,12 +100,12 @@ module _ {rules : Rules} where
   -- ---- a phrase, and what stands in `< >`
 
   phrase-parts : {f : List ℕ} {p : List Segment} → Phrase f p → Parted rules (OneKind PhraseKind) f p false false
-  unfolding pieces phrasePieces phraseText isLost changes unlessGap
-  phrase-parts (Phrase.ascii {t} {ws} h y) =
+  unfolding pieces phrasePieces isLost changes unlessGap
+  phrase-parts (Phrase.ascii {t} {ws = ws} h y) =
       let are : phrasePieces t ≡ map piece ws = rw (yes-true (all isAscii t) y, words-are h) in
       rw are at (parted-one {K = OneKind PhraseKind} PhraseKind (words-phrase h) tt refl)
-  phrase-parts (Phrase.other {t} {ws} h n) =
-      let are : phrasePieces t ≡ words (joinedBySpaces (map unquoted ws)) ∷ [] = rw (no-false (all isAscii t) n, words-are h) in
+  phrase-parts (Phrase.other {t} {meant} h n) =
+      let are : phrasePieces t ≡ words meant ∷ [] = rw (no-false (all isAscii t) n, text-is h) in
       rw are at (parted-one {K = OneKind PhraseKind} PhraseKind (words-phrase h) tt refl)
 
   angles-parts : {a : List ℕ} {p : List Segment} {l c : Bool} → InAngles rules a p l c → Parted rules InAnglesKind a p l c

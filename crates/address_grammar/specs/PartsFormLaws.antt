@@ -10,8 +10,7 @@ use lib.ListN.{length, take, drop, length-append}
 use Rattle.lists.specs.Byte.{isAscii}
 use Rattle.lists.specs.Lists.{all}
 use Rattle.lists.specs.ListsLaws.{by-test, yes-true, no-false}
-use Rattle.unquote.specs.Unquote.{unquoted}
-use Rattle.phrase.specs.Phrase.{phraseWords, joinedBySpaces, phraseText}
+use Rattle.phrase.specs.Phrase.{phraseWords, phraseText}
 use Rattle.rules.specs.declared.Rules.{Rules}
 use Rattle.encoded_word.specs.Segments.{Segment}
 use Rattle.encoded_word.specs.Segments.Segment.{words}
@@ -25,7 +24,7 @@ use Rattle.address_pieces.specs.Pieces.{phrasePieces, inAngles, addressPieces, 
 use Rattle.address_grammar.specs.PartGrammar.{PhraseText, AlternativeText, IsPart, EachIsPart}
 use Rattle.address_grammar.specs.AddressField.{Gap, Phrase, InAngles, Mailbox, Mailboxes, Members, Item, Items, AddressValue}
 use Rattle.address_grammar.specs.PartListLaws.{part, colon, semicolon, PlainParts, plain-none, plain-one, plain-both, WrittenParts, plain-written, written-both, group-written, lost-written}
-use Rattle.address_grammar.specs.PhraseWordsLaws.{phrase-words, words-are}
+use Rattle.address_grammar.specs.PhraseWordsLaws.{phrase-words, words-are, text-is}
 use Rattle.address_grammar.specs.FormPartsLaws.{inner}
 
 -- ---- parts, each with the gap after it
@@ -149,8 +148,8 @@ ascii-pieces : (t : List ℕ) → T (all isAscii t) → phrasePieces t ≡ map p
 unfolding phrasePieces
 ascii-pieces t y = rw (yes-true (all isAscii t) y)
 
-other-pieces : (t : List ℕ) → T (not (all isAscii t)) → phrasePieces t ≡ words (joinedBySpaces (map unquoted (phraseWords t))) ∷ []
-unfolding phrasePieces phraseText
+other-pieces : (t : List ℕ) → T (not (all isAscii t)) → phrasePieces t ≡ words (phraseText t) ∷ []
+unfolding phrasePieces
 other-pieces t n = rw (no-false (all isAscii t) n)
 
 phrase-formed : (rules : Rules) (t : List ℕ) → PhraseText t → PhraseFormed rules t
@@ -159,7 +158,7 @@ phrase-formed rules t p =
     let w = phrase-words p in
     by-test (all isAscii t)
     (λ y. record { segments = phrasePieces t; form = rw (ascii-pieces t y, words-are (w .are)) (Phrase.ascii (w .are) y); plain = plain-one PhraseKind p tt })
-    (λ n. record { segments = phrasePieces t; form = rw (other-pieces t n, words-are (w .are)) (Phrase.other (w .are) n); plain = plain-one PhraseKind p tt })
+    (λ n. record { segments = phrasePieces t; form = rw (other-pieces t n, text-is (w .are)) (Phrase.other (w .are) n); plain = plain-one PhraseKind p tt })
 
 -- the alternative in a text
 other-inner : {rules : Rules} {start size : ℕ} {t : List ℕ} (p : AlternativeText rules start size t) → take size (drop start t) ≡ p .alternative

@@ -7,9 +7,10 @@ use Rattle.lists.specs.Byte.{isAscii}
 use Rattle.lists.specs.Lists.{all, joined}
 use Rattle.encoded_word.specs.Segments.{Segment, rendered}
 use Rattle.encoded_word.specs.Segments.Segment.{raw}
+use Rattle.field.specs.Field.{named}
 use Rattle.comment.specs.Parts.{parts}
 use Rattle.structured_field.specs.Tokens.{isComment}
-use Rattle.structured_field.specs.StructuredField.{partSegments, named}
+use Rattle.structured_field.specs.StructuredField.{partSegments}
 use Rattle.received_token.specs.Clause.{forLen, isClause, isRemoved}
 use Rattle.received_token.specs.Tokens.{tokensFrom, tokens}
 

@@ -18,12 +18,13 @@ use Rattle.encoded_word.specs.Segments.{Segment, rendered, sound}
 use Rattle.encoded_word.specs.Segments.Segment.{raw}
 use Rattle.encoded_word.specs.SegmentsLaws.{rendered-append}
 use Rattle.encoded_word.specs.MappedLaws.{mapped-le, mapped-sound}
+use Rattle.field.specs.FieldLaws.{named-sound, length-named}
 use Rattle.comment.specs.Comment.{commentLen}
 use Rattle.comment.specs.Parts.{parts}
 use Rattle.comment.specs.BoundaryLaws.{Cut, comment-cut, parts-pass}
 use Rattle.structured_field.specs.Tokens.{isComment}
 use Rattle.structured_field.specs.StructuredField.{partSegments}
-use Rattle.structured_field.specs.StructuredFieldLaws.{comment-sound, comment-le, all-both, named-sound, length-named}
+use Rattle.structured_field.specs.StructuredFieldLaws.{comment-sound, comment-le, all-both}
 use Rattle.received_token.specs.Clause.{clauseLen, forLen, isClause, isRemoved}
 use Rattle.received_token.specs.ClauseLaws.{clause-last, for-le}
 use Rattle.received_token.specs.Tokens.{unclosedLen, leftLen, tokensFrom, tokens}
