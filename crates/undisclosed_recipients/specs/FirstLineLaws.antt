@@ -10,7 +10,6 @@ use lib.Seq.{take-append-le, drop-append-le}
 use Rattle.lists.specs.ListsLaws.{cond-has}
 use Rattle.line.specs.Line.{crlf, lineLen}
 use Rattle.envelope.specs.Envelope.{lineText, texts, mailOf, mailReplacement, onlyRcptOf, rcptReplacement}
-use Rattle.envelope.specs.EnvelopeDemand.{eachEnded}
 use Rattle.envelope.specs.LinesLaws.{texts-at}
 
 -- what follows a CRLF does not tell where the first line ends
