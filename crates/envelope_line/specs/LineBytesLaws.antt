@@ -1,13 +1,12 @@
 -- The bytes of a line of the grammar: no CR stands inside; past the path only an ORCPT carries non-ASCII. Assumes nothing.
-use mathlib.Core.Path.{_≡_, refl, sym}
+use mathlib.Core.Path.{_≡_, refl}
 use mathlib.Core.Bool.{Bool, true, false, not, or-true}
 use mathlib.Core.List.{List, [], _∷_, _++_, map}
 use mathlib.Core.Option.{Option}
 use Prim.Native.Nat.{ℕ, _+_}
-use native.Mathlib.Omega.{arith}
-use lib.Dec.{T, eqb, eqb→eq}
+use lib.Dec.{T}
 use lib.ListN.{take, drop, take-append-drop}
-use mir.Facts.{T-not, not-T, and-yes, yes-and, no-eqb, eqb-no}
+use mir.Facts.{T-not, not-T, and-yes, yes-and, no-eqb}
 use Rattle.lists.specs.ListsLaws.{by-test, yes-true, no-false, all-append, all-right, all-weaken, all-joined}
 use Rattle.lists.specs.Lists.{all, nonempty}
 use Rattle.lists.specs.Byte.{isAscii}

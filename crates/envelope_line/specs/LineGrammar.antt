@@ -27,11 +27,11 @@ pub data Path : Bool → List ℕ → Type 0 where
   empty : Path true []
   postmaster : {path : List ℕ} → T (sameAnyCase (bytes "Postmaster") path) → Path false path
 
--- "a keyword (letters, digits, hyphens, first not a hyphen)" other than ALT-ADDRESS, "Keywords compare in any case."; a hyphen is 45
+-- "a keyword (letters, digits, hyphens, first not a hyphen)", other than ALT-ADDRESS. "Keywords compare in any case." A hyphen is 45.
 abbrev pub isOtherKeyword : List ℕ → Bool
 isOtherKeyword k = nonempty k && all isKeywordByte k && not (eqb (getD k 0 0) 45) && not (sameAnyCase (bytes "ALT-ADDRESS") k)
 
--- "a value of one or more bytes 33 to 126 other than `=`. Only ORCPT may also hold non-ASCII in its value.": a value after the keyword k
+-- what may stand after the keyword k and `=`: "a value of one or more bytes 33 to 126 other than `=`. Only ORCPT may also hold non-ASCII in its value."
 abbrev pub isValue : List ℕ → List ℕ → Bool
 isValue k v = nonempty v && all (isValueByte (sameAnyCase (bytes "ORCPT") k)) v
 

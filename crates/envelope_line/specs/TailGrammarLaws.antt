@@ -10,7 +10,7 @@ use native.Mathlib.Omega.{arith}
 use lib.Dec.{T, eqb, eqb→eq}
 use lib.ListN.{length, take, drop, getD, take-append-drop, length-append}
 use lib.Seq.{drop-cons, take-all, take-append-seam, drop-append-seam, drop-append-add, getD-append-seam}
-use mir.Facts.{and-yes, yes-and, ltb-yes, ltb-no, no-eqb, eqb-no}
+use mir.Facts.{and-yes, yes-and, ltb-yes, ltb-no, no-eqb}
 use borrow.Author.Tests.{not-false, eqb-true, lt-ltb, le-ltb}
 use Rattle.lists.specs.ListsLaws.{by-test, cond-has, yes-true, no-false, all-append, all-weaken}
 use Rattle.lists.specs.Lists.{all, nonempty}
