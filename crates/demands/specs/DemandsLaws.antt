@@ -168,7 +168,7 @@ module _ (rules : Rules) (e h b c : List ℕ) where
   exactly number input place offset (orcpt-non-ascii more p q k ls l m) =
       let s = p .limits in
       let passed = lines-passed (p .lines) (p .enough) .0 in
-      let x = orcpt-exact more passed k ls l m in
+      let x = orcpt-exact more k ls l m in
       rw (over-no 16384 (length e) EnvelopeOver (s .envelope), over-no 32768 (length h) HeaderOver (s .header), passed, lines-header q, x .0) (refl, refl, refl, sym (x .1))
   exactly number input place offset (held-non-ascii after p q k ls m) =
       let s = p .limits in

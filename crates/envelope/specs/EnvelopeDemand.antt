@@ -1,22 +1,18 @@
 -- An envelope, line by line, by the grammar of its lines: what is written for it. EnvelopeDemandLaws.antt proves that this is what is checked and
 -- written. Assumes nothing.
 use mathlib.Core.List.{List, [], _∷_, _++_}
+use mathlib.Core.Option.{Option}
 use Prim.Native.Nat.{ℕ, suc, _≤_}
 use lib.Dec.{T, eqb}
 use Rattle.lists.specs.Byte.{isAscii}
 use Rattle.lists.specs.Lists.{all}
 use Rattle.rules.specs.declared.Rules.{Rules}
-use Rattle.envelope_line.specs.LineGrammar.{WellFormed, Written}
-
--- lines, "each ended by CRLF"
-abbrev pub eachEnded : List (List ℕ) → List ℕ
-eachEnded [] = []
-eachEnded (line ∷ more) = line ++ (13 ∷ 10 ∷ eachEnded more)
+use Rattle.envelope_line.specs.LineGrammar.{Line, Written}
 
 -- "any well-formed line at that number": "One MAIL line, then 1 to 100 RCPT lines". "Lines count from 0."
 pub record WellFormedAt (n : ℕ) (line : List ℕ) : Type 0 where
   pub few : n ≤ 100
-  pub formed : WellFormed (eqb n 0) line
+  pub formed : (path : List ℕ) × (alternative : Option (List ℕ)) × Line (eqb n 0) path alternative line
 
 -- what may be asked of the bytes after a path: nothing; or that they are ASCII, so that no "ORCPT carries non-ASCII": only an ORCPT may
 abbrev pub Any : List ℕ → Type 0

@@ -33,8 +33,8 @@ use Rattle.envelope_line.specs.declared.Fault.{Fault}
 use Rattle.envelope_line.specs.declared.Fault.the-variants.{Fine, Malformed, NoAlternative, BadAlternative, RetiredAlternative}
 use Rattle.envelope_line.specs.EnvelopeLine.{verb, verbLen, hasVerb, pathScan, scanEnd, isTo, pathLen, path, hasPath, tail, wellFormed, valueFault, altFault, lineFault, newPath, writtenLine, replacement}
 use Rattle.envelope_line.specs.FaultLaws.{Formed, formed-of, closed-of}
-use Rattle.envelope_line.specs.LineGrammar.{Verb, Path, Tail, Line, WellFormed, othersOf, valueByte, LineRefused, Written}
-use Rattle.envelope_line.specs.TailGrammarLaws.{altValue, read-tail, tail-reads, tail-value, tail-others, value-le}
+use Rattle.envelope_line.specs.LineGrammar.{Path, Tail, Line, othersOf, valueByte, LineRefused, Written}
+use Rattle.envelope_line.specs.TailGrammarLaws.{same-each, altValue, read-tail, tail-reads, tail-value, tail-others, value-le}
 
 -- ---- texts that are the same in any case
 
@@ -96,16 +96,6 @@ letter-atom y =
     let wide : T (within 94 126 y) = yes-and (leb 94 y) (leb y 126) (yes-leb {a = 94} {b = y} (omega (arith, leb-yes {a = 97} {b = y} (b .0)))) (yes-leb {a = y} {b = 126} (omega (arith, leb-yes {a = y} {b = 122} (b .1)))) in
     rw (no-false (within 65 90 y) t, yes-true (within 94 126 y) wide) tt)
 
-letters-atoms : (xs ys : List ℕ) → T (sameAnyCase xs ys) → T (all (λ x. within 97 122 (lower x)) xs) → T (all isAtomByte ys)
-unfolding sameAnyCase
-letters-atoms [] [] t h = tt
-letters-atoms [] (y ∷ ys) t h = absurd t
-letters-atoms (x ∷ xs) [] t h = absurd t
-letters-atoms (x ∷ xs) (y ∷ ys) t h =
-    let p = and-yes (eqb (lower x) (lower y)) (sameAnyCase xs ys) t in
-    let l = and-yes (within 97 122 (lower x)) (all (λ x. within 97 122 (lower x)) xs) h in
-    yes-and (isAtomByte y) (all isAtomByte ys) (letter-atom y (rw (eqb→eq (lower x) (lower y) (p .0)) at (l .0))) (letters-atoms xs ys (p .1) (l .1))
-
 -- ---- path
 
 no-to : {n m : ℕ} → Stop n ≡ To m → ⊥
@@ -143,7 +133,7 @@ module _ (s : List ℕ) (t : T (sameAnyCase (bytes "Postmaster>") (take 11 s))) 
   unfolding bytes lower
   word-local = LocalPart.atoms (DotAtom.one (record {
     some = nonempty-of (word .front) (omega (arith, word-size));
-    bytes = letters-atoms (bytes "Postmaster") (word .front) (word .same) tt;
+    bytes = same-each (within 97 122) isAtomByte letter-atom (bytes "Postmaster") (word .front) (word .same) tt;
   }))
     where
       nonempty-of : (xs : List ℕ) → 0 < length xs → T (nonempty xs)
@@ -226,7 +216,7 @@ module _ (mail : Bool) (line : List ℕ) where
         is = cut-line k;
         short = k .short;
         is-utf8 = k .is-utf8;
-        is-front = record { same = k .has-verb };
+        is-front = k .has-verb;
         is-path = read-path mail s (scanEnd (pathScan mail s)) (to-end (pathScan mail s) to);
         is-tail = read-tail (tail mail line) (k .is-spaced) (k .are-params) (k .alts-ok);
       }
@@ -238,12 +228,12 @@ unfolding verb bytes
 verb-length true = refl
 verb-length false = refl
 
-module _ {mail : Bool} {front p : List ℕ} (f : Verb mail front) (q : Path mail p) (t : List ℕ) where
+module _ (mail : Bool) (front : List ℕ) {p : List ℕ} (f : T (sameAnyCase (verb mail) front)) (q : Path mail p) (t : List ℕ) where
   abbrev made : List ℕ
   made = front ++ (p ++ (62 ∷ t))
 
   front-size : length front ≡ verbLen mail
-  front-size = same-length (verb mail) front (f .same) ∙ verb-length mail
+  front-size = same-length (verb mail) front f ∙ verb-length mail
 
   made-front : take (verbLen mail) made ≡ front
   made-front = take-at front (p ++ (62 ∷ t)) (verbLen mail) front-size
@@ -282,7 +272,7 @@ module _ {mail : Bool} {front p : List ℕ} (f : Verb mail front) (q : Path mail
       let a = leb (length made) 998 in
       let b = utf8 made in
       let ps = params t in
-      let front-same : T (sameAnyCase (verb mail) (take (verbLen mail) made)) = rw made-front (f .same) in
+      let front-same : T (sameAnyCase (verb mail) (take (verbLen mail) made)) = rw made-front f in
       let marked : T (eqb (getD made (verbLen mail + pathLen mail made) 0) 62) = rw made-mark tt in
       rw (made-scan, made-tail)
       (yes-and (a && b && hasVerb mail made && (true && eqb (getD made (verbLen mail + pathLen mail made) 0) 62) && spaced t && all isParam ps) (altsOk (alts ps))
@@ -311,9 +301,9 @@ module _ {mail : Bool} {p : List ℕ} {v : Option (List ℕ)} {line : List ℕ} 
   pub line-read : LineRead mail p v line
   line-read =
       rw (l .is) (record {
-        well = made-formed (l .is-front) (l .is-path) (l .tail) (l .is-tail) (rw (l .is) at (l .short)) (rw (l .is) at (l .is-utf8));
-        path-is = made-path (l .is-front) (l .is-path) (l .tail);
-        value-is = rw (made-tail (l .is-front) (l .is-path) (l .tail)) (tail-reads (l .is-tail) .alternative);
+        well = made-formed mail (l .front) (l .is-front) (l .is-path) (l .tail) (l .is-tail) (rw (l .is) at (l .short)) (rw (l .is) at (l .is-utf8));
+        path-is = made-path mail (l .front) (l .is-front) (l .is-path) (l .tail);
+        value-is = rw (made-tail mail (l .front) (l .is-front) (l .is-path) (l .tail)) (tail-reads (l .is-tail) .alternative);
       })
 
   line-fault : (rules : Rules) → lineFault rules mail line ≡ faultBy rules (all isAscii p) v
@@ -323,15 +313,19 @@ module _ {mail : Bool} {p : List ℕ} {v : Option (List ℕ)} {line : List ℕ} 
       (alt-fault-by rules (all isAscii p) (alts (params (tail mail line))) ∙ ap (faultBy rules (all isAscii p)) (line-read .value-is))
 
   pub line-verb : length (l .front) ≡ verbLen mail
-  line-verb = front-size (l .is-front) (l .is-path) (l .tail)
+  line-verb = front-size mail (l .front) (l .is-front) (l .is-path) (l .tail)
 
   line-front : take (verbLen mail) line ≡ l .front
-  line-front = ap (take (verbLen mail)) (l .is) ∙ made-front (l .is-front) (l .is-path) (l .tail)
+  line-front = ap (take (verbLen mail)) (l .is) ∙ made-front mail (l .front) (l .is-front) (l .is-path) (l .tail)
 
   pub line-tail : tail mail line ≡ l .tail
-  line-tail = ap (tail mail) (l .is) ∙ made-tail (l .is-front) (l .is-path) (l .tail)
+  line-tail = ap (tail mail) (l .is) ∙ made-tail mail (l .front) (l .is-front) (l .is-path) (l .tail)
 
 -- ---- well-formed lines
+
+-- any well-formed line
+abbrev pub WellFormed : Bool → List ℕ → Type 0
+WellFormed mail line = (path : List ℕ) × (alternative : Option (List ℕ)) × Line mail path alternative line
 
 -- a line is well-formed exactly if the grammar makes it
 pub read-formed : (mail : Bool) (line : List ℕ) → T (wellFormed mail line) → WellFormed mail line
@@ -353,7 +347,7 @@ copied-line {p = p} l h = rw (line-read l .path-is, yes-true (all isAscii p) h, 
 module _ {mail : Bool} {p v line new : List ℕ} (l : Line mail p (some v) line) (h : T (not (all isAscii p))) (a : AltAddress v new) where
   new-path : newPath mail line ≡ new
   unfolding newPath
-  new-path = rw (line-tail l, tail-value (l .is-tail)) (xtext-read (a .xtext) .1)
+  new-path = rw (line-tail l, tail-value (l .is-tail)) (xtext-read (a .0) .1)
 
   replaced-line : writtenLine mail line ≡ l .front ++ (new ++ (62 ∷ othersOf (l .is-tail)))
   unfolding writtenLine

@@ -408,11 +408,11 @@ pub record OrcptFound (rules : Rules) (e : List ℕ) (n offset : ℕ) : Type 0 w
   pub high : Ascii (l .tail) → ⊥
   pub offset-is : offset ≡ length start + (length (l .front) + (length path + suc (run isAscii (l .tail))))
 
-pub orcpt-exact : {rules : Rules} {e start line path out : List ℕ} {alternative : Option (List ℕ)} {ts : List (List ℕ)} {m n : ℕ} (more : List ℕ) → checked rules e ≡ Passed m
+pub orcpt-exact : {rules : Rules} {e start line path out : List ℕ} {alternative : Option (List ℕ)} {ts : List (List ℕ)} {n : ℕ} (more : List ℕ)
     → e ≡ start ++ (line ++ (13 ∷ 10 ∷ more)) → EnvelopeLines rules Ascii n start out ts → (l : Line (eqb n 0) path alternative line) → (Ascii (l .tail) → ⊥)
     → (orcptLine e ≡ At n) × (orcptOffset e n ≡ length start + (length (l .front) + (length path + suc (run isAscii (l .tail)))))
 unfolding orcptFrom
-orcpt-exact {start = start} {line = line} {n = n} more p e k l high =
+orcpt-exact {start = start} {line = line} {n = n} more e k l high =
     let h = line-no-cr l in
     let t = l .tail in
     let rest : List ℕ = line ++ (13 ∷ 10 ∷ more) in
@@ -481,7 +481,7 @@ module _ {rules : Rules} {n m : ℕ} {start out : List ℕ} {ts : List (List ℕ
         is = whole;
         lines = k;
         high = high;
-        offset-is = orcpt-exact more (checked-past k rest ∙ p) whole k l high .1;
+        offset-is = orcpt-exact more whole k l high .1;
       }
 
 pub envelope-orcpt : (rules : Rules) (e : List ℕ) (m n : ℕ) → checked rules e ≡ Passed m → orcptLine e ≡ At n → OrcptFound rules e n (orcptOffset e n)

@@ -8,7 +8,6 @@ use lib.ListN.{length, take, drop, getD}
 use Rattle.lists.specs.ListsLaws.{cond-has}
 use Rattle.rules.specs.declared.Rules.{Rules}
 use Rattle.envelope.specs.Envelope.{rcptReplacement}
-use Rattle.envelope.specs.EnvelopeDemand.{eachEnded}
 use Rattle.undisclosed_recipients.specs.FirstLineLaws.{same-mail, several-rcpts}
 use Rattle.call.specs.OutgoingHeader.{newFields, outgoingSegments, outgoingHeader}
 use Rattle.call.specs.Outcome.{Outcome, outcome}
@@ -16,7 +15,7 @@ use Rattle.batch.specs.Batch.{Batch, pastEnd, rangeRefused, rangeOutcome, recor
 use Rattle.batch.specs.BatchRecords.{fromRecord, envelopeOf, headerOf, used₁, used₂}
 use Rattle.batch.specs.BatchRecordsLaws.{batch-done}
 use Rattle.demands.specs.DemandsLaws.{header-left}
-use Rattle.undisclosed_recipients.specs.UndisclosedRecipients.{SameSender, Undisclosed, numberAt, headerLenAt, headerBytesAt, UndisclosedRecords}
+use Rattle.undisclosed_recipients.specs.UndisclosedRecipients.{eachEnded, SameSender, Undisclosed, numberAt, headerLenAt, headerBytesAt, UndisclosedRecords}
 
 none-replaced : (mail : List ℕ) (rcpts : List (List ℕ)) → 2 ≤ length rcpts → rcptReplacement (eachEnded (mail ∷ rcpts)) ≡ []
 none-replaced mail [] k = absurd (omega arith)
