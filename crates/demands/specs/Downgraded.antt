@@ -18,9 +18,8 @@ use Rattle.header.specs.Fields.{fieldsOf, nameOf, valueOf, textOf}
 use Rattle.header_name.specs.declared.Kind.{Kind}
 use Rattle.header_name.specs.declared.Kind.the-variants.{Address, PlainText, Received, Commented, Other}
 use Rattle.header_name.specs.Names.{kindOf}
-use Rattle.field.specs.Field.{encodedField}
+use Rattle.field.specs.Field.{encodedField, named}
 use Rattle.address_grammar.specs.AddressField.{AddressField}
-use Rattle.structured_field.specs.StructuredField.{named}
 use Rattle.structured_field.specs.Grammar.{StructuredValue}
 use Rattle.received.specs.Received.{linesFit}
 use Rattle.received.specs.Grammar.{ReceivedValue}
