@@ -95,7 +95,6 @@ put-quad-requires-5 c κs = (c .before .before .before .before .before .before .
 
 -- src/lib.rt:79:1
 same-length : tie.Need-same-length
-unfolding inBase64
 same-length c = search needs
 
 -- src/lib.rt:79:1
