@@ -20,16 +20,3 @@ inBase64 (a ∷ b ∷ c ∷ bytes) = digit64 (a / 4) ∷ digit64 (a % 4 * 16 + b
 -- how long n bytes are: 4 for each 3 bytes begun
 abbrev pub base64Length : ℕ → ℕ
 base64Length n = 4 * ((n + 2) / 3)
-
--- ---- one group, as code writes it
-
--- three bytes as four digits
-abbrev pub quad : ℕ → ℕ → ℕ → List ℕ
-quad a b c = digit64 (a / 4) ∷ digit64 (a % 4 * 16 + b / 16) ∷ digit64 (b % 16 * 4 + c / 64) ∷ digit64 (c % 64) ∷ []
-
--- the last two bytes, or the last one, with padding
-abbrev pub quadOfTwo : ℕ → ℕ → List ℕ
-quadOfTwo a b = digit64 (a / 4) ∷ digit64 (a % 4 * 16 + b / 16) ∷ digit64 (b % 16 * 4) ∷ 61 ∷ []
-
-abbrev pub quadOfOne : ℕ → List ℕ
-quadOfOne a = digit64 (a / 4) ∷ digit64 (a % 4 * 16) ∷ 61 ∷ 61 ∷ []

@@ -26,14 +26,13 @@ pub fn write_after(out: &mut [u8], column: usize, text: &[u8]) -> usize
     if LIMIT < text.len() {
         return 0;
     }
-    let first = word_spelling::first_chars();
-    let begun = add_first(&first, out, column, text);
+    let begun = add_first(out, column, text);
     let begin = begun.end;
     let start = begun.at;
-    let r = put_lines(&first, out, start, text, begin);
+    let r = put_lines(out, start, text, begin);
     let i = r.end;
     let at = r.at;
-    add_lines(&first, out, at, text, i)
+    add_lines(out, at, text, i)
 }
 
 // The same of a row that begins on a line of its own.

@@ -5,7 +5,6 @@ ghost use Prim.Native.Nat.{_+_, _≤_};
 ghost use lib.ListN.{length};
 ghost use Rattle.buffer.specs.Buffer.{Appended};
 ghost use Rattle.word_spelling.specs.Spelling.{closing};
-ghost use Rattle.word_spelling.specs.FirstChars.{firstChars};
 ghost use Rattle.row.specs.Word.{word};
 ghost use Rattle.row.specs.declared.Encoding.the-variants.{B};
 ghost use Rattle.encoded_word.specs.Writing.{PutWordInQ, PutWord, PutLine};
@@ -51,13 +50,14 @@ fn put_closing(out: &mut [u8], at: usize) -> usize
     second + 1
 }
 
-// A word in Q, of as many characters as it holds.
-fn put_word_in_q(first: &[u8; 256], out: &mut [u8], at: usize, room: usize, s: &[u8]) -> Put
-    requires { ⌜ (now first ≡ firstChars) × (room ≤ 63) × (at + 75 ≤ length (now out)) ⌝ }
+// A word in Q, of as many characters as it holds. It makes the table that its loop is lent: a row in B needs none.
+fn put_word_in_q(out: &mut [u8], at: usize, room: usize, s: &[u8]) -> Put
+    requires { ⌜ (room ≤ 63) × (at + 75 ≤ length (now out)) ⌝ }
     ensures { λ r. ⌜ PutWordInQ room (now (s .entry)) at (now (out .entry)) (now (out .exit)) (r .end) (r .at) ⌝ }
 {
+    let first = word_spelling::first_chars();
     let started = put_opening(out, at, 81);
-    let r = put_in_q(first, out, started, room, s);
+    let r = put_in_q(&first, out, started, room, s);
     let e = r.end;
     let here = r.at;
     let after = put_closing(out, here);
@@ -74,17 +74,17 @@ fn put_word_in_b(out: &mut [u8], at: usize, bytes: &[u8]) -> usize
     put_closing(out, after)
 }
 
-// The word at the front of a text.
-pub(crate) fn put_word(first: &[u8; 256], out: &mut [u8], at: usize, room: usize, s: &[u8]) -> Put
-    requires { ⌜ (now first ≡ firstChars) × (room ≤ 63) × (at + 75 ≤ length (now out)) ⌝ }
+// The word at the front of a text, which is lent anew to be handed on (docs/ARCHITECTURE.md, Speed).
+pub(crate) fn put_word(out: &mut [u8], at: usize, room: usize, s: &[u8]) -> Put
+    requires { ⌜ (room ≤ 63) × (at + 75 ≤ length (now out)) ⌝ }
     ensures { λ r. ⌜ PutWord room (now (s .entry)) at (now (out .entry)) (now (out .exit)) (r .end) (r .at) ⌝ }
 {
-    if word_choice::surely_in_q(s, room) {
-        return put_word_in_q(first, out, at, room, s);
+    if word_choice::surely_in_q(&s[..], room) {
+        return put_word_in_q(out, at, room, &s[..]);
     }
-    let choice = word_choice::choose(s, room);
+    let choice = word_choice::choose(&s[..], room);
     match choice {
-        Choice::InQ => put_word_in_q(first, out, at, room, s),
+        Choice::InQ => put_word_in_q(out, at, room, &s[..]),
         Choice::InB(e) => Put {
             end: e,
             at: put_word_in_b(out, at, &s[0..e]),
@@ -106,10 +106,10 @@ fn put_break(out: &mut [u8], at: usize) -> usize
 }
 
 // The word on a line of its own.
-pub(crate) fn put_line(first: &[u8; 256], out: &mut [u8], at: usize, s: &[u8]) -> Put
-    requires { ⌜ (now first ≡ firstChars) × (at + 78 ≤ length (now out)) ⌝ }
+pub(crate) fn put_line(out: &mut [u8], at: usize, s: &[u8]) -> Put
+    requires { ⌜ at + 78 ≤ length (now out) ⌝ }
     ensures { λ r. ⌜ PutLine (now (s .entry)) at (now (out .entry)) (now (out .exit)) (r .end) (r .at) ⌝ }
 {
     let started = put_break(out, at);
-    put_word(first, out, started, 63, s)
+    put_word(out, started, 63, s)
 }

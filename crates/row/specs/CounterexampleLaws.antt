@@ -14,7 +14,7 @@ use mir.Facts.{yes-and}
 use Rattle.lists.specs.CutBy.{cutAfter, cutBy}
 use Rattle.lists.specs.Byte.{isByte}
 use Rattle.lists.specs.Lists.{all, joined}
-use Rattle.utf8.specs.Utf8.{leadingOnes, charLen, secondLow, secondHigh, isChar, chars, utf8}
+use Rattle.utf8.specs.Utf8.{charLen, secondLow, secondHigh, isChar, chars, utf8}
 use Rattle.cut.specs.Cut.{cut}
 use Rattle.hex.specs.Hex.{hexDigit}
 use Rattle.base64.specs.Base64.{digit64, inBase64}
@@ -59,7 +59,7 @@ other-text {s} {t} u d = let r = row-of encodings 63 t tt (lit≤ tt) u in sym (
 
 -- `a` and the row of `b`
 pub row-of-another : Demand3 (97 ∷ []) (row (98 ∷ [])) → ⊥
-unfolding utf8 isChar chars cutBy cutAfter charLen leadingOnes leadingZeros
+unfolding utf8 isChar chars cutBy cutAfter charLen leadingZeros
 row-of-another d = let e : _≡_ {A = ℕ} 97 98 = ap (λ (s : List ℕ). getD s 0 0) (other-text {t = 98 ∷ []} tt d) in omega arith
 
 -- "an empty row fails demand 3"
@@ -102,7 +102,7 @@ word-of-46-bytes d = absurd (le→leb 76 75 (first-proper (all-proper (lines-lai
 
 -- 23 `é` in two words, as few as can be: the first is in B, full with 45 bytes, and ends inside a character.
 pub character-cut : Demand3 (joined (replicate 23 é)) (lines encodings 63 ((joined (replicate 22 é) ++ (195 ∷ [])) ∷ (169 ∷ []) ∷ [])) → ⊥
-unfolding utf8 isChar chars cutBy cutAfter charLen leadingOnes leadingZeros secondLow secondHigh
+unfolding utf8 isChar chars cutBy cutAfter charLen leadingZeros secondLow secondHigh
 character-cut d = first-proper (rest-proper (all-proper (lines-laid encodings 63 ((joined (replicate 22 é) ++ (195 ∷ [])) ∷ (169 ∷ []) ∷ []) tt) d)) .whole
 
 -- `=c3=a9`, which adds `é`
@@ -136,7 +136,7 @@ in-one-word bytes h p = record {
 
 -- `ab` in two words
 pub word-too-many : Demand3 (97 ∷ 98 ∷ []) (lines (Q ∷ []) 63 ((97 ∷ []) ∷ (98 ∷ []) ∷ [])) → ⊥
-unfolding utf8 isChar chars cutBy cutAfter charLen leadingOnes leadingZeros chosen spell spellByte bare
+unfolding utf8 isChar chars cutBy cutAfter charLen leadingZeros chosen spell spellByte bare
 word-too-many d =
     let one = in-one-word (97 ∷ 98 ∷ []) tt (record { allowed = either-allowed Q; spelt = refl; short = lit≤ tt; whole = tt }) in
     absurd (le→leb 2 1 (no-fewer (lines-laid (Q ∷ []) 63 ((97 ∷ []) ∷ (98 ∷ []) ∷ []) tt) d _ _ one))
@@ -153,24 +153,24 @@ sixtyAndThirty = replicate 60 97 ++ joined (replicate 30 (230 ∷ 151 ∷ 165 �
 
 -- six in Q alone
 pub q-alone : Demand3 sixtyAndThirty (rowIn (Q ∷ []) 63 sixtyAndThirty) → ⊥
-unfolding rowWords runs cut utf8 isChar chars cutBy cutAfter charLen leadingOnes leadingZeros secondLow secondHigh inBase64 spell spellByte bare
+unfolding rowWords runs cut utf8 isChar chars cutBy cutAfter charLen leadingZeros secondLow secondHigh inBase64 spell spellByte bare
 q-alone d = absurd (le→leb 6 3 (more-words Q sixtyAndThirty tt d))
 
 -- four in B alone
 pub b-alone : Demand3 sixtyAndThirty (rowIn (B ∷ []) 63 sixtyAndThirty) → ⊥
-unfolding rowWords runs cut utf8 isChar chars cutBy cutAfter charLen leadingOnes leadingZeros secondLow secondHigh inBase64 spell spellByte bare
+unfolding rowWords runs cut utf8 isChar chars cutBy cutAfter charLen leadingZeros secondLow secondHigh inBase64 spell spellByte bare
 b-alone d = absurd (le→leb 4 3 (more-words B sixtyAndThirty tt d))
 
 -- ---- other rooms
 
 -- in words of 1 to 62 characters 63 times `a` takes two, and one would do
 pub room-62 : Demand3 (replicate 63 97) (rowIn encodings 62 (replicate 63 97)) → ⊥
-unfolding rowIn rowWords runs cut utf8 isChar chars cutBy cutAfter charLen leadingOnes leadingZeros chosen inBase64 spell spellByte bare
+unfolding rowIn rowWords runs cut utf8 isChar chars cutBy cutAfter charLen leadingZeros chosen inBase64 spell spellByte bare
 room-62 d =
     let one = in-one-word (replicate 63 97) tt (record { allowed = either-allowed Q; spelt = refl; short = lit≤ tt; whole = tt }) in
     absurd (le→leb 2 1 (no-fewer (row-laid encodings 62 (replicate 63 97) tt) d _ _ one))
 
 -- in words of 1 to 64 characters 64 times `a` takes one, and that is too long
 pub room-64 : Demand3 (replicate 64 97) (rowIn encodings 64 (replicate 64 97)) → ⊥
-unfolding rowIn rowWords runs cut utf8 isChar chars cutBy cutAfter charLen leadingOnes leadingZeros chosen inBase64 spell spellByte bare
+unfolding rowIn rowWords runs cut utf8 isChar chars cutBy cutAfter charLen leadingZeros chosen inBase64 spell spellByte bare
 room-64 d = absurd (le→leb 76 75 (first-proper (all-proper (row-laid encodings 64 (replicate 64 97) tt) d) .short))

@@ -11,7 +11,7 @@ use lib.ListN.{length, drop, getD}
 use Rattle.lists.specs.CutBy.{cutAfter, cutBy}
 use Rattle.lists.specs.Byte.{isByte}
 use Rattle.lists.specs.Lists.{all}
-use Rattle.utf8.specs.Utf8.{leadingOnes, charLen, secondLow, secondHigh, isChar, chars, utf8}
+use Rattle.utf8.specs.Utf8.{charLen, secondLow, secondHigh, isChar, chars, utf8}
 use Rattle.base64.specs.Base64.{inBase64}
 use Rattle.word_spelling.specs.Spelling.{closing, bare, spellByte, spell}
 use Rattle.row.specs.declared.Encoding.{Encoding}
@@ -79,7 +79,7 @@ one-below e k column bytes h p s d =
 
 -- `ab` after `Subject:` in two words on two lines
 pub line-too-many : FieldDemand3 8 (97 ∷ 98 ∷ []) (wordHere Q (97 ∷ []) ++ wordBelow Q (98 ∷ [])) → ⊥
-unfolding utf8 isChar chars cutBy cutAfter charLen leadingOnes leadingZeros spell spellByte bare
+unfolding utf8 isChar chars cutBy cutAfter charLen leadingZeros spell spellByte bare
 line-too-many d =
     let one = in-one-line Q 8 (97 ∷ 98 ∷ []) tt (record { allowed = either-allowed Q; spelt = refl; short = lit≤ tt; whole = tt }) (lit≤ tt) in
     let laid : Laid (wordHere Q (97 ∷ []) ++ wordBelow Q (98 ∷ [])) (ours Q (97 ∷ []) ∷ ours Q (98 ∷ []) ∷ []) =
@@ -88,12 +88,12 @@ line-too-many d =
 
 -- `a` on the next line after `Subject:`, where it fits the name's
 pub begun-below : FieldDemand3 8 (97 ∷ []) (wordBelow Q (97 ∷ [])) → ⊥
-unfolding utf8 isChar chars cutBy cutAfter charLen leadingOnes leadingZeros spell spellByte bare
+unfolding utf8 isChar chars cutBy cutAfter charLen leadingZeros spell spellByte bare
 begun-below d = one-below Q Q 8 (97 ∷ []) tt (record { allowed = either-allowed Q; spelt = refl; short = lit≤ tt; whole = tt }) (lit≤ tt) d
 
 -- `é` in Q on the next line after a name of 58 characters and its colon, where it fits the name's in B only
 pub begun-below-b : FieldDemand3 59 (195 ∷ 169 ∷ []) (wordBelow Q (195 ∷ 169 ∷ [])) → ⊥
-unfolding utf8 isChar chars cutBy cutAfter charLen leadingOnes leadingZeros secondLow secondHigh inBase64
+unfolding utf8 isChar chars cutBy cutAfter charLen leadingZeros secondLow secondHigh inBase64
 begun-below-b d = one-below Q B 59 (195 ∷ 169 ∷ []) tt (record { allowed = either-allowed B; spelt = refl; short = lit≤ tt; whole = tt }) (lit≤ tt) d
 
 -- ---- rows that are not set as ours

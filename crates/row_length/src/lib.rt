@@ -39,16 +39,17 @@ fn in_q(first: &[u8; 256], text: &[u8], room: usize) -> Word
     Word { end: e, size: n }
 }
 
+// The word at the front of a text, which is lent anew to be handed on (docs/ARCHITECTURE.md, Speed).
 fn word_at(first: &[u8; 256], text: &[u8], room: usize) -> Word
     requires { ⌜ (now first ≡ firstChars) × (room ≤ 63) ⌝ }
     ensures { λ r. ⌜ WordAt room (now (text .entry)) (r .end) (r .size) ⌝ }
 {
-    if word_choice::surely_in_q(text, room) {
-        return in_q(first, text, room);
+    if word_choice::surely_in_q(&text[..], room) {
+        return in_q(first, &text[..], room);
     }
-    let choice = word_choice::choose(text, room);
+    let choice = word_choice::choose(&text[..], room);
     match choice {
-        Choice::InQ => in_q(first, text, room),
+        Choice::InQ => in_q(first, &text[..], room),
         Choice::InB(e) => Word {
             end: e,
             size: (e + 2) / 3 * 4,

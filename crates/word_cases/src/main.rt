@@ -1,5 +1,5 @@
-// Prints rows of encoded words: for each case a label, the row as it is written, and the length that is answered for it. The cases
-// stand in `stdin`.
+// Prints rows of encoded words: for each case a label, the row as it is written, and the length that is answered for it; and texts in
+// base64. The cases stand in `stdin`.
 use libc::STDIN_FILENO;
 use libc::STDOUT_FILENO;
 
@@ -77,6 +77,16 @@ fn show_buffer(out: &mut [u8], text: &[u8], size: usize) {
     say(b"\r\n");
 }
 
+// A text in base64.
+fn show_digits(label: &[u8], text: &[u8]) {
+    let mut out = [0u8; 2048];
+    let n = base64::add(&mut out, 0, text);
+    say(label);
+    say(b": ");
+    say(line::part(&out, 0, n));
+    say(b"\r\n");
+}
+
 // A line of the input; where it is a case, the first letter of its kind tells what is shown.
 fn show_line(line: &[u8]) {
     if !case_line::is_case(line) {
@@ -93,6 +103,7 @@ fn show_line(line: &[u8]) {
         b't' => show(label, text),
         b'f' => show_fronts(label, text, first, step),
         b'b' => show_buffer(&mut out, text, first),
+        b'd' => show_digits(label, text),
         _ => say(b"NO KIND OF CASE\r\n"),
     }
 }

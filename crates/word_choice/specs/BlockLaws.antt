@@ -201,15 +201,20 @@ placed-start s {t} {u} e h d k = record { each = λ z j l. go j l }
 pub untrue : {P : Type 0} → false ≡ true → P
 untrue e = let z : _≡_ {A = ℕ} 0 1 = cc in absurd (omega arith)
 
-pub placed-next : {s : List ℕ} {ok : Bool} (k : ℕ) → Placed s (k + 2) ok
-    → Placed s (k + 1 + 2) (ok && placed (getD s k 0) (getD s (k + 1) 0) (getD s (k + 1 + 1) 0))
-placed-next {s} {ok} k p = record {
-  each = λ e j h. let q = both-true ok (placed (getD s k 0) (getD s (k + 1) 0) (getD s (k + 1 + 1) 0)) e in
-      by-test (eqb j (k + 2)) (λ t. rw (eqb→eq j (k + 2) t) (last (true-yes _ (q .1)))) (λ t. p .each (q .0) j (omega (arith, eqb-no {a = j} {b = k + 2} t)));
+pub placed-next : {s : List ℕ} {ok : Bool} (k : ℕ) → 2 ≤ k → Placed s k ok
+    → Placed s (k + 1) (ok && placed (getD s (k - 2) 0) (getD s (k - 1) 0) (getD s k 0))
+placed-next {s} {ok} k two p = record {
+  each = λ e j h. let q = both-true ok (placed (getD s (k - 2) 0) (getD s (k - 1) 0) (getD s k 0)) e in
+      by-test (eqb j k) (λ t. rw (eqb→eq j k t) (last k two (true-yes _ (q .1)))) (λ t. p .each (q .0) j (omega (arith, eqb-no {a = j} {b = k} t)));
 }
   where
-    last : T (placed (getD s k 0) (getD s (k + 1) 0) (getD s (k + 1 + 1) 0)) → T (placed (getD (0 ∷ 0 ∷ s) (k + 2) 0) (getD (0 ∷ s) (k + 2) 0) (getD s (k + 2) 0))
-    last t = let e : k + 2 ≡ suc (suc k) = omega arith in rw e (simp add-one at t)
+    last : (n : ℕ) → 2 ≤ n → T (placed (getD s (n - 2) 0) (getD s (n - 1) 0) (getD s n 0)) → T (placed (getD (0 ∷ 0 ∷ s) n 0) (getD (0 ∷ s) n 0) (getD s n 0))
+    last zero h t = absurd (omega arith)
+    last (suc zero) h t = absurd (omega arith)
+    last (suc (suc n)) h t =
+        let first : suc (suc n) - 2 ≡ n = omega arith in
+        let second : suc (suc n) - 1 ≡ suc n = omega arith in
+        rw (first, second) at t
 
 pub placed-end : {s : List ℕ} {ok : Bool} (n : ℕ) → 50 ≤ n → Placed s n ok → ok ≡ true → Regular s
 placed-end n h p e = record { each = λ j k. p .each e j (omega arith) }

@@ -70,14 +70,14 @@ pub(crate) fn escaped(s: &[u8]) -> usize
     wide(n)
 }
 
-// How many of the first 32 bytes are not ASCII.
+// How many of 45 bytes at most are not ASCII.
 pub(crate) fn highs(s: &[u8]) -> usize
-    requires { ⌜ 32 ≤ length (now s) ⌝ }
-    ensures { λ r. ⌜ (r ≡ count (λ b. leb 128 b) (take 32 (now (s .entry)))) × (r ≤ 32) ⌝ }
+    requires { ⌜ length (now s) ≤ 45 ⌝ }
+    ensures { λ r. ⌜ (r ≡ count (λ b. leb 128 b) (now (s .entry))) × (r ≤ 45) ⌝ }
 {
     let mut n = 0u8;
     let mut k = 0;
-    while k < 32 {
+    while k < s.len() {
         n += one_if(128 <= s[k]);
         k += 1;
     }
@@ -113,11 +113,11 @@ pub(crate) fn regular(s: &[u8]) -> bool
         return false;
     }
     let mut ok = true;
-    let mut k = 0;
-    while k < 48 {
-        let l = k + 1;
-        let m = l + 1;
-        ok = ok & is_placed(s[k], s[l], s[m]);
+    let mut k = 2;
+    while k < 50 {
+        let i = k - 2;
+        let j = k - 1;
+        ok = ok & is_placed(s[i], s[j], s[k]);
         k += 1;
     }
     ok

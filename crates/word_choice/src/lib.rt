@@ -38,10 +38,8 @@ fn whole(text: &[u8], room: usize) -> Choice
     if 3 * text.len() <= room {
         return Choice::InQ;
     }
-    if 32 <= text.len() {
-        if room < 32 + 2 * highs(text) {
-            return Choice::InB(text.len());
-        }
+    if room < text.len() + 2 * highs(text) {
+        return Choice::InB(text.len());
     }
     if costs(text) <= room {
         return Choice::InQ;
@@ -84,7 +82,7 @@ fn by_block(text: &[u8], room: usize) -> Choice
     ensures { λ r. ⌜ Chosen room (now (text .entry)) r ⌝ }
 {
     let limit = room / 4 * 3;
-    if room < 32 + 2 * highs(text) {
+    if room < 32 + 2 * highs(&text[..32]) {
         if 34 <= limit {
             if regular(text) {
                 return Choice::InB(step_back(text, limit));

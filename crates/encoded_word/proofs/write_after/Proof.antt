@@ -10,7 +10,6 @@ use Rattle.encoded_word.proofs.lines.add_first.Reads as add-first-reads
 use Rattle.encoded_word.proofs.lines.add_lines.Reads as add-lines-reads
 use Rattle.encoded_word.proofs.lines.put_lines.Reads as put-lines-reads
 use Rattle.row_length.proofs.len_after.Reads as len-after-reads
-use Rattle.word_spelling.proofs.first_chars.Reads as first-chars-reads
 
 -- src/lib.rt:24:9
 len-after-requires : tie.Need-len-after-requires
@@ -23,10 +22,6 @@ returns c = wrote-empty (c .before .if1 .taken) (c .len-after .ensures)
 -- src/lib.rt:27:9
 returns-2 : tie.Need-returns-2
 returns-2 c = rw (row-after-long _ _ (c .if2 .taken)) (wrote-nothing _)
-
--- src/lib.rt:29:17
-first-chars-requires : tie.Need-first-chars-requires
-first-chars-requires c κs = search needs
 
 -- src/lib.rt:30:9
 add-first-requires : tie.Need-add-first-requires
@@ -46,7 +41,7 @@ same-length c = search needs
 
 -- src/lib.rt:20:1
 returns-3 : tie.Need-returns-3
-returns-3 c = rw (bounded-short _ (c .before .before .before .before .before .before .before .before .before .before .before .before .before .before .before .before .if2 .left)) (row-written (c .before .before .before .before .before .before .before .before .before .before .before .before .before .before .before .before .if2 .left) (c .before .before .before .before .before .before .before .before .before .before .before .before .add-first .ensures) (c .before .before .before .before .before .before .before .put-lines .ensures) (c .before .before .add-lines .ensures))
+returns-3 c = rw (bounded-short _ (c .before .before .before .before .before .before .before .before .before .before .before .before .if2 .left)) (row-written (c .before .before .before .before .before .before .before .before .before .before .before .before .if2 .left) (c .before .before .before .before .before .before .before .before .before .before .add-first .ensures) (c .before .before .before .before .before .before .put-lines .ensures) (c .before .before .add-lines .ensures))
 
 pub write-after-spec : {M : Type 1} → statement M
 write-after-spec =
@@ -55,7 +50,6 @@ write-after-spec =
     len-after-requires
     returns
     returns-2
-    first-chars-requires
     add-first-requires
     put-lines-requires
     add-lines-requires

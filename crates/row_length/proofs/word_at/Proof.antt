@@ -38,12 +38,12 @@ enum-known-choice : tie.Need-enum-known-choice
 enum-known-choice c = search needs
 
 -- src/lib.rt:54:20
-add-t8 : tie.Need-add-t8
-add-t8 c = omega (arith, word-b-end (c .before .before .before .before .before .before .before .pre .1) (chosen-b (c .before .before .before .before .before .before .before .pre .1) (c .before .choice .given .1) (c .before .before .before .choose .ensures)))
+add-t16 : tie.Need-add-t16
+add-t16 c = omega (arith, word-b-end (c .before .before .before .before .before .before .before .pre .1) (chosen-b (c .before .before .before .before .before .before .before .pre .1) (c .before .choice .given .1) (c .before .before .before .choose .ensures)))
 
 -- src/lib.rt:54:19
-mul-t10 : tie.Need-mul-t10
-mul-t10 c = omega (arith, word-b-end (c .before .before .before .before .before .before .before .pre .1) (chosen-b (c .before .before .before .before .before .before .before .pre .1) (c .before .choice .given .1) (c .before .before .before .choose .ensures)))
+mul-t18 : tie.Need-mul-t18
+mul-t18 c = omega (arith, word-b-end (c .before .before .before .before .before .before .before .pre .1) (chosen-b (c .before .before .before .before .before .before .before .pre .1) (c .before .choice .given .1) (c .before .before .before .choose .ensures)))
 
 -- src/lib.rt:42:1
 returns-2 : tie.Need-returns-2
@@ -64,7 +64,7 @@ word-at-spec =
     enum-told
     in-q-requires-2
     enum-known-choice
-    add-t8
-    mul-t10
+    add-t16
+    mul-t18
     returns-2
     returns-3)

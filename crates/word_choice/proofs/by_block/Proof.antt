@@ -1,3 +1,5 @@
+use lib.ListN.{length-take}
+use mathlib.Core.Path.{sym, _∙_}
 use Rattle.word_choice.specs.RegularLaws.{word-back}
 use Rattle.word_choice.specs.ChoiceLaws.{also-plain}
 use native.Mathlib.Omega.{arith}
@@ -17,8 +19,12 @@ mul-limit : tie.Need-mul-limit
 mul-limit c = search needs
 
 -- src/lib.rt:87:24
+slice-aggregate-highs : tie.Need-slice-aggregate-highs
+slice-aggregate-highs c = sym (length-take 32 (c .before .before .args .text .now) ∙ omega (arith, c .before .before .pre .1))
+
+-- src/lib.rt:85:24
 highs-requires : tie.Need-highs-requires
-highs-requires c κs = search needs
+highs-requires c κs = omega (arith, length-take 32 (c .before .before .args .text .now))
 
 -- src/lib.rt:87:20
 mul-if1 : tie.Need-mul-if1
@@ -38,7 +44,7 @@ step-back-requires c κs = search needs
 
 -- src/lib.rt:90:17
 returns : tie.Need-returns
-returns c = rw (c .step-back .ensures) (word-back (omega arith) (c .before .before .before .if2 .taken) (omega (arith, c .before .before .before .before .before .before .before .pre .0)) (c .before .before .before .before .before .before .before .pre .1) (c .before .before .regular .ensures (c .before .if3 .taken)) (omega (arith, c .before .before .before .before .if1 .taken, c .before .before .before .before .before .highs .ensures .0)))
+returns c = rw (c .step-back .ensures) (word-back (omega arith) (c .before .before .before .if2 .taken) (omega (arith, c .before .before .before .before .before .before .before .before .pre .0)) (c .before .before .before .before .before .before .before .before .pre .1) (c .before .before .regular .ensures (c .before .if3 .taken)) (omega (arith, c .before .before .before .before .if1 .taken, c .before .before .before .before .before .highs .ensures .0)))
 
 -- src/lib.rt:93:9
 by-characters-requires : tie.Need-by-characters-requires
@@ -62,7 +68,7 @@ add-if4 c = search needs
 
 -- src/lib.rt:96:9
 returns-3 : tie.Need-returns-3
-returns-3 c = also-plain (c .before .before .before .before .before .args .room) (c .before .before .before .before .before .args .text .now) (omega (arith, c .before .before .before .before .before .pre .0)) (omega (arith, c .if4 .taken, c .before .others .ensures .0))
+returns-3 c = also-plain (c .before .before .before .before .before .before .args .room) (c .before .before .before .before .before .before .args .text .now) (omega (arith, c .before .before .before .before .before .before .pre .0)) (omega (arith, c .if4 .taken, c .before .others .ensures .0))
 
 -- src/lib.rt:98:5
 by-characters-requires-2 : tie.Need-by-characters-requires-2
@@ -77,6 +83,7 @@ by-block-spec =
     tie.close
     (tie.spec
     mul-limit
+    slice-aggregate-highs
     highs-requires
     mul-if1
     add-if1

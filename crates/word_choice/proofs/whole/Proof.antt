@@ -1,6 +1,6 @@
-use Rattle.word_choice.specs.ChoiceLaws.{also-short, also-whole, full-all, word-in-b, highs-over, all-in-b}
+use Rattle.word_choice.specs.ChoiceLaws.{also-short, also-whole, all-in-b}
+use Rattle.word_choice.specs.BlockLaws.{highs-cost}
 use native.Mathlib.Omega.{arith}
-use mathlib.Core.Path.{refl}
 use borrow.Author.Needs.{needs}
 use Rattle.word_choice.proofs.whole.Statement.{statement}
 use Rattle.word_choice.proofs.whole.Tie as tie
@@ -22,16 +22,16 @@ highs-requires : tie.Need-highs-requires
 highs-requires c κs = search needs
 
 -- src/lib.rt:42:24
-mul-if3 : tie.Need-mul-if3
-mul-if3 c = search needs
+mul-if2 : tie.Need-mul-if2
+mul-if2 c = search needs
 
 -- src/lib.rt:42:19
-add-if3 : tie.Need-add-if3
-add-if3 c = search needs
+add-if2 : tie.Need-add-if2
+add-if2 c = search needs
 
 -- src/lib.rt:43:13
 returns-2 : tie.Need-returns-2
-returns-2 c = word-in-b refl (full-all _ (c .before .before .before .before .before .args .text .now) (c .before .before .before .before .before .pre .1)) (highs-over (c .before .before .before .before .before .args .room) (c .before .before .before .before .before .args .text .now) _ (c .before .before .if2 .taken) (c .before .before .if2 .taken) (omega (arith, c .if3 .taken, c .before .highs .ensures .0)))
+returns-2 c = all-in-b (c .before .before .before .before .args .text .now) (c .before .before .before .before .pre .1) (omega (arith, c .if2 .taken, c .before .highs .ensures .0, highs-cost (c .before .before .before .before .args .text .now)))
 
 -- src/lib.rt:46:8
 costs-requires : tie.Need-costs-requires
@@ -39,11 +39,11 @@ costs-requires c κs = search needs
 
 -- src/lib.rt:47:9
 returns-3 : tie.Need-returns-3
-returns-3 c = also-whole (c .before .before .before .before .before .args .room) (c .before .before .before .before .before .args .text .now) (omega (arith, c .if4 .taken, c .before .costs .ensures))
+returns-3 c = also-whole (c .before .before .before .before .before .before .args .room) (c .before .before .before .before .before .before .args .text .now) (omega (arith, c .if3 .taken, c .before .costs .ensures))
 
 -- src/lib.rt:34:1
 returns-4 : tie.Need-returns-4
-returns-4 c = all-in-b (c .before .before .before .before .before .args .text .now) (c .before .before .before .before .before .pre .1) (omega (arith, c .if4 .left, c .before .costs .ensures))
+returns-4 c = all-in-b (c .before .before .before .before .before .before .args .text .now) (c .before .before .before .before .before .before .pre .1) (omega (arith, c .if3 .left, c .before .costs .ensures))
 
 pub whole-spec : {M : Type 1} → statement M
 whole-spec =
@@ -52,8 +52,8 @@ whole-spec =
     mul-if1
     returns
     highs-requires
-    mul-if3
-    add-if3
+    mul-if2
+    add-if2
     returns-2
     costs-requires
     returns-3

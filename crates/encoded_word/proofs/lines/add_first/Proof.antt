@@ -14,7 +14,7 @@ returns c = begun-none _ _ _ (c .if1 .taken)
 
 -- src/lines.rt:49:9
 put-first-requires : tie.Need-put-first-requires
-put-first-requires c κs = let t = straight (c .before .before .before .before .before .args .column) (length (c .before .before .before .before .before .args .text .now)) (length (c .before .before .before .before .before .args .out .now)) (c .before .if2 .taken) in (c .before .before .before .before .before .pre, t .0, t .1, t .2)
+put-first-requires c κs = let t = straight (c .before .before .before .before .before .args .column) (length (c .before .before .before .before .before .args .text .now)) (length (c .before .before .before .before .before .args .out .now)) (c .before .if2 .taken) in t
 
 -- src/lines.rt:49:9
 same-length : tie.Need-same-length

@@ -16,10 +16,10 @@ use Rattle.buffer.proofs.add_slice.Reads as add-slice-reads
 use Rattle.encoded_word.proofs.word.put_line.Reads as put-line-reads
 
 abbrev Inv-loop : tie.InvT-loop
-Inv-loop first out₀ start text begin piece₀ at₀ i₀ out piece at i = (i ≤ length text) × (length piece ≡ 78) × ReachedCapped (row (drop begin text)) (row (drop i text)) start out₀ out at
+Inv-loop out₀ start text begin piece₀ at₀ i₀ out piece at i = (i ≤ length text) × (length piece ≡ 78) × ReachedCapped (row (drop begin text)) (row (drop i text)) start out₀ out at
 
 abbrev μ-loop : tie.MeasureT-loop
-μ-loop first out₀ start text begin piece₀ at₀ i₀ out piece at i = length text - i
+μ-loop out₀ start text begin piece₀ at₀ i₀ out piece at i = length text - i
 
 -- src/line.rt:70:9
 returns : tie.Need-returns Inv-loop μ-loop
@@ -27,7 +27,7 @@ returns c = rw (row-end (c .before .before .before .args .text .now) (c .before 
 
 -- src/line.rt:75:5
 loop-holds : tie.Need-loop-holds Inv-loop μ-loop
-loop-holds c = (c .before .before .before .pre .1, refl, capped-start _ _ _ (omega arith))
+loop-holds c = (c .before .before .before .pre, refl, capped-start _ _ _ (omega arith))
 
 -- src/line.rt:76:33
 slice-aggregate-put-line : tie.Need-slice-aggregate-put-line Inv-loop μ-loop
@@ -47,7 +47,7 @@ part-put-line-end c = omega arith
 
 -- src/line.rt:76:13
 put-line-requires : tie.Need-put-line-requires Inv-loop μ-loop
-put-line-requires c κs = (c .before .before .before .before .before .before .before .pre .0, omega (arith, c .before .before .before .loop .inv .1))
+put-line-requires c κs = omega (arith, c .before .before .before .loop .inv .1)
 
 -- src/line.rt:78:41
 array-share-prefix-piece : tie.Need-array-share-prefix-piece Inv-loop μ-loop

@@ -28,7 +28,7 @@ same-length c = length-appended (c .before .before .put-word .ensures .wrote) âˆ
 
 -- src/lines.rt:14:1
 returns : tie.Need-returns
-returns c = begun-here (c .before .before .before .before .before .before .pre .1) (c .before .before .before .before .before .before .pre .2) (appended-byte 0 32 _) (c .before .before .put-word .ensures)
+returns c = begun-here (c .before .before .before .before .before .before .pre .0) (c .before .before .before .before .before .before .pre .1) (appended-byte 0 32 _) (c .before .before .put-word .ensures)
 
 pub put-first-spec : {M : Type 1} â†’ statement M
 put-first-spec =

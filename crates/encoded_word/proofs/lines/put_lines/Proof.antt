@@ -11,10 +11,10 @@ use Rattle.encoded_word.proofs.lines.put_lines.Lts as lts
 use Rattle.encoded_word.proofs.word.put_line.Reads as put-line-reads
 
 abbrev Inv-loop : tie.InvT-loop
-Inv-loop first out₀ start text begin i₀ at₀ last out i at = Ran text begin start out₀ out i at
+Inv-loop out₀ start text begin i₀ at₀ last out i at = Ran text begin start out₀ out i at
 
 abbrev μ-loop : tie.MeasureT-loop
-μ-loop first out₀ start text begin i₀ at₀ last out i at = length text - i
+μ-loop out₀ start text begin i₀ at₀ last out i at = length text - i
 
 -- src/line.rt:48:20
 sub-last : tie.Need-sub-last Inv-loop μ-loop
@@ -22,7 +22,7 @@ sub-last c = omega arith
 
 -- src/line.rt:49:9
 loop-holds : tie.Need-loop-holds Inv-loop μ-loop
-loop-holds c = ran-start _ _ _ _ (c .before .before .before .pre .1)
+loop-holds c = ran-start _ _ _ _ (c .before .before .before .pre)
 
 -- src/line.rt:50:46
 sub-put-line : tie.Need-sub-put-line Inv-loop μ-loop
@@ -39,7 +39,7 @@ part-put-line-end c = omega (arith, c .before .before .loop .inv .within)
 -- src/line.rt:50:17
 put-line-requires : tie.Need-put-line-requires Inv-loop μ-loop
 put-line-requires c κs = let p = looping (c .before .before .before .loop .i) (length (c .before .before .before .before .before .before .before .args .text .now)) (c .before .before .before .loop .at) (length (c .before .before .before .before .before .before .before .args .out .now) - 78) (c .before .before .loop-test .taken) in
-    (c .before .before .before .before .before .before .before .pre .0, omega (arith, p .1, length-reached (c .before .before .before .loop .inv .reached), c .before .before .before .before .if1 .taken))
+    omega (arith, p .1, length-reached (c .before .before .before .loop .inv .reached), c .before .before .before .before .if1 .taken)
 
 -- src/line.rt:51:13
 add-i : tie.Need-add-i Inv-loop μ-loop
@@ -66,7 +66,7 @@ returns c = c .before .loop .inv
 
 -- src/line.rt:35:1
 returns-2 : tie.Need-returns-2 Inv-loop μ-loop
-returns-2 c = ran-start _ _ _ _ (c .before .before .before .pre .1)
+returns-2 c = ran-start _ _ _ _ (c .before .before .before .pre)
 
 pub put-lines-spec : {M : Type 1} → statement M
 put-lines-spec =

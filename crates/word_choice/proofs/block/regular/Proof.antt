@@ -10,10 +10,10 @@ use Rattle.word_choice.proofs.block.regular.Lts as lts
 use Rattle.word_choice.proofs.block.is_placed.Reads as is-placed-reads
 
 abbrev Inv-loop : tie.InvT-loop
-Inv-loop s a ok₀ k₀ ok k = (k ≤ 48) × Placed s (k + 2) ok
+Inv-loop s a ok₀ k₀ ok k = (2 ≤ k) × (k ≤ 50) × Placed s k ok
 
 abbrev μ-loop : tie.MeasureT-loop
-μ-loop s a ok₀ k₀ ok k = 48 - k
+μ-loop s a ok₀ k₀ ok k = 50 - k
 
 -- src/block.rt:108:13
 shared-slice-read-a : tie.Need-shared-slice-read-a Inv-loop μ-loop
@@ -41,15 +41,15 @@ returns-2 c = λ e. untrue e
 
 -- src/block.rt:117:5
 loop-holds : tie.Need-loop-holds Inv-loop μ-loop
-loop-holds c = (omega arith, placed-start (c .before .before .before .before .before .before .before .args .s .now) (c .before .before .before .before .is-placed .ensures) (c .before .before .before .if1 .left) (c .before .is-placed2 .ensures) (c .if2 .left))
+loop-holds c = (omega arith, omega arith, placed-start (c .before .before .before .before .before .before .before .args .s .now) (c .before .before .before .before .is-placed .ensures) (c .before .before .before .if1 .left) (c .before .is-placed2 .ensures) (c .if2 .left))
 
 -- src/block.rt:118:17
-add-l : tie.Need-add-l Inv-loop μ-loop
-add-l c = omega arith
+sub-i : tie.Need-sub-i Inv-loop μ-loop
+sub-i c = omega arith
 
 -- src/block.rt:119:17
-add-m : tie.Need-add-m Inv-loop μ-loop
-add-m c = omega arith
+sub-j : tie.Need-sub-j Inv-loop μ-loop
+sub-j c = omega arith
 
 -- src/block.rt:120:29
 shared-slice-read-is-placed-2 : tie.Need-shared-slice-read-is-placed-2 Inv-loop μ-loop
@@ -77,11 +77,11 @@ loop-less c = omega arith
 
 -- src/block.rt:117:5
 loop-again : tie.Need-loop-again Inv-loop μ-loop
-loop-again c = (omega arith, rw (c .is-placed3 .ensures) (placed-next (c .before .before .before .before .before .loop .k) (c .before .before .before .before .before .loop .inv .1)))
+loop-again c = (omega arith, omega arith, rw (c .is-placed3 .ensures) (placed-next (c .before .before .before .before .before .loop .k) (c .before .before .before .before .before .loop .inv .0) (c .before .before .before .before .before .loop .inv .2)))
 
 -- src/block.rt:104:1
 returns-3 : tie.Need-returns-3 Inv-loop μ-loop
-returns-3 c = placed-end (c .before .loop .k + 2) (omega arith) (c .before .loop .inv .1)
+returns-3 c = placed-end (c .before .loop .k) (omega arith) (c .before .loop .inv .2)
 
 pub regular-spec : {M : Type 1} → statement M
 regular-spec =
@@ -96,8 +96,8 @@ regular-spec =
     is-placed-requires-2
     returns-2
     loop-holds
-    add-l
-    add-m
+    sub-i
+    sub-j
     shared-slice-read-is-placed-2
     shared-slice-read-is-placed-3
     shared-slice-read-is-placed-4
