@@ -28,14 +28,9 @@ use Rattle.call.specs.OutgoingHeader.{newField}
 
 -- ---- the envelope
 
--- "Envelope at most 16,384 bytes, header 32,768"
-pub record InLimits (e h : List ℕ) : Type 0 where
-  pub envelope : length e ≤ 16384
-  pub header : length h ≤ 32768
-
--- no line is refused: "One MAIL line, then 1 to 100 RCPT lines"
+-- "Envelope at most 16,384 bytes, header 32,768", and no line is refused: "One MAIL line, then 1 to 100 RCPT lines"
 pub record EnvelopePasses (rules : Rules) (Asked : List ℕ → Type 0) (e h out : List ℕ) (texts : List (List ℕ)) : Type 0 where
-  pub limits : InLimits e h
+  pub limits : (length e ≤ 16384) × (length h ≤ 32768)
   pub count : ℕ
   pub enough : 2 ≤ count
   pub lines : EnvelopeLines rules Asked count e out texts
@@ -80,10 +75,6 @@ pub data FieldsBecome (rules : Rules) : List (List ℕ) → List Segment → Typ
   none : FieldsBecome rules [] []
   then : {field : List ℕ} {fields : List (List ℕ)} {segments more : List Segment} → Becomes rules field segments → FieldsBecome rules fields more
       → FieldsBecome rules (field ∷ fields) (segments ++ more)
-
--- a field is held for which nothing is written
-abbrev pub Held : Rules → List ℕ → Type 0
-Held rules field = (segments : List Segment) → Becomes rules field segments → ⊥
 
 -- ---- both
 
