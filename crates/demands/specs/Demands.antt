@@ -22,7 +22,7 @@ use Rattle.header.specs.Fields.{fieldsOf, lineCount}
 use Rattle.rules.specs.declared.Rules.{Rules}
 use Rattle.rules.specs.Rules.{allowsAlternative}
 use Rattle.call.specs.declared.Answer.{Answer}
-use Rattle.demands.specs.Downgraded.{EnvelopePasses, firstFields, WellFormedAt as HeaderFormedAt, HeaderLines, Becomes, FieldsBecome, Downgraded}
+use Rattle.demands.specs.Downgraded.{EnvelopePasses, WellFormedAt as HeaderFormedAt, HeaderLines, Becomes, FieldsBecome, Downgraded}
 
 -- ---- demand 1: "Every input of bytes is taken: downgraded, or refused by one of the numbers 1 to 8 under the exact condition of
 -- that number. A refusal writes to neither buffer. A success gives both lengths and touches nothing past them." "10 ..; demand 1 gains it."
@@ -81,8 +81,9 @@ pub record Demand2 (rules : Rules) (e h e′ h′ : List ℕ) : Type 0 where
   pub header : h′ ≡ rendered segments
   pub envelope-ascii : T (all isAscii e′)
   pub header-ascii : T (all isAscii h′)
-  -- "In a current message any ALT-ADDRESS is refused": its envelope goes as it came, and it gets none of the new first fields
-  pub retired : T (not (allowsAlternative rules)) → (e′ ≡ e) × (firstFields (downgraded .texts) ≡ [])
+  -- "In a current message any ALT-ADDRESS is refused": its envelope goes as it came, and it gets none of the new first
+  -- fields, only what becomes of its own
+  pub retired : T (not (allowsAlternative rules)) → (e′ ≡ e) × FieldsBecome rules (fieldsOf h) segments
 
 -- ---- demand 3: "Every row of encoded words reads back, by RFC 2047, as exactly its text; each word is at most 75 characters and
 -- holds whole characters; no other row in our spelling that reads back as the same text has fewer words." "Wherever a rule asks for

@@ -35,6 +35,7 @@ use Rattle.header_line.specs.declared.LineCheck.the-variants.{WellFormed, Malfo
 use Rattle.outgoing_field.specs.declared.HeldField.{HeldField}
 use Rattle.outgoing_field.specs.declared.HeldField.the-variants.{Absent, At as HeldAt}
 use Rattle.header_line.specs.Lines.{checkedLines}
+use Rattle.header.specs.Fields.{fieldsOf}
 use Rattle.rules.specs.declared.Rules.{Rules}
 use Rattle.rules.specs.Rules.{allowsAlternative}
 use Rattle.field.specs.FieldLaws.{labelled-sound}
@@ -51,7 +52,9 @@ use Rattle.envelope_line.specs.LineGrammar.{LineRefused}
 use Rattle.envelope.specs.EnvelopeDemand.{Any, Ascii}
 use Rattle.envelope.specs.EnvelopeDemandLaws.{replacementsOf, replacements, envelope-passed, envelope-clean, lines-passed, lines-clean, written-kept}
 use Rattle.offset.specs.EnvelopeRefusalLaws.{envelope-malformed-found, malformed-exact, envelope-refused, refused-exact, envelope-orcpt, orcpt-exact}
-use Rattle.demands.specs.Downgraded.{EnvelopePasses, firstFields, Downgraded}
+use Rattle.demands.specs.Downgraded.{EnvelopePasses, firstFields, FieldsBecome, Downgraded}
+use Rattle.demands.specs.Downgraded.EnvelopePasses.{none-refused}
+use Rattle.demands.specs.Downgraded.Downgraded.{both-pass}
 use Rattle.demands.specs.HeaderLaws.{header-lines, lines-header, header-malformed-found, header-malformed-exact}
 use Rattle.demands.specs.BecomesLaws.{fields-become, fields-exact, field-held, held-exact}
 use Rattle.demands.specs.Demands.{Given, KeptPast, Demand1, Demand2, DemandThree, Demands}
@@ -98,57 +101,54 @@ module _ (rules : Rules) (e h : List ℕ) where
     pub orcpt : orcptLine e ≡ Clean
     pub held : heldOf rules h ≡ Absent
 
-  module _ {out : List ℕ} {segments : List Segment} (d : Downgraded rules e h out segments) where
-    abbrev taken-lines : (checked rules e ≡ Passed (pred (d .envelope .count))) × (out ≡ written e) × (d .texts ≡ replacements e)
-    taken-lines = lines-passed (d .envelope .lines) (d .envelope .enough)
+  record Computed (out : List ℕ) (segments : List Segment) : Type 0 where
+    pub passes : Passes
+    pub out-is : out ≡ written e
+    pub segments-are : segments ≡ outgoingSegments rules e h
 
+  computed : {out : List ℕ} {segments : List Segment} → Downgraded rules e h out segments → Computed out segments
+  unfolding outgoingSegments
+  computed (both-pass (none-refused {n} s t enough lines) header-lines fields) =
+      let x = lines-passed lines enough in
+      let y = fields-exact h fields in
+      record {
+        passes = record { limits = (s, t); recipients = pred n; envelope = x .0; header = lines-header header-lines; orcpt = lines-clean lines; held = y .0 };
+        out-is = x .1;
+        segments-are = rw (x .2, first-new e, y .1);
+      }
+
+  module _ {out : List ℕ} {segments : List Segment} (d : Downgraded rules e h out segments) where
     pub downgraded-passes : Passes
-    downgraded-passes = record {
-      limits = d .envelope .limits;
-      recipients = pred (d .envelope .count);
-      envelope = taken-lines .0;
-      header = lines-header (d .lines);
-      orcpt = lines-clean (d .envelope .lines);
-      held = fields-exact h (d .fields) .0;
-    }
+    downgraded-passes = computed d .passes
 
     pub downgraded-out : out ≡ written e
-    downgraded-out = taken-lines .1
+    downgraded-out = computed d .out-is
 
     pub downgraded-segments : segments ≡ outgoingSegments rules e h
-    unfolding outgoingSegments
-    downgraded-segments = d .is ∙ rw (taken-lines .2, first-new e, fields-exact h (d .fields) .1)
+    downgraded-segments = computed d .segments-are
 
     pub downgraded-header : rendered segments ≡ outgoingHeader rules e h
     unfolding outgoingHeader
     downgraded-header = ap rendered downgraded-segments
 
-    no-first-fields : T (not (allowsAlternative rules)) → firstFields (d .texts) ≡ []
-    unfolding newFields newField
-    no-first-fields n =
-        let p = downgraded-passes in
-        ap firstFields (taken-lines .2)
-        ∙ first-new e
-        ∙ rw (mail-replacement-none rules e (p .recipients) (p .envelope) n, rcpt-replacement-none rules e (p .recipients) (p .envelope) n)
+  module _ (p : Passes) where
+    enough-lines : 2 ≤ suc (p .recipients)
+    enough-lines = let k = envelope-passed rules e (p .recipients) (p .envelope) .0 in omega arith
 
-  passes-downgraded : Passes → Downgraded rules e h (written e) (outgoingSegments rules e h)
-  unfolding outgoingSegments
-  passes-downgraded p =
-      let counted = header-lines h (p .header) in
-      record {
-        texts = replacements e;
-        envelope = record {
-          limits = p .limits;
-          count = suc (p .recipients);
-          enough = let k = envelope-passed rules e (p .recipients) (p .envelope) .0 in omega arith;
-          lines = envelope-clean rules e (p .recipients) (p .envelope) (p .orcpt);
-        };
-        count = counted .0;
-        lines = counted .1;
-        rest = headerSegments rules h;
-        fields = fields-become rules h (p .held);
-        is = rw (first-new e);
-      }
+    passes-downgraded : Downgraded rules e h (written e) (outgoingSegments rules e h)
+    unfolding outgoingSegments
+    passes-downgraded =
+        rw (← first-new e)
+        (both-pass
+        (none-refused (p .limits .0) (p .limits .1) enough-lines (envelope-clean rules e (p .recipients) (p .envelope) (p .orcpt)))
+        (header-lines h (p .header) .1)
+        (fields-become rules h (p .held)))
+
+    no-first-fields : T (not (allowsAlternative rules)) → FieldsBecome rules (fieldsOf h) (outgoingSegments rules e h)
+    unfolding outgoingSegments newFields newField
+    no-first-fields n =
+        rw (mail-replacement-none rules e (p .recipients) (p .envelope) n, rcpt-replacement-none rules e (p .recipients) (p .envelope) n)
+        (fields-become rules h (p .held))
 
 -- ---- demand 1
 
@@ -172,19 +172,16 @@ module _ (rules : Rules) (e h b c : List ℕ) where
   exactly number input place offset (line-refused more s t k ls m f) =
       let x = refused-exact more k ls m f in
       rw (over-no 16384 (length e) EnvelopeOver s, over-no 32768 (length h) HeaderOver t, x .1) (x .2, refl, refl, x .3)
-  exactly number input place offset (header-malformed p k ls m f) =
-      let s = p .limits in
+  exactly number input place offset (header-malformed (none-refused s t enough all) k ls m f) =
       let x = header-malformed-exact k ls m f in
-      rw (over-no 16384 (length e) EnvelopeOver (s .0), over-no 32768 (length h) HeaderOver (s .1), lines-passed (p .lines) (p .enough) .0, x .0) (refl, refl, refl, x .1)
-  exactly number input place offset (orcpt-non-ascii more p q k ls l m) =
-      let s = p .limits in
-      let passed = lines-passed (p .lines) (p .enough) .0 in
+      rw (over-no 16384 (length e) EnvelopeOver s, over-no 32768 (length h) HeaderOver t, lines-passed all enough .0, x .0) (refl, refl, refl, x .1)
+  exactly number input place offset (orcpt-non-ascii more (none-refused s t enough all) q k ls l m) =
+      let passed = lines-passed all enough .0 in
       let x = orcpt-exact more passed k ls l m in
-      rw (over-no 16384 (length e) EnvelopeOver (s .0), over-no 32768 (length h) HeaderOver (s .1), passed, lines-header q, x .0) (refl, refl, refl, sym (x .1))
-  exactly number input place offset (held-non-ascii after p q k ls m) =
-      let s = p .limits in
+      rw (over-no 16384 (length e) EnvelopeOver s, over-no 32768 (length h) HeaderOver t, passed, lines-header q, x .0) (refl, refl, refl, sym (x .1))
+  exactly number input place offset (held-non-ascii after (none-refused s t enough all) q k ls m) =
       let x = held-exact h after k ls m in
-      rw (over-no 16384 (length e) EnvelopeOver (s .0), over-no 32768 (length h) HeaderOver (s .1), lines-passed (p .lines) (p .enough) .0, lines-header q, lines-clean (p .lines), x .0) (refl, refl, refl, sym (x .1))
+      rw (over-no 16384 (length e) EnvelopeOver s, over-no 32768 (length h) HeaderOver t, lines-passed all enough .0, lines-header q, lines-clean all, x .0) (refl, refl, refl, sym (x .1))
   exactly number input place offset (envelope-longer d k) =
       let p = downgraded-passes rules e h d in
       let s = p .limits in
@@ -230,12 +227,15 @@ module _ (rules : Rules) (e h b c : List ℕ) where
       passed : EnvelopePasses rules Any e h (written e) (replacements e)
       passed =
           let x = envelope-passed rules e m p in
-          record { limits = s; count = suc m; enough = let k = x .0 in omega arith; lines = x .1 }
+          let enough : 2 ≤ suc m = let k = x .0 in omega arith in
+          none-refused (s .0) (s .1) enough (x .1)
 
       module _ (q : checkedLines h ≡ WellFormed) where
         module _ (r : orcptLine e ≡ Clean) where
           clean : EnvelopePasses rules Ascii e h (written e) (replacements e)
-          clean = record { limits = s; count = suc m; enough = let k = envelope-passed rules e m p .0 in omega arith; lines = envelope-clean rules e m p r }
+          clean =
+              let enough : 2 ≤ suc m = let k = envelope-passed rules e m p .0 in omega arith in
+              none-refused (s .0) (s .1) enough (envelope-clean rules e m p r)
 
           some-held : (held : HeldField) → heldOf rules h ≡ held → Some
           some-held Absent k = some-room (record { limits = s; recipients = m; envelope = p; header = q; orcpt = r; held = k })
@@ -401,7 +401,7 @@ module _ (rules : Rules) (e h : List ℕ) (p : Passes rules e h) where
           header = overlay-front (outgoingHeader rules e h) c (t .header-fits);
           envelope-ascii = rw (overlay-front (written e) b (t .envelope-fits)) (written-ascii rules e (p .recipients) (p .envelope) (p .orcpt));
           header-ascii = rw (overlay-front (outgoingHeader rules e h) c (t .header-fits)) written-out-ascii;
-          retired = λ n. (overlay-front (written e) b (t .envelope-fits) ∙ written-kept rules e (p .recipients) n (p .envelope), no-first-fields rules e h d n);
+          retired = λ n. (overlay-front (written e) b (t .envelope-fits) ∙ written-kept rules e (p .recipients) n (p .envelope), no-first-fields rules e h p n);
         })
 
     header-is : headerOut (outcome rules e h b c) ≡ outgoingHeader rules e h

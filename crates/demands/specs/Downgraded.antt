@@ -1,5 +1,4 @@
 -- What is written for an envelope and a header that pass, by the paper's grammar, and what passes. Assumes nothing.
-use mathlib.Core.Path.{_≡_}
 use mathlib.Core.Bool.{true, false, not}
 use mathlib.Core.List.{List, [], _∷_, _++_}
 use Prim.Native.Nat.{ℕ, suc, _+_, _≤_}
@@ -29,11 +28,8 @@ use Rattle.call.specs.OutgoingHeader.{newField}
 -- ---- the envelope
 
 -- "Envelope at most 16,384 bytes, header 32,768", and no line is refused: "One MAIL line, then 1 to 100 RCPT lines"
-pub record EnvelopePasses (rules : Rules) (Asked : List ℕ → Type 0) (e h out : List ℕ) (texts : List (List ℕ)) : Type 0 where
-  pub limits : (length e ≤ 16384) × (length h ≤ 32768)
-  pub count : ℕ
-  pub enough : 2 ≤ count
-  pub lines : EnvelopeLines rules Asked count e out texts
+pub data EnvelopePasses (rules : Rules) (Asked : List ℕ → Type 0) (e h out : List ℕ) (texts : List (List ℕ)) : Type 0 where
+  none-refused : {n : ℕ} → length e ≤ 16384 → length h ≤ 32768 → 2 ≤ n → EnvelopeLines rules Asked n e out texts → EnvelopePasses rules Asked e h out texts
 
 -- "New first fields: `Downgraded-Mail-From` when the MAIL path was replaced, then `Downgraded-Rcpt-To` when there is exactly one RCPT
 -- line and it was replaced.", by the lines' texts `<old <new>>`
@@ -78,12 +74,7 @@ pub data FieldsBecome (rules : Rules) : List (List ℕ) → List Segment → Typ
 
 -- ---- both
 
--- Both pass: `out` is the outgoing envelope, and the outgoing header is these segments.
-pub record Downgraded (rules : Rules) (e h out : List ℕ) (segments : List Segment) : Type 0 where
-  pub texts : List (List ℕ)
-  pub envelope : EnvelopePasses rules Ascii e h out texts
-  pub count : ℕ
-  pub lines : HeaderLines count h
-  pub rest : List Segment
-  pub fields : FieldsBecome rules (fieldsOf h) rest
-  pub is : segments ≡ firstFields texts ++ rest
+-- Both pass: `out` is the outgoing envelope, and the outgoing header is these segments, the new first fields before what becomes of the others.
+pub data Downgraded (rules : Rules) (e h out : List ℕ) : List Segment → Type 0 where
+  both-pass : {n : ℕ} {texts : List (List ℕ)} {segments : List Segment} → EnvelopePasses rules Ascii e h out texts → HeaderLines n h → FieldsBecome rules (fieldsOf h) segments
+      → Downgraded rules e h out (firstFields texts ++ segments)
