@@ -11,9 +11,9 @@ use Rattle.demands.specs.Demands.{Demands}
 
 -- The records, the envelope buffer and the header buffer before, then the same three afterwards; of the buffers the room that is left. A record
 -- is "start and length of the envelope, then of the header, in one input buffer, then five we fill: number, place, offset and the two output
--- lengths", which held any numbers, v to z, before. "Input numbers .. are not touched".
+-- lengths", which held any numbers, v to z, before. "Input numbers and a last part of fewer than nine are not touched."
 pub data BatchDemands (rules : Rules) (input : List ℕ) : List ℕ → List ℕ → List ℕ → List ℕ → List ℕ → List ℕ → Type 0 where
-  -- "a last part of fewer than nine [is] not touched"; past the last output both buffers are as before
+  -- past the last output both buffers are as before
   last-part : {records b c : List ℕ} → length records < 9 → BatchDemands rules input records b c records b c
   -- "Refusals: 9 (demand 1 gains it), a start plus its length past the end of the input buffer, before all others, place, offset and lengths 0."
   -- "a refused record takes no room and does not stop those after it": its room is that of those after it

@@ -22,14 +22,14 @@ use Rattle.header.specs.Fields.{fieldsOf, lineCount}
 use Rattle.rules.specs.declared.Rules.{Rules}
 use Rattle.rules.specs.Rules.{allowsAlternative}
 use Rattle.call.specs.declared.Answer.{Answer}
-use Rattle.demands.specs.Downgraded.{EnvelopePasses, WellFormedAt as HeaderFormedAt, HeaderLines, Becomes, FieldsBecome, Downgraded}
+use Rattle.demands.specs.Downgraded.{EnvelopePasses, HeaderFormedAt, HeaderLines, Becomes, FieldsBecome, Downgraded}
 
 -- ---- demand 1: "Every input of bytes is taken: downgraded, or refused by one of the numbers 1 to 8 under the exact condition of
 -- that number. A refusal writes to neither buffer. A success gives both lengths and touches nothing past them." "10 ..; demand 1 gains it."
 
 -- The table "Answers by number": a number, the input that it is about (1 the envelope, 2 the header, 0 neither), a place and an offset,
 -- and when they are given, by the order of the refusals: each after all before it have passed.
-pub data Given (rules : Rules) (e h b c : List ℕ) : ℕ → ℕ → ℕ → ℕ → Type 0 where
+pub data Given (rules : Rules) (e h b c : List ℕ) : (number input place offset : ℕ) → Type 0 where
   envelope-over : 16384 < length e → Given rules e h b c 1 1 0 0
   header-over : length e ≤ 16384 → 32768 < length h → Given rules e h b c 1 2 1 0
   -- line n is malformed, or missing: "A missing line is malformed at its number"
@@ -41,8 +41,8 @@ pub data Given (rules : Rules) (e h b c : List ℕ) : ℕ → ℕ → ℕ → �
   header-malformed : {n offset : ℕ} {start rest out : List ℕ} {texts : List (List ℕ)} → EnvelopePasses rules Any e h out texts → h ≡ start ++ rest → HeaderLines n start
       → (rest ≡ [] → ⊥) → MalformedAt (HeaderFormedAt n) start rest offset → Given rules e h b c 5 2 n offset
   -- "For 6 .. the first non-ASCII byte of an ORCPT value": the first after the path, where only an ORCPT may have it
-  orcpt-non-ascii : {n m : ℕ} {start line path out new : List ℕ} {alternative : Option (List ℕ)} {texts before : List (List ℕ)} (more : List ℕ) → EnvelopePasses rules Any e h out texts → HeaderLines m h
-      → e ≡ start ++ (line ++ (13 ∷ 10 ∷ more)) → EnvelopeLines rules Ascii n start new before → (l : Line (eqb n 0) path alternative line) → (Ascii (l .tail) → ⊥)
+  orcpt-non-ascii : {n m : ℕ} {start line path out start-out : List ℕ} {alternative : Option (List ℕ)} {texts start-texts : List (List ℕ)} (more : List ℕ) → EnvelopePasses rules Any e h out texts → HeaderLines m h
+      → e ≡ start ++ (line ++ (13 ∷ 10 ∷ more)) → EnvelopeLines rules Ascii n start start-out start-texts → (l : Line (eqb n 0) path alternative line) → (Ascii (l .tail) → ⊥)
       → Given rules e h b c 6 1 n (length start + (length (l .front) + (length path + suc (run isAscii (l .tail)))))
   -- a field is held that becomes nothing. "a field's place is its first line": its number is how many lines end before it. "For 6 it is the first
   -- non-ASCII byte .. of the field"
@@ -90,7 +90,8 @@ pub record Demand2 (rules : Rules) (e h e′ h′ : List ℕ) : Type 0 where
 -- encoded words of something, that something .. is a text, and the bytes written there for it are its row. Each such occurrence
 -- counts by itself."
 
--- wherever the outgoing header's segments ask for the encoded words of a text, the bytes there are a row of which demand 3 holds
+-- Demand 3 for the outgoing header: wherever its segments ask for the encoded words of a text, the bytes there are a row of which demand 3 holds,
+-- which `Demand3` and `FieldDemand3` state for one text and its row.
 pub record DemandThree (rules : Rules) (e h e′ h′ : List ℕ) : Type 0 where
   pub alone : (before : List Segment) (text : List ℕ) (after : List Segment) → Downgraded rules e h e′ (before ++ (words text ∷ after))
       → (row : List ℕ) × (h′ ≡ rendered before ++ (row ++ rendered after)) × Demand3 text row

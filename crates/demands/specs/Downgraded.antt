@@ -27,7 +27,7 @@ use Rattle.call.specs.OutgoingHeader.{newField}
 
 -- ---- the envelope
 
--- "Envelope at most 16,384 bytes, header 32,768", and no line is refused: "One MAIL line, then 1 to 100 RCPT lines"
+-- Not "envelope over 16,384 bytes, or header over 32,768", and no line is refused: "One MAIL line, then 1 to 100 RCPT lines".
 pub data EnvelopePasses (rules : Rules) (Asked : List ℕ → Type 0) (e h out : List ℕ) (texts : List (List ℕ)) : Type 0 where
   none-refused : {n : ℕ} → length e ≤ 16384 → length h ≤ 32768 → 2 ≤ n → EnvelopeLines rules Asked n e out texts → EnvelopePasses rules Asked e h out texts
 
@@ -42,17 +42,17 @@ firstFields (mail ∷ rcpt ∷ next ∷ more) = newField (bytes "Downgraded-Mail
 -- ---- the header
 
 -- a well-formed line at the number n. "Lines count from 0."
-abbrev pub WellFormedAt : ℕ → List ℕ → Type 0
-WellFormedAt n line = T (wellFormed (eqb n 0) line)
+abbrev pub HeaderFormedAt : ℕ → List ℕ → Type 0
+HeaderFormedAt n line = T (wellFormed (eqb n 0) line)
 
 -- the first n lines of a header: "Each line ends in CRLF"
 pub data HeaderLines : ℕ → List ℕ → Type 0 where
   none : HeaderLines 0 []
-  then : {n : ℕ} {before line : List ℕ} → HeaderLines n before → WithCrlf (WellFormedAt n) line → HeaderLines (suc n) (before ++ line)
+  then : {n : ℕ} {before line : List ℕ} → HeaderLines n before → WithCrlf (HeaderFormedAt n) line → HeaderLines (suc n) (before ++ line)
 
 -- What becomes of a field whose value is not ASCII, by the kind of its name. "Plain text: name, colon, encoded words of the text. Every other name is
 -- encapsulated: `Downgraded-` before the name". Date and the others with comments "are held only if non-ASCII stands outside their comments". A
--- Received field is held too "with a line grown past 998 bytes". A field of any other kind is held.
+-- Received field is held too "with a line grown past 998 bytes". Of the kinds Parameterized and Held there is no rule: such a field is held.
 pub data KindBecomes (rules : Rules) (field : List ℕ) : Kind → List Segment → Type 0 where
   address : {segments : List Segment} → AddressField rules (nameOf field) (textOf field) segments → KindBecomes rules field Address segments
   plain-text : KindBecomes rules field PlainText (encodedField false (nameOf field) (textOf field))
