@@ -1,44 +1,19 @@
 -- The demands on a batch hold of `batch`, and leave nothing open: what meets them is `batch`. Assumes nothing.
 use mathlib.Core.Path.{_≡_, sym, _∙_}
+use mathlib.Core.Logic.{_⊎_, ⊎-elim}
+use mathlib.Core.Logic._⊎_.{inl, inr}
 use mathlib.Core.List.{List, [], _∷_}
 use Prim.Native.Nat.{ℕ, _+_, _≤_, _<_}
 use native.Mathlib.Omega.{arith}
 use lib.ListN.{length, take, drop}
 use Rattle.rules.specs.declared.Rules.{Rules}
-use Rattle.call.specs.Outcome.{Outcome}
+use Rattle.call.specs.Outcome.{outcome}
 use Rattle.batch.specs.Batch.{range, rangeRefused, rangeOutcome, recordOutcome, answers, Batch, batch, afterwards}
 use Rattle.batch.specs.BatchLaws.{by-range, after, fronted, batch-step, batch-end}
 use Rattle.demands.specs.DemandsLaws.{demands}
 use Rattle.demands.specs.DeterminedLaws.{determined}
-use Rattle.demands.specs.BatchDemands.{SingleOrNine, BatchDemands}
-use Rattle.demands.specs.BatchDemands.SingleOrNine.{envelope-past-end, header-past-end, single}
-use Rattle.demands.specs.BatchDemands.BatchDemands.{last-part, next-record}
-
--- ---- a record
-
-module _ (rules : Rules) (input : List ℕ) (start₁ len₁ start₂ len₂ : ℕ) (b c : List ℕ) where
-  single-or-nine : SingleOrNine rules input start₁ len₁ start₂ len₂ b c (rangeOutcome rules input start₁ len₁ start₂ len₂ b c)
-  unfolding range
-  single-or-nine =
-      by-range rules input start₁ len₁ start₂ len₂ b c
-      (λ k q. rw q (envelope-past-end (omega arith)))
-      (λ k q. rw q (header-past-end (omega arith)))
-      (λ k l q. rw q (single k l (demands rules (take len₁ (drop start₁ input)) (take len₂ (drop start₂ input)) b c)))
-
-  past-end : (start₁ + len₁ ≤ length input → start₂ + len₂ ≤ length input → ⊥) → rangeRefused b c ≡ rangeOutcome rules input start₁ len₁ start₂ len₂ b c
-  past-end outside = by-range rules input start₁ len₁ start₂ len₂ b c (λ k q. sym q) (λ k q. sym q) (λ k l q. absurd (outside k l))
-
-  only-single-or-nine : {o : Outcome} → SingleOrNine rules input start₁ len₁ start₂ len₂ b c o → o ≡ rangeOutcome rules input start₁ len₁ start₂ len₂ b c
-  unfolding range
-  only-single-or-nine (envelope-past-end k) = past-end (λ l m. omega arith)
-  only-single-or-nine (header-past-end k) = past-end (λ l m. omega arith)
-  only-single-or-nine (single {o} k l d) =
-      by-range rules input start₁ len₁ start₂ len₂ b c
-      (λ m q. absurd (omega arith))
-      (λ m q. absurd (omega arith))
-      (λ m n q. determined rules (take len₁ (drop start₁ input)) (take len₂ (drop start₂ input)) b c o d ∙ sym q)
-
--- ---- a batch
+use Rattle.demands.specs.BatchDemands.{BatchDemands}
+use Rattle.demands.specs.BatchDemands.BatchDemands.{last-part, past-end, single}
 
 -- a batch by its first record
 by-first-record : (rules : Rules) (input : List ℕ) (start₁ len₁ start₂ len₂ v w x y z : ℕ) (more b c : List ℕ)
@@ -54,7 +29,7 @@ none-left rules input records b c k = rw (batch-end rules input records b c k) (
 
 -- Every batch meets the demands.
 pub batch-demands : (rules : Rules) (input records b c : List ℕ) → Demanded rules input records b c (batch rules input records b c)
-unfolding after fronted answers
+unfolding after fronted answers range rangeRefused
 batch-demands rules input [] b c = none-left rules input [] b c (omega arith)
 batch-demands rules input (s ∷ []) b c = none-left rules input (s ∷ []) b c (omega arith)
 batch-demands rules input (s ∷ l ∷ []) b c = none-left rules input (s ∷ l ∷ []) b c (omega arith)
@@ -65,17 +40,38 @@ batch-demands rules input (s ∷ l ∷ t ∷ m ∷ v ∷ w ∷ []) b c = none-le
 batch-demands rules input (s ∷ l ∷ t ∷ m ∷ v ∷ w ∷ x ∷ []) b c = none-left rules input (s ∷ l ∷ t ∷ m ∷ v ∷ w ∷ x ∷ []) b c (omega arith)
 batch-demands rules input (s ∷ l ∷ t ∷ m ∷ v ∷ w ∷ x ∷ y ∷ []) b c = none-left rules input (s ∷ l ∷ t ∷ m ∷ v ∷ w ∷ x ∷ y ∷ []) b c (omega arith)
 batch-demands rules input (s ∷ l ∷ t ∷ m ∷ v ∷ w ∷ x ∷ y ∷ z ∷ more) b c =
-    let o = rangeOutcome rules input s l t m b c in
-    rw (by-first-record rules input s l t m v w x y z more b c)
-    (next-record (single-or-nine rules input s l t m b c) (batch-demands rules input more (drop (o .envelopeLen) (o .envelopeBuffer)) (drop (o .headerLen) (o .headerBuffer))))
+    let first = by-first-record rules input s l t m v w x y z more b c in
+    by-range rules input s l t m b c
+    (λ k q. rw (first, q) (past-end {start₁ = s} {len₁ = l} {start₂ = t} {len₂ = m} (inl k) (batch-demands rules input more b c)))
+    (λ k q. rw (first, q) (past-end {start₁ = s} {len₁ = l} {start₂ = t} {len₂ = m} (inr k) (batch-demands rules input more b c)))
+    (λ k n q.
+    let o = outcome rules (take l (drop s input)) (take m (drop t input)) b c in
+    rw (first, q)
+    (single k n (demands rules (take l (drop s input)) (take m (drop t input)) b c)
+    (batch-demands rules input more (drop (o .envelopeLen) (o .envelopeBuffer)) (drop (o .headerLen) (o .headerBuffer)))))
+
+-- the outcome of a record by its two ranges
+module _ (rules : Rules) (input : List ℕ) (start₁ len₁ start₂ len₂ : ℕ) (b c : List ℕ) where
+  outside : (length input < start₁ + len₁) ⊎ (length input < start₂ + len₂) → rangeOutcome rules input start₁ len₁ start₂ len₂ b c ≡ rangeRefused b c
+  outside past =
+      by-range rules input start₁ len₁ start₂ len₂ b c (λ k q. q) (λ k q. q)
+      (λ k l q. absurd (⊎-elim (λ m. omega arith) (λ m. omega arith) past))
+
+  inside : start₁ + len₁ ≤ length input → start₂ + len₂ ≤ length input
+      → rangeOutcome rules input start₁ len₁ start₂ len₂ b c ≡ outcome rules (take len₁ (drop start₁ input)) (take len₂ (drop start₂ input)) b c
+  unfolding range
+  inside k l = by-range rules input start₁ len₁ start₂ len₂ b c (λ m q. absurd (omega arith)) (λ m q. absurd (omega arith)) (λ m n q. q)
 
 -- What meets them is the batch.
 pub batch-determined : (rules : Rules) (input : List ℕ) {records b c records′ b′ c′ : List ℕ} → BatchDemands rules input records b c records′ b′ c′
     → afterwards records′ b′ c′ ≡ batch rules input records b c
-unfolding after fronted answers
+unfolding after fronted answers rangeRefused
 batch-determined rules input (last-part {records} {b} {c} k) = sym (batch-end rules input records b c (omega arith))
-batch-determined rules input (next-record {start₁} {len₁} {start₂} {len₂} {v} {w} {x} {y} {z} {more} {b} {c} one d) =
-    sym (rw (by-first-record rules input start₁ len₁ start₂ len₂ v w x y z more b c, ← only-single-or-nine rules input start₁ len₁ start₂ len₂ b c one, ← batch-determined rules input d))
+batch-determined rules input (past-end {start₁} {len₁} {start₂} {len₂} {v} {w} {x} {y} {z} {more} {b} {c} past d) =
+    sym (rw (by-first-record rules input start₁ len₁ start₂ len₂ v w x y z more b c, outside rules input start₁ len₁ start₂ len₂ b c past, ← batch-determined rules input d))
+batch-determined rules input (single {start₁} {len₁} {start₂} {len₂} {v} {w} {x} {y} {z} {more} {b} {c} {b₁} {c₁} {more′} {b′} {c′} {r} k l one d) =
+    let is = determined rules (take len₁ (drop start₁ input)) (take len₂ (drop start₂ input)) b c r b₁ c₁ one in
+    sym (rw (by-first-record rules input start₁ len₁ start₂ len₂ v w x y z more b c, inside rules input start₁ len₁ start₂ len₂ b c k l, ← is, ← batch-determined rules input d))
 
 -- So two that meet them for one call are equal.
 pub batch-unique : (rules : Rules) (input records b c : List ℕ) {records₁ b₁ c₁ records₂ b₂ c₂ : List ℕ} → BatchDemands rules input records b c records₁ b₁ c₁

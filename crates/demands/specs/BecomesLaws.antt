@@ -34,7 +34,11 @@ use Rattle.outgoing_field.specs.Fate.Fate.{held, written}
 use Rattle.outgoing_field.specs.declared.HeldField.{HeldField}
 use Rattle.outgoing_field.specs.declared.HeldField.the-variants.{Absent, At}
 use Rattle.offset.specs.Offset.{fieldOffset}
-use Rattle.demands.specs.Downgraded.{KindBecomes, Becomes, FieldsBecome, Held}
+use Rattle.demands.specs.Downgraded.{KindBecomes, Becomes, FieldsBecome}
+
+-- a field is held that becomes nothing
+abbrev Held : Rules → List ℕ → Type 0
+Held rules field = (new : List Segment) → Becomes rules field new → ⊥
 
 -- ---- a field
 

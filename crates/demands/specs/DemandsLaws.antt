@@ -16,7 +16,7 @@ use Rattle.buffer.specs.Buffer.{overlay}
 use Rattle.buffer.specs.BufferLaws.{length-overlay, overlay-front, overlay-past}
 use Rattle.row.specs.Row.{row, rowAfter}
 use Rattle.encoded_word.specs.Segments.{Segment, bytesOf, rendered, sound}
-use Rattle.encoded_word.specs.Segments.Segment.{raw, words, labelled}
+use Rattle.encoded_word.specs.Segments.Segment.{words, labelled}
 use Rattle.encoded_word.specs.SegmentsLaws.{rendered-append, rendered-ascii, words-demand-3, labelled-demand-3}
 use Rattle.letter_case.specs.LetterCase.{bytes}
 use Rattle.envelope_line.specs.declared.Fault.{Fault}
@@ -35,26 +35,40 @@ use Rattle.header_line.specs.declared.LineCheck.the-variants.{WellFormed, Malfo
 use Rattle.outgoing_field.specs.declared.HeldField.{HeldField}
 use Rattle.outgoing_field.specs.declared.HeldField.the-variants.{Absent, At as HeldAt}
 use Rattle.header_line.specs.Lines.{checkedLines}
+use Rattle.header.specs.Fields.{fieldsOf}
 use Rattle.rules.specs.declared.Rules.{Rules}
 use Rattle.rules.specs.Rules.{allowsAlternative}
 use Rattle.field.specs.FieldLaws.{labelled-sound}
 use Rattle.outgoing_field.specs.Fate.{segmentsOf, headerSegments, heldOf}
 use Rattle.outgoing_field.specs.OwedLaws.{owed-header}
+use Rattle.call.specs.declared.Answer.{Answer}
 use Rattle.call.specs.declared.Refusal.the-variants.{EnvelopeOver, HeaderOver, EnvelopeNeeds, HeaderNeeds}
 use Rattle.call.specs.declared.Verdict.{Verdict}
 use Rattle.call.specs.declared.Verdict.the-variants.{Accept, Refuse}
 use Rattle.call.specs.OutgoingHeader.{newField, newFields, outgoingSegments, outgoingHeader}
-use Rattle.call.specs.Outcome.{numberOf, inputOf, placeOf, offsetOf, ofEnvelope, ofLines, ofOrcpt, ofHeld, firstOf, verdict, Outcome, outcomeOf, outcome}
+use Rattle.call.specs.Outcome.{numberOf, inputOf, placeOf, offsetOf, ofEnvelope, ofLines, ofOrcpt, ofHeld, firstOf, verdict, Outcome, outcomeOf, outcome, observed}
 use Rattle.call.specs.OutputLaws.{over-yes, over-no}
 use Rattle.envelope_line.specs.LineGrammar.{LineRefused}
 use Rattle.envelope.specs.EnvelopeDemand.{Any, Ascii}
 use Rattle.envelope.specs.EnvelopeDemandLaws.{replacementsOf, replacements, envelope-passed, envelope-clean, lines-passed, lines-clean, written-kept}
 use Rattle.offset.specs.EnvelopeRefusalLaws.{envelope-malformed-found, malformed-exact, envelope-refused, refused-exact, envelope-orcpt, orcpt-exact}
-use Rattle.demands.specs.Downgraded.{InLimits, EnvelopePasses, firstFields, Downgraded}
+use Rattle.demands.specs.Downgraded.{EnvelopePasses, firstFields, FieldsBecome, Downgraded}
+use Rattle.demands.specs.Downgraded.EnvelopePasses.{none-refused}
+use Rattle.demands.specs.Downgraded.Downgraded.{both-pass}
 use Rattle.demands.specs.HeaderLaws.{header-lines, lines-header, header-malformed-found, header-malformed-exact}
 use Rattle.demands.specs.BecomesLaws.{fields-become, fields-exact, field-held, held-exact}
-use Rattle.demands.specs.Demands.{Given, KeptPast, Demand1, envelopeOut, headerOut, Demand2, Asked, DemandThree, Demands}
+use Rattle.demands.specs.Demands.{Given, KeptPast, Demand1, Demand2, DemandThree, Demands}
 use Rattle.demands.specs.Demands.Given.{envelope-over, header-over, envelope-malformed, line-refused, header-malformed, orcpt-non-ascii, held-non-ascii, envelope-longer, header-longer, none-holds}
+
+-- an outcome's answer, and what stands in its buffers
+abbrev pub answerOf : Outcome → Answer
+answerOf o = record { number = o .number; input = o .input; place = o .place; offset = o .offset; «envelope_len» = o .envelopeLen; «header_len» = o .headerLen }
+
+abbrev pub envelopeOut : Outcome → List ℕ
+envelopeOut o = take (o .envelopeLen) (o .envelopeBuffer)
+
+abbrev pub headerOut : Outcome → List ℕ
+headerOut o = take (o .headerLen) (o .headerBuffer)
 
 -- a line is refused by 3, 4 or 10
 pub refusal-number : {rules : Rules} {mail : Bool} {line : List ℕ} {number byte k : ℕ} → LineRefused rules mail line number byte → number ≡ k → k ≢ 3 → k ≢ 4 → k ≢ 10 → ⊥
@@ -80,64 +94,61 @@ first-new e = first-fields (texts e)
 module _ (rules : Rules) (e h : List ℕ) where
   -- by the scans: each part passes
   pub record Passes : Type 0 where
-    pub limits : InLimits e h
+    pub limits : (length e ≤ 16384) × (length h ≤ 32768)
     pub recipients : ℕ
     pub envelope : checked rules e ≡ Passed recipients
     pub header : checkedLines h ≡ WellFormed
     pub orcpt : orcptLine e ≡ Clean
     pub held : heldOf rules h ≡ Absent
 
-  module _ {out : List ℕ} {segments : List Segment} (d : Downgraded rules e h out segments) where
-    abbrev taken-lines : (checked rules e ≡ Passed (pred (d .envelope .count))) × (out ≡ written e) × (d .texts ≡ replacements e)
-    taken-lines = lines-passed (d .envelope .lines) (d .envelope .enough)
+  record Computed (out : List ℕ) (segments : List Segment) : Type 0 where
+    pub passes : Passes
+    pub out-is : out ≡ written e
+    pub segments-are : segments ≡ outgoingSegments rules e h
 
+  computed : {out : List ℕ} {segments : List Segment} → Downgraded rules e h out segments → Computed out segments
+  unfolding outgoingSegments
+  computed (both-pass (none-refused {n} s t enough lines) header-lines fields) =
+      let x = lines-passed lines enough in
+      let y = fields-exact h fields in
+      record {
+        passes = record { limits = (s, t); recipients = pred n; envelope = x .0; header = lines-header header-lines; orcpt = lines-clean lines; held = y .0 };
+        out-is = x .1;
+        segments-are = rw (x .2, first-new e, y .1);
+      }
+
+  module _ {out : List ℕ} {segments : List Segment} (d : Downgraded rules e h out segments) where
     pub downgraded-passes : Passes
-    downgraded-passes = record {
-      limits = d .envelope .limits;
-      recipients = pred (d .envelope .count);
-      envelope = taken-lines .0;
-      header = lines-header (d .lines);
-      orcpt = lines-clean (d .envelope .lines);
-      held = fields-exact h (d .fields) .0;
-    }
+    downgraded-passes = computed d .passes
 
     pub downgraded-out : out ≡ written e
-    downgraded-out = taken-lines .1
+    downgraded-out = computed d .out-is
 
     pub downgraded-segments : segments ≡ outgoingSegments rules e h
-    unfolding outgoingSegments
-    downgraded-segments = d .is ∙ rw (taken-lines .2, first-new e, fields-exact h (d .fields) .1)
+    downgraded-segments = computed d .segments-are
 
     pub downgraded-header : rendered segments ≡ outgoingHeader rules e h
     unfolding outgoingHeader
     downgraded-header = ap rendered downgraded-segments
 
-    no-first-fields : T (not (allowsAlternative rules)) → firstFields (d .texts) ≡ []
-    unfolding newFields newField
-    no-first-fields n =
-        let p = downgraded-passes in
-        ap firstFields (taken-lines .2)
-        ∙ first-new e
-        ∙ rw (mail-replacement-none rules e (p .recipients) (p .envelope) n, rcpt-replacement-none rules e (p .recipients) (p .envelope) n)
+  module _ (p : Passes) where
+    enough-lines : 2 ≤ suc (p .recipients)
+    enough-lines = let k = envelope-passed rules e (p .recipients) (p .envelope) .0 in omega arith
 
-  passes-downgraded : Passes → Downgraded rules e h (written e) (outgoingSegments rules e h)
-  unfolding outgoingSegments
-  passes-downgraded p =
-      let counted = header-lines h (p .header) in
-      record {
-        texts = replacements e;
-        envelope = record {
-          limits = p .limits;
-          count = suc (p .recipients);
-          enough = let k = envelope-passed rules e (p .recipients) (p .envelope) .0 in omega arith;
-          lines = envelope-clean rules e (p .recipients) (p .envelope) (p .orcpt);
-        };
-        count = counted .0;
-        lines = counted .1;
-        rest = headerSegments rules h;
-        fields = fields-become rules h (p .held);
-        is = rw (first-new e);
-      }
+    passes-downgraded : Downgraded rules e h (written e) (outgoingSegments rules e h)
+    unfolding outgoingSegments
+    passes-downgraded =
+        rw (← first-new e)
+        (both-pass
+        (none-refused (p .limits .0) (p .limits .1) enough-lines (envelope-clean rules e (p .recipients) (p .envelope) (p .orcpt)))
+        (header-lines h (p .header) .1)
+        (fields-become rules h (p .held)))
+
+    no-first-fields : T (not (allowsAlternative rules)) → FieldsBecome rules (fieldsOf h) (outgoingSegments rules e h)
+    unfolding outgoingSegments newFields newField
+    no-first-fields n =
+        rw (mail-replacement-none rules e (p .recipients) (p .envelope) n, rcpt-replacement-none rules e (p .recipients) (p .envelope) n)
+        (fields-become rules h (p .held))
 
 -- ---- demand 1
 
@@ -155,42 +166,39 @@ module _ (rules : Rules) (e h b c : List ℕ) where
   unfolding verdict firstOf outcomeOf numberOf inputOf placeOf offsetOf faultNumber ofEnvelope ofLines ofOrcpt ofHeld
   exactly number input place offset (envelope-over k) = rw (over-yes 16384 (length e) EnvelopeOver k) (refl, refl, refl, refl)
   exactly number input place offset (header-over k l) = rw (over-no 16384 (length e) EnvelopeOver k, over-yes 32768 (length h) HeaderOver l) (refl, refl, refl, refl)
-  exactly number input place offset (envelope-malformed s k ls m f) =
+  exactly number input place offset (envelope-malformed s t k ls m f) =
       let x = malformed-exact k ls m f in
-      rw (over-no 16384 (length e) EnvelopeOver (s .envelope), over-no 32768 (length h) HeaderOver (s .header), x .0) (refl, refl, refl, x .1)
-  exactly number input place offset (line-refused more s k ls m f) =
+      rw (over-no 16384 (length e) EnvelopeOver s, over-no 32768 (length h) HeaderOver t, x .0) (refl, refl, refl, x .1)
+  exactly number input place offset (line-refused more s t k ls m f) =
       let x = refused-exact more k ls m f in
-      rw (over-no 16384 (length e) EnvelopeOver (s .envelope), over-no 32768 (length h) HeaderOver (s .header), x .1) (x .2, refl, refl, x .3)
-  exactly number input place offset (header-malformed p k ls m f) =
-      let s = p .limits in
+      rw (over-no 16384 (length e) EnvelopeOver s, over-no 32768 (length h) HeaderOver t, x .1) (x .2, refl, refl, x .3)
+  exactly number input place offset (header-malformed (none-refused s t enough all) k ls m f) =
       let x = header-malformed-exact k ls m f in
-      rw (over-no 16384 (length e) EnvelopeOver (s .envelope), over-no 32768 (length h) HeaderOver (s .header), lines-passed (p .lines) (p .enough) .0, x .0) (refl, refl, refl, x .1)
-  exactly number input place offset (orcpt-non-ascii more p q k ls l m) =
-      let s = p .limits in
-      let passed = lines-passed (p .lines) (p .enough) .0 in
+      rw (over-no 16384 (length e) EnvelopeOver s, over-no 32768 (length h) HeaderOver t, lines-passed all enough .0, x .0) (refl, refl, refl, x .1)
+  exactly number input place offset (orcpt-non-ascii more (none-refused s t enough all) q k ls l m) =
+      let passed = lines-passed all enough .0 in
       let x = orcpt-exact more k ls l m in
-      rw (over-no 16384 (length e) EnvelopeOver (s .envelope), over-no 32768 (length h) HeaderOver (s .header), passed, lines-header q, x .0) (refl, refl, refl, sym (x .1))
-  exactly number input place offset (held-non-ascii after p q k ls m) =
-      let s = p .limits in
+      rw (over-no 16384 (length e) EnvelopeOver s, over-no 32768 (length h) HeaderOver t, passed, lines-header q, x .0) (refl, refl, refl, sym (x .1))
+  exactly number input place offset (held-non-ascii after (none-refused s t enough all) q k ls m) =
       let x = held-exact h after k ls m in
-      rw (over-no 16384 (length e) EnvelopeOver (s .envelope), over-no 32768 (length h) HeaderOver (s .header), lines-passed (p .lines) (p .enough) .0, lines-header q, lines-clean (p .lines), x .0) (refl, refl, refl, sym (x .1))
+      rw (over-no 16384 (length e) EnvelopeOver s, over-no 32768 (length h) HeaderOver t, lines-passed all enough .0, lines-header q, lines-clean all, x .0) (refl, refl, refl, sym (x .1))
   exactly number input place offset (envelope-longer d k) =
       let p = downgraded-passes rules e h d in
       let s = p .limits in
       let k′ = rw (downgraded-out rules e h d) at k in
-      rw (over-no 16384 (length e) EnvelopeOver (s .envelope), over-no 32768 (length h) HeaderOver (s .header), p .envelope, p .header, p .orcpt, p .held, over-yes (length b) (length (written e)) (EnvelopeNeeds (length (written e))) k′) (refl, refl, ap length (downgraded-out rules e h d), refl)
+      rw (over-no 16384 (length e) EnvelopeOver (s .0), over-no 32768 (length h) HeaderOver (s .1), p .envelope, p .header, p .orcpt, p .held, over-yes (length b) (length (written e)) (EnvelopeNeeds (length (written e))) k′) (refl, refl, ap length (downgraded-out rules e h d), refl)
   exactly number input place offset (header-longer d k l) =
       let p = downgraded-passes rules e h d in
       let s = p .limits in
       let k′ = rw (downgraded-out rules e h d) at k in
       let l′ = rw (downgraded-header rules e h d) at l in
-      rw (over-no 16384 (length e) EnvelopeOver (s .envelope), over-no 32768 (length h) HeaderOver (s .header), p .envelope, p .header, p .orcpt, p .held, over-no (length b) (length (written e)) (EnvelopeNeeds (length (written e))) k′, over-yes (length c) (length (outgoingHeader rules e h)) (HeaderNeeds (length (outgoingHeader rules e h))) l′) (refl, refl, ap length (downgraded-header rules e h d), refl)
+      rw (over-no 16384 (length e) EnvelopeOver (s .0), over-no 32768 (length h) HeaderOver (s .1), p .envelope, p .header, p .orcpt, p .held, over-no (length b) (length (written e)) (EnvelopeNeeds (length (written e))) k′, over-yes (length c) (length (outgoingHeader rules e h)) (HeaderNeeds (length (outgoingHeader rules e h))) l′) (refl, refl, ap length (downgraded-header rules e h d), refl)
   exactly number input place offset (none-holds d k l) =
       let p = downgraded-passes rules e h d in
       let s = p .limits in
       let k′ = rw (downgraded-out rules e h d) at k in
       let l′ = rw (downgraded-header rules e h d) at l in
-      rw (over-no 16384 (length e) EnvelopeOver (s .envelope), over-no 32768 (length h) HeaderOver (s .header), p .envelope, p .header, p .orcpt, p .held, over-no (length b) (length (written e)) (EnvelopeNeeds (length (written e))) k′, over-no (length c) (length (outgoingHeader rules e h)) (HeaderNeeds (length (outgoingHeader rules e h))) l′) (refl, refl, refl, refl)
+      rw (over-no 16384 (length e) EnvelopeOver (s .0), over-no 32768 (length h) HeaderOver (s .1), p .envelope, p .header, p .orcpt, p .held, over-no (length b) (length (written e)) (EnvelopeNeeds (length (written e))) k′, over-no (length c) (length (outgoingHeader rules e h)) (HeaderNeeds (length (outgoingHeader rules e h))) l′) (refl, refl, refl, refl)
 
   -- some condition holds
   record Some : Type 0 where
@@ -214,17 +222,20 @@ module _ (rules : Rules) (e h b c : List ℕ) where
       (λ u. found (header-longer d k (ltb-yes {a = length c} {b = length (outgoingHeader rules e h)} u)))
       (λ u. found (none-holds d k (ltb-no {a = length c} {b = length (outgoingHeader rules e h)} u))))
 
-  module _ (s : InLimits e h) where
+  module _ (s : (length e ≤ 16384) × (length h ≤ 32768)) where
     module _ (m : ℕ) (p : checked rules e ≡ Passed m) where
       passed : EnvelopePasses rules Any e h (written e) (replacements e)
       passed =
           let x = envelope-passed rules e m p in
-          record { limits = s; count = suc m; enough = let k = x .0 in omega arith; lines = x .1 }
+          let enough : 2 ≤ suc m = let k = x .0 in omega arith in
+          none-refused (s .0) (s .1) enough (x .1)
 
       module _ (q : checkedLines h ≡ WellFormed) where
         module _ (r : orcptLine e ≡ Clean) where
           clean : EnvelopePasses rules Ascii e h (written e) (replacements e)
-          clean = record { limits = s; count = suc m; enough = let k = envelope-passed rules e m p .0 in omega arith; lines = envelope-clean rules e m p r }
+          clean =
+              let enough : 2 ≤ suc m = let k = envelope-passed rules e m p .0 in omega arith in
+              none-refused (s .0) (s .1) enough (envelope-clean rules e m p r)
 
           some-held : (held : HeldField) → heldOf rules h ≡ held → Some
           some-held Absent k = some-room (record { limits = s; recipients = m; envelope = p; header = q; orcpt = r; held = k })
@@ -245,11 +256,11 @@ module _ (rules : Rules) (e h b c : List ℕ) where
     some-refused : (fault : Fault) (line : ℕ) → (fault ≡ Malformed → ⊥) → checked rules e ≡ Refused fault line → Some
     some-refused fault line n k =
         let x = envelope-refused rules e fault line n k in
-        found (line-refused (x .more) s (x .is) (x .lines) (x .few) (x .refused))
+        found (line-refused (x .more) (s .0) (s .1) (x .is) (x .lines) (x .few) (x .refused))
 
     some-fault : (fault : Fault) (line : ℕ) → checked rules e ≡ Refused fault line → Some
     some-fault Fine line k = absurd (checked-not-fine rules e line k)
-    some-fault Malformed line k = let x = envelope-malformed-found rules e line k in found (envelope-malformed s (x .is) (x .lines) (x .missing) (x .at))
+    some-fault Malformed line k = let x = envelope-malformed-found rules e line k in found (envelope-malformed (s .0) (s .1) (x .is) (x .lines) (x .missing) (x .at))
     some-fault NoAlternative line k = some-refused NoAlternative line (λ q. absurd (let z : _≡_ {A = ℕ} 0 1 = cc in omega arith)) k
     some-fault BadAlternative line k = some-refused BadAlternative line (λ q. absurd (let z : _≡_ {A = ℕ} 0 1 = cc in omega arith)) k
     some-fault RetiredAlternative line k = some-refused RetiredAlternative line (λ q. absurd (let z : _≡_ {A = ℕ} 0 1 = cc in omega arith)) k
@@ -263,7 +274,7 @@ module _ (rules : Rules) (e h b c : List ℕ) where
       by-test (ltb 16384 (length e)) (λ t. found (envelope-over (ltb-yes {a = 16384} {b = length e} t)))
       (λ t. let k = ltb-no {a = 16384} {b = length e} t in
       by-test (ltb 32768 (length h)) (λ u. found (header-over k (ltb-yes {a = 32768} {b = length h} u)))
-      (λ u. some-envelope (record { envelope = k; header = ltb-no {a = 32768} {b = length h} u }) (checked rules e) refl))
+      (λ u. some-envelope (k, ltb-no {a = 32768} {b = length h} u) (checked rules e) refl))
 
   given-exact : (number input place offset : ℕ) → Given rules e h b c number input place offset → (number ≡ o .number) × (input ≡ o .input) × (place ≡ o .place) × (offset ≡ o .offset)
   unfolding outcome
@@ -296,8 +307,8 @@ module _ (rules : Rules) (e h b c : List ℕ) where
   taken : (number input place offset : ℕ) → Given rules e h b c number input place offset → number ≡ 0 → Taken
   taken number input place offset (envelope-over k) z = absurd (omega arith)
   taken number input place offset (header-over k l) z = absurd (omega arith)
-  taken number input place offset (envelope-malformed s k ls m f) z = absurd (omega arith)
-  taken number input place offset (line-refused more s k ls m f) z = absurd (refusal-number f z (omega arith) (omega arith) (omega arith))
+  taken number input place offset (envelope-malformed s t k ls m f) z = absurd (omega arith)
+  taken number input place offset (line-refused more s t k ls m f) z = absurd (refusal-number f z (omega arith) (omega arith) (omega arith))
   taken number input place offset (header-malformed p k ls m f) z = absurd (omega arith)
   taken number input place offset (orcpt-non-ascii more p q k ls l m) z = absurd (omega arith)
   taken number input place offset (held-non-ascii after p q k ls m) z = absurd (omega arith)
@@ -315,7 +326,7 @@ module _ (rules : Rules) (e h b c : List ℕ) where
     accepted =
         let p = t .passes in
         let s = p .limits in
-        rw (over-no 16384 (length e) EnvelopeOver (s .envelope), over-no 32768 (length h) HeaderOver (s .header), p .envelope, p .header, p .orcpt, p .held, over-no (length b) (length (written e)) (EnvelopeNeeds (length (written e))) (t .envelope-fits), over-no (length c) (length (outgoingHeader rules e h)) (HeaderNeeds (length (outgoingHeader rules e h))) (t .header-fits))
+        rw (over-no 16384 (length e) EnvelopeOver (s .0), over-no 32768 (length h) HeaderOver (s .1), p .envelope, p .header, p .orcpt, p .held, over-no (length b) (length (written e)) (EnvelopeNeeds (length (written e))) (t .envelope-fits), over-no (length c) (length (outgoingHeader rules e h)) (HeaderNeeds (length (outgoingHeader rules e h))) (t .header-fits))
 
     outcome-is : outcomeOf rules Accept e h b c ≡ o
     unfolding outcome
@@ -336,7 +347,7 @@ module _ (rules : Rules) (e h b c : List ℕ) where
       (λ t. success-kept (taken (o .number) (o .input) (o .place) (o .offset) given-answered (eqb→eq (o .number) 0 t)))
       (λ t. refusal-kept (verdict rules e h (length b) (length c)) (eqb-no {a = o .number} {b = 0} t))
 
-  outcome-demand-1 : Demand1 rules e h b c o
+  outcome-demand-1 : Demand1 rules e h b c (answerOf o) (o .envelopeBuffer) (o .headerBuffer)
   unfolding outcome
   outcome-demand-1 = record {
     answered = given-answered;
@@ -378,7 +389,7 @@ module _ (rules : Rules) (e h : List ℕ) (p : Passes rules e h) where
   written-out-ascii = rendered-ascii (outgoingSegments rules e h) segments-sound
 
   module _ (b c : List ℕ) (t : Taken rules e h b c) where
-    outcome-demand-2 : Demand2 rules e h (outcome rules e h b c)
+    outcome-demand-2 : Demand2 rules e h (envelopeOut (outcome rules e h b c)) (headerOut (outcome rules e h b c))
     unfolding outcomeOf outgoingHeader
     outcome-demand-2 =
         let d : Downgraded rules e h (take (length (written e)) (overlay (written e) b)) (outgoingSegments rules e h) =
@@ -390,7 +401,7 @@ module _ (rules : Rules) (e h : List ℕ) (p : Passes rules e h) where
           header = overlay-front (outgoingHeader rules e h) c (t .header-fits);
           envelope-ascii = rw (overlay-front (written e) b (t .envelope-fits)) (written-ascii rules e (p .recipients) (p .envelope) (p .orcpt));
           header-ascii = rw (overlay-front (outgoingHeader rules e h) c (t .header-fits)) written-out-ascii;
-          retired = λ n. (overlay-front (written e) b (t .envelope-fits) ∙ written-kept rules e (p .recipients) n (p .envelope), no-first-fields rules e h d n);
+          retired = λ n. (overlay-front (written e) b (t .envelope-fits) ∙ written-kept rules e (p .recipients) n (p .envelope), no-first-fields rules e h p n);
         })
 
     header-is : headerOut (outcome rules e h b c) ≡ outgoingHeader rules e h
@@ -401,22 +412,18 @@ module _ (rules : Rules) (e h : List ℕ) (p : Passes rules e h) where
         → headerOut (outcome rules e h b c) ≡ rendered before ++ (bytesOf s ++ rendered after)
     segment-there before s after q = header-is ∙ rendered-at before s after q
 
-    segment-demand : (before : List Segment) (s : Segment) (after : List Segment) → outgoingSegments rules e h ≡ before ++ (s ∷ after) → Asked (outcome rules e h b c) before s after
-    segment-demand before (raw bytes) after q = tt
-    segment-demand before (words text) after q = record {
-      row = row text;
-      there = segment-there before (words text) after q;
-      demand = words-demand-3 (outgoingSegments rules e h) text segments-sound (rw q (mem-at before (words text) after));
+    outcome-demand-3 : DemandThree rules e h (envelopeOut (outcome rules e h b c)) (headerOut (outcome rules e h b c))
+    outcome-demand-3 = record {
+      alone = λ before text after d.
+          let q = sym (downgraded-segments rules e h d) in
+          let demand = words-demand-3 (outgoingSegments rules e h) text segments-sound (rw q (mem-at before (words text) after)) in
+          (row text, segment-there before (words text) after q, demand);
+      after-label = λ before label text after d.
+          let q = sym (downgraded-segments rules e h d) in
+          let demand = labelled-demand-3 (outgoingSegments rules e h) label text segments-sound (rw q (mem-at before (labelled label text) after)) in
+          let there = segment-there before (labelled label text) after q ∙ ap (λ (l : List ℕ). rendered before ++ l) (append-assoc label (rowAfter (length label) text) (rendered after)) in
+          (rowAfter (length label) text, there, demand);
     }
-    segment-demand before (labelled label text) after q = record {
-      row = rowAfter (length label) text;
-      there = segment-there before (labelled label text) after q
-          ∙ ap (λ (l : List ℕ). rendered before ++ l) (append-assoc label (rowAfter (length label) text) (rendered after));
-      demand = labelled-demand-3 (outgoingSegments rules e h) label text segments-sound (rw q (mem-at before (labelled label text) after));
-    }
-
-    outcome-demand-3 : DemandThree rules e h (outcome rules e h b c)
-    outcome-demand-3 before s after d = segment-demand before s after (sym (downgraded-segments rules e h d))
 
 -- after 0
 after-zero : (rules : Rules) (e h b c : List ℕ) → outcome rules e h b c .number ≡ 0 → Taken rules e h b c
@@ -429,14 +436,21 @@ pub header-left : (rules : Rules) (e h b c : List ℕ) → outcome rules e h b c
 unfolding outcomeOf
 header-left rules e h b c z = let t = after-zero rules e h b c z in (rw (← outcome-is rules e h b c t), header-is rules e h (t .passes) b c t)
 
+-- the demands on an outcome
+abbrev pub Demanded : Rules → List ℕ → List ℕ → List ℕ → List ℕ → Outcome → Type 0
+Demanded rules e h b c o = Demands rules e h b c (answerOf o) (o .envelopeBuffer) (o .headerBuffer)
+
 -- All three, of every envelope, every header and every two buffers.
-pub demands : (rules : Rules) (e h b c : List ℕ) → Demands rules e h b c (outcome rules e h b c)
+pub demands : (rules : Rules) (e h b c : List ℕ) → Demanded rules e h b c (outcome rules e h b c)
 demands rules e h b c = record {
   demand-1 = outcome-demand-1 rules e h b c;
   demand-2 = λ z. let t = after-zero rules e h b c z in outcome-demand-2 rules e h (t .passes) b c t;
   demand-3 = λ z. let t = after-zero rules e h b c z in outcome-demand-3 rules e h (t .passes) b c t;
 }
 
--- what equals the outcome meets them
-pub met : {rules : Rules} {e h b c : List ℕ} {o : Outcome} → o ≡ outcome rules e h b c → Demands rules e h b c o
-met {rules} {e} {h} {b} {c} q = rw q (demands rules e h b c)
+-- what is observed as the outcome meets them
+pub met : {rules : Rules} {e h b c : List ℕ} {r : Answer} {b′ c′ : List ℕ} → observed r b′ c′ ≡ outcome rules e h b c → Demands rules e h b c r b′ c′
+met {rules} {e} {h} {b} {c} {r} {b′} {c′} q = by-outcome (observed r b′ c′) q
+  where
+    by-outcome : (o : Outcome) → o ≡ outcome rules e h b c → Demanded rules e h b c o
+    by-outcome o q = rw q (demands rules e h b c)

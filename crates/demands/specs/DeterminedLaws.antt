@@ -1,4 +1,4 @@
--- The demands leave nothing open: what meets them is the outcome. So no program that refuses all, answers a fixed envelope, writes
+-- The demands leave nothing open: what meets them is observed as the outcome. So no program that refuses all, answers a fixed envelope, writes
 -- nothing or invents lengths meets them. Assumes nothing.
 use mathlib.Core.Path.{_≡_, refl, ap, sym, _∙_}
 use mathlib.Core.Bool.{Bool, true, false}
@@ -10,9 +10,10 @@ use mir.Facts.{eqb-no}
 use lib.ListN.{length, take, drop, take-append-drop, length-take}
 use Rattle.lists.specs.ListsLaws.{by-test}
 use Rattle.rules.specs.declared.Rules.{Rules}
-use Rattle.call.specs.Outcome.{Outcome, outcome}
-use Rattle.demands.specs.Demands.{KeptPast, Demand1, envelopeOut, headerOut, Demand2, Demands}
-use Rattle.demands.specs.DemandsLaws.{downgraded-out, downgraded-header, demands}
+use Rattle.call.specs.declared.Answer.{Answer}
+use Rattle.call.specs.Outcome.{Outcome, outcome, observed}
+use Rattle.demands.specs.Demands.{KeptPast, Demand1, Demand2, Demands}
+use Rattle.demands.specs.DemandsLaws.{envelopeOut, headerOut, downgraded-out, downgraded-header, Demanded, demands}
 
 same-outcome : {o p : Outcome} → o .number ≡ p .number → o .input ≡ p .input → o .place ≡ p .place → o .offset ≡ p .offset → o .envelopeLen ≡ p .envelopeLen → o .headerLen ≡ p .headerLen
     → o .envelopeBuffer ≡ p .envelopeBuffer → o .headerBuffer ≡ p .headerBuffer → o ≡ p
@@ -40,8 +41,11 @@ same-length k l e = sym (len-written k) ∙ ap length e ∙ len-written l
 untouched : {len : ℕ} {before after : List ℕ} → len ≡ 0 → KeptPast len before after → after ≡ before
 untouched z k = rw z at (k .past)
 
-module _ (rules : Rules) (e h b c : List ℕ) (o : Outcome) (d : Demands rules e h b c o) where
-  meets : Demands rules e h b c (outcome rules e h b c)
+module _ (rules : Rules) (e h b c : List ℕ) (r : Answer) (b′ c′ : List ℕ) (d : Demands rules e h b c r b′ c′) where
+  abbrev o : Outcome
+  o = observed r b′ c′
+
+  meets : Demanded rules e h b c (outcome rules e h b c)
   meets = demands rules e h b c
 
   numbers : (o .number ≡ outcome rules e h b c .number) × (o .input ≡ outcome rules e h b c .input) × (o .place ≡ outcome rules e h b c .place) × (o .offset ≡ outcome rules e h b c .offset)
@@ -75,5 +79,5 @@ module _ (rules : Rules) (e h b c : List ℕ) (o : Outcome) (d : Demands rules e
       (untouched (mine .0) (d .demand-1 .envelope-kept) ∙ sym (untouched (theirs .0) (meets .demand-1 .envelope-kept)))
       (untouched (mine .1) (d .demand-1 .header-kept) ∙ sym (untouched (theirs .1) (meets .demand-1 .header-kept)))
 
-  pub determined : o ≡ outcome rules e h b c
+  pub determined : observed r b′ c′ ≡ outcome rules e h b c
   determined = by-test (eqb (o .number) 0) (λ t. after-zero (eqb→eq (o .number) 0 t)) (λ t. after-refusal (eqb-no {a = o .number} {b = 0} t))

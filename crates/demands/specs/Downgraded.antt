@@ -1,5 +1,4 @@
 -- What is written for an envelope and a header that pass, by the paper's grammar, and what passes. Assumes nothing.
-use mathlib.Core.Path.{_≡_}
 use mathlib.Core.Bool.{true, false, not}
 use mathlib.Core.List.{List, [], _∷_, _++_}
 use Prim.Native.Nat.{ℕ, suc, _+_, _≤_}
@@ -27,17 +26,9 @@ use Rattle.call.specs.OutgoingHeader.{newField}
 
 -- ---- the envelope
 
--- "Envelope at most 16,384 bytes, header 32,768"
-pub record InLimits (e h : List ℕ) : Type 0 where
-  pub envelope : length e ≤ 16384
-  pub header : length h ≤ 32768
-
--- no line is refused: "One MAIL line, then 1 to 100 RCPT lines"
-pub record EnvelopePasses (rules : Rules) (Asked : List ℕ → Type 0) (e h out : List ℕ) (texts : List (List ℕ)) : Type 0 where
-  pub limits : InLimits e h
-  pub count : ℕ
-  pub enough : 2 ≤ count
-  pub lines : EnvelopeLines rules Asked count e out texts
+-- Not "envelope over 16,384 bytes, or header over 32,768", and no line is refused: "One MAIL line, then 1 to 100 RCPT lines".
+pub data EnvelopePasses (rules : Rules) (Asked : List ℕ → Type 0) (e h out : List ℕ) (texts : List (List ℕ)) : Type 0 where
+  none-refused : {n : ℕ} → length e ≤ 16384 → length h ≤ 32768 → 2 ≤ n → EnvelopeLines rules Asked n e out texts → EnvelopePasses rules Asked e h out texts
 
 -- "New first fields: `Downgraded-Mail-From` when the MAIL path was replaced, then `Downgraded-Rcpt-To` when there is exactly one RCPT
 -- line and it was replaced.", by the lines' texts `<old <new>>`
@@ -50,17 +41,17 @@ firstFields (mail ∷ rcpt ∷ next ∷ more) = newField (bytes "Downgraded-Mail
 -- ---- the header
 
 -- a well-formed line at the number n. "Lines count from 0."
-abbrev pub WellFormedAt : ℕ → List ℕ → Type 0
-WellFormedAt n line = T (wellFormed (eqb n 0) line)
+abbrev pub HeaderFormedAt : ℕ → List ℕ → Type 0
+HeaderFormedAt n line = T (wellFormed (eqb n 0) line)
 
 -- the first n lines of a header: "Each line ends in CRLF"
 pub data HeaderLines : ℕ → List ℕ → Type 0 where
   none : HeaderLines 0 []
-  then : {n : ℕ} {before line : List ℕ} → HeaderLines n before → WithCrlf (WellFormedAt n) line → HeaderLines (suc n) (before ++ line)
+  then : {n : ℕ} {before line : List ℕ} → HeaderLines n before → WithCrlf (HeaderFormedAt n) line → HeaderLines (suc n) (before ++ line)
 
 -- What becomes of a field whose value is not ASCII, by the kind of its name. "Plain text: name, colon, encoded words of the text. Every other name is
 -- encapsulated: `Downgraded-` before the name". Date and the others with comments "are held only if non-ASCII stands outside their comments". A
--- Received field is held too "with a line grown past 998 bytes". A field of any other kind is held.
+-- Received field is held too "with a line grown past 998 bytes". Of the kinds Parameterized and Held there is no rule: such a field is held.
 pub data KindBecomes (rules : Rules) (field : List ℕ) : Kind → List Segment → Type 0 where
   address : {segments : List Segment} → AddressField rules (nameOf field) (textOf field) segments → KindBecomes rules field Address segments
   plain-text : KindBecomes rules field PlainText (encodedField false (nameOf field) (textOf field))
@@ -80,18 +71,9 @@ pub data FieldsBecome (rules : Rules) : List (List ℕ) → List Segment → Typ
   then : {field : List ℕ} {fields : List (List ℕ)} {segments more : List Segment} → Becomes rules field segments → FieldsBecome rules fields more
       → FieldsBecome rules (field ∷ fields) (segments ++ more)
 
--- a field is held for which nothing is written
-abbrev pub Held : Rules → List ℕ → Type 0
-Held rules field = (segments : List Segment) → Becomes rules field segments → ⊥
-
 -- ---- both
 
--- Both pass: `out` is the outgoing envelope, and the outgoing header is these segments.
-pub record Downgraded (rules : Rules) (e h out : List ℕ) (segments : List Segment) : Type 0 where
-  pub texts : List (List ℕ)
-  pub envelope : EnvelopePasses rules Ascii e h out texts
-  pub count : ℕ
-  pub lines : HeaderLines count h
-  pub rest : List Segment
-  pub fields : FieldsBecome rules (fieldsOf h) rest
-  pub is : segments ≡ firstFields texts ++ rest
+-- Both pass: `out` is the outgoing envelope, and the outgoing header is these segments, the new first fields before what becomes of the others.
+pub data Downgraded (rules : Rules) (e h out : List ℕ) : List Segment → Type 0 where
+  both-pass : {n : ℕ} {texts : List (List ℕ)} {segments : List Segment} → EnvelopePasses rules Ascii e h out texts → HeaderLines n h → FieldsBecome rules (fieldsOf h) segments
+      → Downgraded rules e h out (firstFields texts ++ segments)

@@ -26,7 +26,7 @@ use Rattle.header.specs.FieldShapeLaws.{Cut, cut-line, well-piece, piece-bytes,
 use Rattle.header_stop.specs.HeaderStop.{lineStop}
 use Rattle.header_stop.specs.HeaderStopLaws.{line-stop, line-stop-alone}
 use Rattle.offset.specs.Offset.{frontLine, headerLineOffset}
-use Rattle.demands.specs.Downgraded.{WellFormedAt, HeaderLines}
+use Rattle.demands.specs.Downgraded.{HeaderFormedAt, HeaderLines}
 
 -- ---- a line at the front
 
@@ -52,7 +52,7 @@ module _ (first : Bool) (text more : List ℕ) (t : T (wellFormed first text)) w
       rw (front-len, drop-at text (13 ∷ 10 ∷ more) (length text) refl, take-at text (13 ∷ 10 ∷ more) (length text) refl, crlf-there) (yes-true (wellFormed first text) t)
 
 -- the line at the front is passed over
-line-past : {line : List ℕ} (n at : ℕ) (more : List ℕ) → WithCrlf (WellFormedAt n) line → linesAt n at (line ++ more) ≡ linesAt (suc n) (at + length line) more
+line-past : {line : List ℕ} (n at : ℕ) (more : List ℕ) → WithCrlf (HeaderFormedAt n) line → linesAt n at (line ++ more) ≡ linesAt (suc n) (at + length line) more
 line-past {line} n at more w =
     let s = w .text ++ (13 ∷ 10 ∷ more) in
     let is : line ++ more ≡ s = rw (w .ends) (append-assoc (w .text) (13 ∷ 10 ∷ []) more) in
@@ -100,7 +100,7 @@ check (suc k) n start (b ∷ rest) l ls =
     by-test (lineOk (eqb n 0) (b ∷ rest))
     (λ t.
     let c = cut-line n (length start) (b ∷ rest) (omega arith) t in
-    let line : WithCrlf (WellFormedAt n) (c .line ++ (13 ∷ 10 ∷ [])) = record { text = c .line; ends = refl; formed = c .well } in
+    let line : WithCrlf (HeaderFormedAt n) (c .line ++ (13 ∷ 10 ∷ [])) = record { text = c .line; ends = refl; formed = c .well } in
     check-past n start (b ∷ rest) c (check k (suc n) (start ++ (c .line ++ (13 ∷ 10 ∷ []))) (c .others) (omega (arith, c .shorter)) (HeaderLines.then ls line)))
     (λ t. rw (front-bad n (length start) (b ∷ rest) (omega arith) (no-false (lineOk (eqb n 0) (b ∷ rest)) t)) (Checked.stopped (b ∷ rest) refl ls (omega arith) t))
 
@@ -153,7 +153,7 @@ pub record MalformedHeader (h : List ℕ) (n offset : ℕ) : Type 0 where
   pub is : h ≡ start ++ rest
   pub lines : HeaderLines n start
   pub some : rest ≡ [] → ⊥
-  pub at : MalformedAt (WellFormedAt n) start rest offset
+  pub at : MalformedAt (HeaderFormedAt n) start rest offset
 
 module _ (h start rest : List ℕ) (n : ℕ) (is : h ≡ start ++ rest) (bad : T (not (lineOk (eqb n 0) rest))) where
   offset-at : headerLineOffset h n (length start) ≡ length start + lineStop (eqb n 0) rest
@@ -163,12 +163,12 @@ module _ (h start rest : List ℕ) (n : ℕ) (is : h ≡ start ++ rest) (bad : T
       rw (left, stop-front (eqb n 0) rest bad)
 
   -- no well-formed line stands at the front
-  none-formed : (line more : List ℕ) → WithCrlf (WellFormedAt n) line → rest ≡ line ++ more → ⊥
+  none-formed : (line more : List ℕ) → WithCrlf (HeaderFormedAt n) line → rest ≡ line ++ more → ⊥
   none-formed line more w e =
       let there : rest ≡ w .text ++ (13 ∷ 10 ∷ more) = e ∙ rw (w .ends) (append-assoc (w .text) (13 ∷ 10 ∷ []) more) in
       T-not (lineOk (eqb n 0) rest) bad (rw there (true-yes (lineOk (eqb n 0) (w .text ++ (13 ∷ 10 ∷ more))) (front-ok (eqb n 0) (w .text) more (w .formed))))
 
-  malformed-at : MalformedAt (WellFormedAt n) start rest (headerLineOffset h n (length start))
+  malformed-at : MalformedAt (HeaderFormedAt n) start rest (headerLineOffset h n (length start))
   malformed-at = record { malformed = none-formed; byte = lineStop (eqb n 0) rest; first = line-stop (eqb n 0) rest; offset-is = offset-at }
 
 pub header-malformed-found : (h : List ℕ) (n at : ℕ) → checkedLines h ≡ Malformed n at → MalformedHeader h n (headerLineOffset h n at)
@@ -182,16 +182,16 @@ some-left : (s : List ℕ) → (s ≡ [] → ⊥) → 0 < length s
 some-left [] some = absurd (some refl)
 some-left (b ∷ s) some = omega arith
 
-not-ok : {start rest : List ℕ} {offset : ℕ} (n : ℕ) → 0 < length rest → MalformedAt (WellFormedAt n) start rest offset → T (not (lineOk (eqb n 0) rest))
+not-ok : {start rest : List ℕ} {offset : ℕ} (n : ℕ) → 0 < length rest → MalformedAt (HeaderFormedAt n) start rest offset → T (not (lineOk (eqb n 0) rest))
 not-ok {rest = rest} n some m =
     by-test (lineOk (eqb n 0) rest)
     (λ t.
     let c = cut-line n 0 rest some t in
-    let line : WithCrlf (WellFormedAt n) (c .line ++ (13 ∷ 10 ∷ [])) = record { text = c .line; ends = refl; formed = c .well } in
+    let line : WithCrlf (HeaderFormedAt n) (c .line ++ (13 ∷ 10 ∷ [])) = record { text = c .line; ends = refl; formed = c .well } in
     absurd (m .malformed (c .line ++ (13 ∷ 10 ∷ [])) (c .others) line (c .is ∙ sym (append-assoc (c .line) (13 ∷ 10 ∷ []) (c .others)))))
     (λ t. t)
 
-pub header-malformed-exact : {h start rest : List ℕ} {n offset : ℕ} → h ≡ start ++ rest → HeaderLines n start → (rest ≡ [] → ⊥) → MalformedAt (WellFormedAt n) start rest offset
+pub header-malformed-exact : {h start rest : List ℕ} {n offset : ℕ} → h ≡ start ++ rest → HeaderLines n start → (rest ≡ [] → ⊥) → MalformedAt (HeaderFormedAt n) start rest offset
     → (checkedLines h ≡ Malformed n (length start)) × (offset ≡ headerLineOffset h n (length start))
 unfolding checkedLines
 header-malformed-exact {h} {start} {rest} {n} {offset} is ls some m =

@@ -14,13 +14,13 @@ use Rattle.demands.specs.Demands.Given.{envelope-over, header-over, enve
 pub never-eight : (rules : Rules) (e h b c : List ℕ) → 30 * length h + 20600 ≤ length c → {number input place offset : ℕ} → Given rules e h b c number input place offset → number ≡ 8 → ⊥
 never-eight rules e h b c r (envelope-over k) z = omega arith
 never-eight rules e h b c r (header-over k l) z = omega arith
-never-eight rules e h b c r (envelope-malformed s k ls m f) z = omega arith
-never-eight rules e h b c r (line-refused more s k ls m f) z = refusal-number f z (omega arith) (omega arith) (omega arith)
+never-eight rules e h b c r (envelope-malformed s t k ls m f) z = omega arith
+never-eight rules e h b c r (line-refused more s t k ls m f) z = refusal-number f z (omega arith) (omega arith) (omega arith)
 never-eight rules e h b c r (header-malformed p k ls m f) z = omega arith
 never-eight rules e h b c r (orcpt-non-ascii more p q k ls l m) z = omega arith
 never-eight rules e h b c r (held-non-ascii after p q k ls m) z = omega arith
 never-eight rules e h b c r (envelope-longer d k) z = omega arith
 never-eight rules e h b c r (header-longer d k l) z =
     let p = downgraded-passes rules e h d in
-    omega (arith, rw (downgraded-header rules e h d) at l, outgoing-le rules e h (p .recipients) (p .envelope) (p .limits .header) (p .header))
+    omega (arith, rw (downgraded-header rules e h d) at l, outgoing-le rules e h (p .recipients) (p .envelope) (p .limits .1) (p .header))
 never-eight rules e h b c r (none-holds d k l) z = omega arith

@@ -1,6 +1,5 @@
 // The three demands on the exported calls: specs/Demands.antt and specs/BatchDemands.antt state them, and here the calls are checked against
 // them.
-ghost use Rattle.call.specs.Outcome.{observed};
 ghost use Rattle.rules.specs.Rules.{settingRules};
 ghost use Rattle.demands.specs.Demands.{Demands};
 ghost use Rattle.demands.specs.BatchDemands.{BatchDemands};
@@ -14,7 +13,7 @@ pub fn downgrade(
     envelope_buffer: &mut [u8],
     header_buffer: &mut [u8],
 ) -> Answer
-    ensures { λ r. ⌜ Demands (settingRules setting) (now (envelope .entry)) (now (header .entry)) (now («envelope_buffer» .entry)) (now («header_buffer» .entry)) (observed r (now («envelope_buffer» .exit)) (now («header_buffer» .exit))) ⌝ }
+    ensures { λ r. ⌜ Demands (settingRules setting) (now (envelope .entry)) (now (header .entry)) (now («envelope_buffer» .entry)) (now («header_buffer» .entry)) r (now («envelope_buffer» .exit)) (now («header_buffer» .exit)) ⌝ }
 {
     hennelaku::hennelaku_downgrade_slices(setting, envelope, header, envelope_buffer, header_buffer)
 }
