@@ -28,6 +28,7 @@ use Rattle.structured_field.specs.StructuredField.{structuredField}
 use Rattle.structured_field.specs.GrammarLaws.{made-reads as structured-reads, reads-made as reads-structured}
 use Rattle.received_token.specs.Tokens.{tokens as receivedTokens}
 use Rattle.received.specs.Received.{isClear, linesFit, passes, receivedField}
+use Rattle.received.specs.LinesLaws.{lines-fit, fit-lines}
 use Rattle.received.specs.GrammarLaws.{made-reads as received-reads, reads-made as reads-received}
 use Rattle.outgoing_field.specs.Fate.{Fate, kindFate, fateOf, segmentsOf, fieldSegments, headerSegments, isHeld, heldFrom, heldOf}
 use Rattle.outgoing_field.specs.Fate.Fate.{held, written}
@@ -58,7 +59,7 @@ module _ (rules : Rules) (field : List ℕ) where
   kind-fated Received =
       cond-has (Fated (KindBecomes rules field Received)) (passes (nameOf field) (valueOf field)) (written (receivedField (nameOf field) (valueOf field))) held
       (λ t. let b = and-yes (all isClear (receivedTokens (valueOf field))) (linesFit (rendered (receivedField (nameOf field) (valueOf field)))) t in
-      Fated.something (KindBecomes.received (reads-received (record { clear = b .0; is = refl })) (b .1)))
+      Fated.something (KindBecomes.received (reads-received (record { clear = b .0; is = refl })) (lines-fit (rendered (receivedField (nameOf field) (valueOf field))) (b .1))))
       (λ t. Fated.nothing)
   kind-fated Commented =
       cond-has (Fated (KindBecomes rules field Commented)) (asciiOutsideComments (valueOf field)) (written (structuredField (nameOf field) (valueOf field))) held
@@ -94,7 +95,7 @@ module _ (rules : Rules) (field : List ℕ) where
       let r = received-reads v in
       let short = rw (r .is) at fit in
       let lines = linesFit (rendered (receivedField (nameOf field) (valueOf field))) in
-      rw (r .is, yes-true (all isClear (receivedTokens (valueOf field)) && lines) (yes-and (all isClear (receivedTokens (valueOf field))) lines (r .clear) short))
+      rw (r .is, yes-true (all isClear (receivedTokens (valueOf field)) && lines) (yes-and (all isClear (receivedTokens (valueOf field))) lines (r .clear) (fit-lines (rendered (receivedField (nameOf field) (valueOf field))) short)))
 
   pub becomes-exact : {segments : List Segment} → Becomes rules field segments → fateOf rules field ≡ written segments
   unfolding fateOf

@@ -20,8 +20,7 @@ use Rattle.header_name.specs.Names.{kindOf}
 use Rattle.field.specs.Field.{encodedField, named}
 use Rattle.address_grammar.specs.AddressField.{AddressField}
 use Rattle.structured_field.specs.Grammar.{StructuredValue}
-use Rattle.received.specs.Received.{linesFit}
-use Rattle.received.specs.Grammar.{ReceivedValue}
+use Rattle.received.specs.Grammar.{ReceivedValue, LinesFit}
 use Rattle.call.specs.OutgoingHeader.{newField}
 
 -- ---- the envelope
@@ -57,7 +56,7 @@ pub data KindBecomes (rules : Rules) (field : List ℕ) : Kind → List Segment 
   plain-text : KindBecomes rules field PlainText (encodedField false (nameOf field) (textOf field))
   other : KindBecomes rules field Other (encodedField true (nameOf field) (textOf field))
   commented : {segments : List Segment} → StructuredValue (valueOf field) segments → KindBecomes rules field Commented (named (nameOf field) segments)
-  received : {segments : List Segment} → ReceivedValue (valueOf field) segments → T (linesFit (rendered (named (nameOf field) segments)))
+  received : {segments : List Segment} → ReceivedValue (valueOf field) segments → LinesFit (rendered (named (nameOf field) segments))
       → KindBecomes rules field Received (named (nameOf field) segments)
 
 -- "A field whose value is ASCII is copied."

@@ -1,7 +1,7 @@
 -- The grammar makes exactly the values of which every token is clear, and `valueSegments` gives what becomes of each. Assumes nothing.
 use borrow.Author.Tests.{eqb-false}
 use mathlib.Core.Path.{_≡_, refl, sym, _∙_}
-use mathlib.Core.Bool.{Bool, true, false, not, _||_}
+use mathlib.Core.Bool.{Bool, true, false, not, _||_, and-false}
 use mathlib.Core.List.{List, [], _∷_, _++_, map}
 use Prim.Native.Nat.{ℕ, zero, suc, _≤_, _<_}
 use native.Mathlib.Nat.{not-suc-le-zero}
@@ -21,14 +21,14 @@ use Rattle.comment.specs.Parts.{parts}
 use Rattle.structured_field.specs.Grammar.{AfterQuote}
 use Rattle.structured_field.specs.GrammarLaws.{Front, front, neither-second, byte-other, string-other, cut-at, comment-some}
 use Rattle.structured_field.specs.StructuredField.{partSegments}
-use Rattle.received_token.specs.Clause.{isWhite, forLen}
+use Rattle.received_token.specs.Clause.{isWhite, forLen, isClause, isRemoved}
 use Rattle.received_token.specs.Grammar.{Clause}
 use Rattle.received_token.specs.GrammarLaws.{clause-some}
 use Rattle.received_token.specs.Tokens.{unclosedLen, leftLen, tokensFrom, tokens}
 use Rattle.received_token.specs.TokensLaws.{lone-paren, no-token, open-not-for}
 use Rattle.received.specs.Received.{tokenSegments, leftSegments, valueSegments, isClear}
-use Rattle.received.specs.Grammar.{clauseSegments, White, Left, ReceivedValue}
-use Rattle.received.specs.TokenGrammarLaws.{white-no-for, clause-at, PlainToken, byte-plain, string-plain, for-plain, clause-plain, white-first, white-plain, first-same, Fits, plain-left, plain-fits, comment-fits, comment-left, open-left, open-fits, other-clear, other-segments, byte-no-for, none-for, string-no-for, white-open, white-other, white-clear, white-segments, clause-clear, clause-segments, comment-clear, comment-segments, ForFront, for-front}
+use Rattle.received.specs.Grammar.{clauseSegments, RestOfValue, ReceivedValue}
+use Rattle.received.specs.TokenGrammarLaws.{no-for, White, white-then, white-no-for, clause-at, PlainToken, byte-plain, string-plain, for-plain, clause-plain, white-first, white-plain, first-same, Fits, plain-left, plain-fits, comment-fits, comment-left, open-left, open-fits, other-clear, other-segments, byte-no-for, none-for, string-no-for, white-open, white-other, white-clear, white-segments, clause-clear, clause-segments, comment-clear, comment-segments, ForFront, for-front}
 
 -- ---- what is left of a value
 
@@ -68,7 +68,7 @@ module _ (b : ℕ) (o : T (not (eqb b 34 || eqb b 40))) where
   clear-of h = rw (other-clear (b ∷ []) (byte-other b no-paren) (byte-no-for b)) (yes-and (isAscii b) true h tt)
 
   byte-segments : T (isAscii b) → raw (b ∷ []) ∷ [] ≡ tokenSegments (b ∷ [])
-  byte-segments h = other-segments (b ∷ []) (byte-other b no-paren) (byte-no-for b) (yes-and (isAscii b) true h tt)
+  byte-segments h = other-segments (b ∷ []) (byte-other b no-paren) (byte-no-for b) tt (yes-and (isAscii b) true h tt)
 
 quote-other : _≡_ {A = ℕ} 34 40 → ⊥
 quote-other e = not-suc-le-zero {n = 0} (omega arith)
@@ -80,26 +80,27 @@ open-clear : T (isClear (40 ∷ []))
 open-clear = rw (other-clear (40 ∷ []) lone-paren (open-not-for [])) tt
 
 open-segments : raw (40 ∷ []) ∷ [] ≡ tokenSegments (40 ∷ [])
-open-segments = other-segments (40 ∷ []) lone-paren (open-not-for []) tt
+open-segments = other-segments (40 ∷ []) lone-paren (open-not-for []) tt tt
 
 -- a token that is no parenthesis, and what is left after it
 plain-next : (comments : Bool) (k : ℕ) (t more : List ℕ) {p q : List Segment} → 0 < length t → (getD t 0 0 ≡ 40 → ⊥) → PlainToken t more → T (isClear t) → p ≡ tokenSegments t
     → Fits comments k (t ++ more) → (Fits comments k more → LeftReads k more q) → LeftReads k (t ++ more) (p ++ q)
 plain-next comments k t more some o m c e h r = left-next k t more some (plain-left t more some o m k) c e (r (plain-fits t more some o m comments k h))
 
-left-reads : {comments : Bool} {text : List ℕ} {segments : List Segment} → Left comments text segments → (k : ℕ) → Fits comments k text → LeftReads k text segments
-left-reads Left.end k h = left-none k
-left-reads (Left.byte {comments} {b} {more} a w o v) k h =
+left-reads : {comments : Bool} {text : List ℕ} {segments : List Segment} → RestOfValue comments text segments → (k : ℕ) → Fits comments k text → LeftReads k text segments
+left-reads RestOfValue.end k h = left-none k
+left-reads (RestOfValue.byte {comments} {b} {more} a w o v) k h =
     plain-next comments k (b ∷ []) more (omega arith) (no-paren b o) (byte-plain b more w o) (clear-of b o a) (byte-segments b o a) h (λ f. left-reads v k f)
-left-reads (Left.white {comments} {w} {more} n x v) k h =
+left-reads (RestOfValue.white {comments} {w} {more} n b s v) k h =
+    let x : White w more = record { bytes = b; whole = s } in
     plain-next comments k w more (white-first w n (x .bytes) .0) (white-other n x) (white-plain n x) (white-clear n x) (white-segments n x) h (λ f. left-reads v k f)
-left-reads (Left.clause {comments} {c} {more} g w v) k h =
+left-reads (RestOfValue.clause {comments} {c} {more} g w v) k h =
     plain-next comments k c more (clause-some g) (white-open c w) (clause-plain g more w) (clause-clear g) (clause-segments g) h (λ f. left-reads v k f)
-left-reads (Left.string {comments} {s} {more} a q v) k h =
-    plain-next comments k (34 ∷ s) more (omega arith) quote-other (string-plain a) (rw (string-clear s) q) (other-segments (34 ∷ s) (string-other s) (string-no-for s) q) h (λ f. left-reads v k f)
-left-reads (Left.comment {c} {more} i v) k h =
+left-reads (RestOfValue.string {comments} {s} {more} a q v) k h =
+    plain-next comments k (34 ∷ s) more (omega arith) quote-other (string-plain a) (rw (string-clear s) q) (other-segments (34 ∷ s) (string-other s) (string-no-for s) tt q) h (λ f. left-reads v k f)
+left-reads (RestOfValue.comment {c} {more} i v) k h =
     left-next k c more (comment-some i) (comment-left i more k h) (comment-clear i) (comment-segments i) (left-reads v k (comment-fits i more k h))
-left-reads (Left.unclosed {comments} {s} n v) k h =
+left-reads (RestOfValue.unclosed {comments} {s} n v) k h =
     let there = open-fits comments s k n h in
     left-next k (40 ∷ []) s (omega arith) (open-left s k there) open-clear open-segments (left-reads v k (omega arith))
 
@@ -139,7 +140,7 @@ left-front comments b s = by-test (isWhite b) (white-front (for-front (b ∷ s))
 
 record LeftMade (comments : Bool) (text : List ℕ) : Type 0 where
   segments : List Segment
-  is : Left comments text segments
+  is : RestOfValue comments text segments
 
 abbrev Shorter : ℕ → List ℕ → Type 0
 Shorter k text = (comments : Bool) (more : List ℕ) → length more < length text → Fits comments k more → T (all isClear (tokensFrom k more)) → LeftMade comments more
@@ -148,7 +149,7 @@ Shorter k text = (comments : Bool) (more : List ℕ) → length more < length te
 record Parted (comments : Bool) (t more : List ℕ) : Type 0 where
   clear : T (isClear t)
   segments : List Segment
-  made : Left comments more segments
+  made : RestOfValue comments more segments
 
 parted : (comments : Bool) (k : ℕ) (t more : List ℕ) → 0 < length t → (getD t 0 0 ≡ 40 → ⊥) → PlainToken t more → Shorter k (t ++ more) → Fits comments k (t ++ more)
     → T (all isClear (tokensFrom k (t ++ more))) → Parted comments t more
@@ -160,31 +161,31 @@ parted comments k t more some o m ih h c =
 made-at : {comments : Bool} {text : List ℕ} → LeftFront comments text → (k : ℕ) → Shorter k text → Fits comments k text → T (all isClear (tokensFrom k text)) → LeftMade comments text
 made-at (LeftFront.byte {comments} {b} {more} w o) k ih h c =
     let x = parted comments k (b ∷ []) more (omega arith) (no-paren b o) (byte-plain b more w o) ih h c in
-    record { segments = raw (b ∷ []) ∷ x .segments; is = Left.byte (ascii-of b o (x .clear)) w o (x .made) }
+    record { segments = raw (b ∷ []) ∷ x .segments; is = RestOfValue.byte (ascii-of b o (x .clear)) w o (x .made) }
 made-at (LeftFront.white {comments} {w} {more} n v) k ih h c =
     let x = parted comments k w more (white-first w n (v .bytes) .0) (white-other n v) (white-plain n v) ih h c in
-    record { segments = raw w ∷ x .segments; is = Left.white n v (x .made) }
+    record { segments = raw w ∷ x .segments; is = RestOfValue.white n (v .bytes) (v .whole) (x .made) }
 made-at (LeftFront.clause {comments} {c = w} g v more) k ih h c =
     let x = parted comments k w more (clause-some g) (white-open w v) (clause-plain g more v) ih h c in
-    record { segments = clauseSegments w ++ x .segments; is = Left.clause g v (x .made) }
+    record { segments = clauseSegments w ++ x .segments; is = RestOfValue.clause g v (x .made) }
 made-at (LeftFront.bare {comments} t more some w e held) k ih h c =
     let x = parted comments k t more some (white-open t w) (for-plain t more some w e) ih h c in
     absurd (rw held at (x .clear))
 made-at (LeftFront.string {comments} {s} {more} a) k ih h c =
     let x = parted comments k (34 ∷ s) more (omega arith) quote-other (string-plain a) ih h c in
-    record { segments = raw (34 ∷ s) ∷ x .segments; is = Left.string a (rw (string-clear s) at (x .clear)) (x .made) }
+    record { segments = raw (34 ∷ s) ∷ x .segments; is = RestOfValue.string a (rw (string-clear s) at (x .clear)) (x .made) }
 made-at (LeftFront.comment {c = w} i more) k ih h c =
     let both = clear-next k w more (comment-some i) (comment-left i more k h) c in
     let left = ih true more (omega (arith, length-append w more, comment-some i)) (comment-fits i more k h) (both .1) in
-    record { segments = joined (map partSegments (parts w)) ++ left .segments; is = Left.comment i (left .is) }
+    record { segments = joined (map partSegments (parts w)) ++ left .segments; is = RestOfValue.comment i (left .is) }
 made-at (LeftFront.unclosed {comments} {s} n) k ih h c =
     let there = open-fits comments s k n h in
     let both = clear-next k (40 ∷ []) s (omega arith) (open-left s k there) c in
     let left = ih false s (omega arith) (omega arith) (both .1) in
-    record { segments = raw (40 ∷ []) ∷ left .segments; is = Left.unclosed n (left .is) }
+    record { segments = raw (40 ∷ []) ∷ left .segments; is = RestOfValue.unclosed n (left .is) }
 
 made-step : (comments : Bool) (k : ℕ) (text : List ℕ) → Shorter k text → Fits comments k text → T (all isClear (tokensFrom k text)) → LeftMade comments text
-made-step comments k [] ih h c = record { segments = []; is = Left.end }
+made-step comments k [] ih h c = record { segments = []; is = RestOfValue.end }
 made-step comments k (b ∷ s) ih h c = made-at (left-front comments b s) k ih h c
 
 made-by : (k n : ℕ) (comments : Bool) (text : List ℕ) → length text ≤ n → Fits comments k text → T (all isClear (tokensFrom k text)) → LeftMade comments text
@@ -218,15 +219,15 @@ module _ (t more : List ℕ) (e : forLen (t ++ more) ≡ length t) where
 none-clear : T (isClear [])
 none-clear = rw (other-clear [] no-token none-for) tt
 
-none-segments : raw [] ∷ [] ≡ tokenSegments []
-none-segments = other-segments [] no-token none-for tt
+none-segments : [] ≡ tokenSegments []
+unfolding tokenSegments isRemoved
+none-segments = rw (no-token, and-false (isClause []))
 
 -- the values that the grammar makes read so
 pub made-reads : {text : List ℕ} {segments : List Segment} → ReceivedValue text segments → Reads text segments
 made-reads (ReceivedValue.clause {c} {more} g v) =
     value-reads c more (clause-at g more) (clause-clear g) (clause-segments g) (left-reads v (unclosedLen more) refl)
-made-reads (ReceivedValue.other {w} {more} x v) =
-    value-reads [] (w ++ more) (white-no-for x) none-clear none-segments (left-reads v (unclosedLen (w ++ more)) refl)
+made-reads (ReceivedValue.other {v} n r) = value-reads [] v (no-for v n) none-clear none-segments (left-reads r (unclosedLen v) refl)
 
 record Made (text : List ℕ) : Type 0 where
   segments : List Segment
@@ -239,7 +240,7 @@ value-made (ForFront.clause {c} g more) h =
 value-made (ForFront.bare t more some e held) h = absurd (rw held at (value-clear t more e h .0))
 value-made (ForFront.none {w} {more} x) h =
     let left = value-clear [] (w ++ more) (white-no-for x) h .1 in
-    record { segments = raw [] ∷ left .segments; is = ReceivedValue.other x (left .is) }
+    record { segments = left .segments; is = ReceivedValue.other (white-then x) (left .is) }
 
 -- and the grammar makes every value that reads so
 pub reads-made : {text : List ℕ} {segments : List Segment} → Reads text segments → ReceivedValue text segments

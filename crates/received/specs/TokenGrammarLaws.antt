@@ -34,7 +34,7 @@ use Rattle.received_token.specs.GrammarLaws.{white-low, clause-taken, taken-cla
 use Rattle.received_token.specs.Tokens.{plainLen, commentedLen, isUnclosed, unclosedOf, unclosedLen, leftLen, Measured}
 use Rattle.received_token.specs.TokensLaws.{Next, plain-for, plain-white, plain-open, commented-plain, left-plain, left-commented, unclosed-here, first-other}
 use Rattle.received.specs.Received.{tokenSegments, isClear}
-use Rattle.received.specs.Grammar.{clauseSegments, White}
+use Rattle.received.specs.Grammar.{clauseSegments}
 
 -- ---- white space and clauses at the front of a text
 
@@ -50,17 +50,27 @@ white-stops (b ∷ s) =
     let k = white-stops s in
     cond-has (λ n. isWhite (getD (drop n (b ∷ s)) 0 0) ≡ false) (isWhite b) (suc (run isWhite s)) 0 (λ t. k) (λ t. no-false (isWhite b) t)
 
+pub no-for : (s : List ℕ) → T (not (isFor (drop (run isWhite s) s))) → forLen s ≡ 0
+unfolding forLen whiteLen
+no-for s h = rw (no-false (isFor (drop (run isWhite s) s)) h)
+
+-- white space and what follows it: neither more white space nor a for
+pub record White (white more : List ℕ) : Type 0 where
+  pub bytes : T (all isWhite white)
+  pub whole : T (not (isWhite (getD more 0 0) || isFor more))
+
 module _ {w more : List ℕ} (x : White w more) where
   stops : T (not (isWhite (getD more 0 0))) × T (not (isFor more))
   stops = or-no (isWhite (getD more 0 0)) (isFor more) (x .whole)
 
-  pub white-at : whiteLen (w ++ more) ≡ length w
-  unfolding whiteLen
+  pub white-at : run isWhite (w ++ more) ≡ length w
   white-at = run-past isWhite w more (x .bytes) ∙ omega (arith, run-none more (stops .0))
 
+  pub white-then : T (not (isFor (drop (run isWhite (w ++ more)) (w ++ more))))
+  white-then = rw (white-at, drop-append-seam w more) (stops .1)
+
   pub white-no-for : forLen (w ++ more) ≡ 0
-  unfolding forLen
-  white-no-for = rw (white-at, drop-append-seam w more, no-false (isFor more) (stops .1))
+  white-no-for = no-for (w ++ more) white-then
 
   alone : White w []
   unfolding isFor sameAnyCase bytes
@@ -117,6 +127,7 @@ white-first [] n h = absurd n
 white-first (b ∷ w) n h = (omega arith, and-yes (isWhite b) (all isWhite w) h .0)
 
 pub white-plain : {w more : List ℕ} → T (nonempty w) → White w more → PlainToken w more
+unfolding whiteLen
 white-plain {w} {more} n x =
     let first = white-first w n (x .bytes) in
     plain-white (w ++ more) (longer w more (first .0)) (first-white w more (first .0) (first .1)) 0 (sym (white-no-for x)) refl (length w) (sym (white-at x))
@@ -212,9 +223,9 @@ module _ (t : List ℕ) (o : isComment t ≡ false) (f : forLen t ≡ 0) where
   unfolding isClear
   other-clear = rw (o, f)
 
-  pub other-segments : T (all isAscii t) → raw t ∷ [] ≡ tokenSegments t
+  pub other-segments : T (nonempty t) → T (all isAscii t) → raw t ∷ [] ≡ tokenSegments t
   unfolding tokenSegments isRemoved
-  other-segments h = rw (o, yes-true (all isAscii t) h, and-false (isClause t))
+  other-segments n h = rw (o, yes-true (all isAscii t) h, and-false (isClause t), yes-true (nonempty t) n)
 
 pub no-comment : (t : List ℕ) → (getD t 0 0 ≡ 40 → ⊥) → isComment t ≡ false
 unfolding isComment commentLen
@@ -245,9 +256,13 @@ module _ {w more : List ℕ} (n : T (nonempty w)) (x : White w more) where
   white-clear = rw (other-clear w (no-comment w white-other) (white-alone x)) (white-ascii w (x .bytes))
 
   pub white-segments : raw w ∷ [] ≡ tokenSegments w
-  white-segments = other-segments w (no-comment w white-other) (white-alone x) (white-ascii w (x .bytes))
+  white-segments = other-segments w (no-comment w white-other) (white-alone x) n (white-ascii w (x .bytes))
 
-cond-not : {X : Type 0} (a : Bool) (x y : X) → cond a x y ≡ cond (not a) y x
+some-nonempty : (t : List ℕ) → 0 < length t → nonempty t ≡ true
+some-nonempty [] h = absurd (not-suc-le-zero {n = 0} h)
+some-nonempty (b ∷ t) h = refl
+
+cond-not : {X : Type 0} (a : Bool) (x y : X) → cond a x y ≡ cond (not a || false) y x
 cond-not true x y = refl
 cond-not false x y = refl
 
@@ -270,7 +285,7 @@ module _ {c : List ℕ} (g : Clause c) where
 
   pub clause-segments : clauseSegments c ≡ tokenSegments c
   unfolding tokenSegments isRemoved
-  clause-segments = rw (clause-other, clause-whole) (cond-not (all isAscii c) (raw c ∷ []) [])
+  clause-segments = rw (clause-other, clause-whole, some-nonempty c (clause-some g)) (cond-not (all isAscii c) (raw c ∷ []) [])
 
 module _ {c : List ℕ} (i : Comment c) where
   pub comment-clear : T (isClear c)
