@@ -88,12 +88,12 @@ pub data Items (rules : Rules) : List ℕ → List Segment → Bool → Type 0 w
       → Items rules (i ++ (44 ∷ (g ++ is))) (p ++ (raw (44 ∷ []) ∷ (q ++ r))) (c || changed)
 
 -- comments "at the start of an address list", and the list
-pub data AddressValue (rules : Rules) : List ℕ → List Segment → Bool → Type 0 where
-  value : {g is : List ℕ} {p q : List Segment} {changed : Bool} → Gap g p → Items rules is q changed → AddressValue rules (g ++ is) (p ++ q) changed
+pub data ListText (rules : Rules) : List ℕ → List Segment → Bool → Type 0 where
+  list : {g is : List ℕ} {p q : List Segment} {changed : Bool} → Gap g p → Items rules is q changed → ListText rules (g ++ is) (p ++ q) changed
 
 -- What a field with this name and text becomes. "If any address was replaced or removed, a `Downgraded-` field with encoded words of
 -- the original text follows the rewritten field." "Text that does not fit is encapsulated."
 pub data AddressField (rules : Rules) (name text : List ℕ) : List Segment → Type 0 where
-  kept : {pieces : List Segment} → AddressValue rules text pieces false → AddressField rules name text (namedField name pieces)
-  changed : {pieces : List Segment} → AddressValue rules text pieces true → AddressField rules name text (namedField name pieces ++ encodedField true name text)
-  unfit : ((pieces : List Segment) (c : Bool) → AddressValue rules text pieces c → ⊥) → AddressField rules name text (encodedField true name text)
+  without-copy : {pieces : List Segment} → ListText rules text pieces false → AddressField rules name text (namedField name pieces)
+  with-copy : {pieces : List Segment} → ListText rules text pieces true → AddressField rules name text (namedField name pieces ++ encodedField true name text)
+  encapsulated : ((pieces : List Segment) (c : Bool) → ListText rules text pieces c → ⊥) → AddressField rules name text (encodedField true name text)

@@ -17,7 +17,7 @@ use Rattle.address_grammar.specs.PartGrammar.{AddressList}
 use Rattle.address_grammar.specs.PartGrammarLaws.{parts-made, parts-joined}
 use Rattle.address_grammar.specs.GrammarLaws.{fits-made, examined-is, kept-examined, changed-examined}
 use Rattle.address_grammar.specs.FittingLaws.{one-reading, listed-fits, unfit-text, text-unfit}
-use Rattle.address_grammar.specs.AddressField.{AddressValue, AddressField}
+use Rattle.address_grammar.specs.AddressField.{ListText, AddressField}
 use Rattle.address_grammar.specs.PartListLaws.{written, WrittenParts}
 use Rattle.address_grammar.specs.FormPartsLaws.{value-parts}
 use Rattle.address_grammar.specs.PartsFormLaws.{value-formed}
@@ -32,7 +32,7 @@ written-whole {ps = ps} {segments = segments} w = rw (append-nil ps, append-nil 
 
 -- ---- a text that the grammar makes
 
-module _ {rules : Rules} {text : List ℕ} {pieces : List Segment} {changed : Bool} (v : AddressValue rules text pieces changed) where
+module _ {rules : Rules} {text : List ℕ} {pieces : List Segment} {changed : Bool} (v : ListText rules text pieces changed) where
   pub value-list : AddressList rules text
   value-list = let p = value-parts v in record { parts = p .parts; kinds = p .kinds; each = p .written .each; joined = p .written .joined }
 
@@ -49,22 +49,22 @@ module _ {rules : Rules} {text : List ℕ} {pieces : List Segment} {changed : Bo
 -- ---- a text that fits
 
 module _ (rules : Rules) (text : List ℕ) where
-  pub fitting-value : fits rules text ≡ true → AddressValue rules text (writtenPieces rules text) (anyChanges (partsOf rules text))
+  pub fitting-value : fits rules text ≡ true → ListText rules text (writtenPieces rules text) (anyChanges (partsOf rules text))
   fitting-value h =
       let f = value-formed (partsOf rules text) (parts-made rules text) (fits-made rules text h) in
       let same : f .text ≡ text = sym (f .written .joined) ∙ parts-joined rules text in
       rw (written-whole (f .written), f .written .changed-is) (rw same at (f .form))
 
-  pub kept-value : examined rules text ≡ Kept → AddressValue rules text (writtenPieces rules text) false
+  pub kept-value : examined rules text ≡ Kept → ListText rules text (writtenPieces rules text) false
   kept-value h = let k = kept-examined rules text h in rw (k .1) at (fitting-value (k .0))
 
-  pub changed-value : examined rules text ≡ Changed → AddressValue rules text (writtenPieces rules text) true
+  pub changed-value : examined rules text ≡ Changed → ListText rules text (writtenPieces rules text) true
   changed-value h = let k = changed-examined rules text h in rw (k .1) at (fitting-value (k .0))
 
-  pub unfit-value : {pieces : List Segment} {changed : Bool} → examined rules text ≡ DoesNotFit → AddressValue rules text pieces changed → ⊥
+  pub unfit-value : {pieces : List Segment} {changed : Bool} → examined rules text ≡ DoesNotFit → ListText rules text pieces changed → ⊥
   unfit-value h v = unfit-text rules text h (value-list v)
 
-  pub value-unfit : ((pieces : List Segment) (changed : Bool) → AddressValue rules text pieces changed → ⊥) → examined rules text ≡ DoesNotFit
+  pub value-unfit : ((pieces : List Segment) (changed : Bool) → ListText rules text pieces changed → ⊥) → examined rules text ≡ DoesNotFit
   value-unfit none = text-unfit rules text (λ l. none (writtenPieces rules text) (anyChanges (partsOf rules text)) (fitting-value (listed-fits rules text l)))
 
 -- ---- what a field becomes
@@ -80,13 +80,13 @@ module _ (rules : Rules) (name text : List ℕ) where
   field-made = go (examined rules text) refl
     where
       go : (e : Examined) → examined rules text ≡ e → AddressField rules name text (fieldBy e rules name text)
-      go Kept h = rw (← rewritten-pieces) (AddressField.kept (kept-value rules text h))
-      go Changed h = rw (← rewritten-pieces) (AddressField.changed (changed-value rules text h))
-      go DoesNotFit h = AddressField.unfit (λ pieces c v. unfit-value rules text h v)
+      go Kept h = rw (← rewritten-pieces) (AddressField.without-copy (kept-value rules text h))
+      go Changed h = rw (← rewritten-pieces) (AddressField.with-copy (changed-value rules text h))
+      go DoesNotFit h = AddressField.encapsulated (λ pieces c v. unfit-value rules text h v)
 
   -- and it makes nothing else
   pub field-only : {segments : List Segment} → AddressField rules name text segments → addressField rules name text ≡ segments
   unfolding addressField fieldBy
-  field-only (AddressField.kept v) = rw (value-examined v, ← rewritten-pieces, value-pieces v)
-  field-only (AddressField.changed v) = rw (value-examined v, ← rewritten-pieces, value-pieces v)
-  field-only (AddressField.unfit none) = rw (value-unfit rules text none)
+  field-only (AddressField.without-copy v) = rw (value-examined v, ← rewritten-pieces, value-pieces v)
+  field-only (AddressField.with-copy v) = rw (value-examined v, ← rewritten-pieces, value-pieces v)
+  field-only (AddressField.encapsulated none) = rw (value-unfit rules text none)

@@ -21,7 +21,7 @@ use Rattle.address_list.specs.declared.PartKind.the-variants.{Blank, Comment, C
 use Rattle.group.specs.Group.{isLost}
 use Rattle.address_pieces.specs.Pieces.{phrasePieces, pieces}
 use Rattle.address_grammar.specs.PartGrammar.{IsPart, AngledText, AlternativeText}
-use Rattle.address_grammar.specs.AddressField.{Gap, Phrase, InAngles, Mailbox, Mailboxes, Members, Item, Items, AddressValue}
+use Rattle.address_grammar.specs.AddressField.{Gap, Phrase, InAngles, Mailbox, Mailboxes, Members, Item, Items, ListText}
 use Rattle.address_grammar.specs.PartListLaws.{part, isUnmarked, colon, semicolon, kinds-append, PlainParts, plain-none, plain-one, plain-both, WrittenParts, plain-written, written-both, group-written, lost-written}
 use Rattle.address_grammar.specs.PhraseWordsLaws.{words-phrase, words-are, text-is}
 
@@ -222,8 +222,8 @@ module _ {rules : Rules} where
         kinds = items-then (a .parts) (d .parts) (a .kinds) (b .parts) (b .kinds) (d .kinds);
       }
 
-  pub value-parts : {t : List ℕ} {p : List Segment} {c : Bool} → AddressValue rules t p c → ItemParted rules ItemsKinds t p c
-  value-parts (AddressValue.value g h) =
+  pub value-parts : {t : List ℕ} {p : List Segment} {c : Bool} → ListText rules t p c → ItemParted rules ItemsKinds t p c
+  value-parts (ListText.list g h) =
       let a = gap-parts {rules = rules} g in
       let b = items-parts h in
       record {

@@ -22,7 +22,7 @@ use Rattle.address_list.specs.declared.PartKind.the-variants.{Blank, Comment, C
 use Rattle.group.specs.Group.{isLost}
 use Rattle.address_pieces.specs.Pieces.{phrasePieces, inAngles, addressPieces, pieces}
 use Rattle.address_grammar.specs.PartGrammar.{PhraseText, AlternativeText, IsPart, EachIsPart}
-use Rattle.address_grammar.specs.AddressField.{Gap, Phrase, InAngles, Mailbox, Mailboxes, Members, Item, Items, AddressValue}
+use Rattle.address_grammar.specs.AddressField.{Gap, Phrase, InAngles, Mailbox, Mailboxes, Members, Item, Items, ListText}
 use Rattle.address_grammar.specs.PartListLaws.{part, colon, semicolon, PlainParts, plain-none, plain-one, plain-both, WrittenParts, plain-written, written-both, group-written, lost-written}
 use Rattle.address_grammar.specs.PhraseWordsLaws.{phrase-words, words-are, text-is}
 use Rattle.address_grammar.specs.FormPartsLaws.{inner}
@@ -318,8 +318,8 @@ module _ {rules : Rules} where
         written = written-both (x .written) (written-both (plain-written (plain-one Comma refl tt)) (written-both (plain-written (d .gap-is .plain)) (y .written)));
       })
 
-  pub value-formed : (ps : List Part) → EachIsPart rules ps → ItemsKinds (kindsOf ps) → ItemFormed rules (AddressValue rules) ps
+  pub value-formed : (ps : List Part) → EachIsPart rules ps → ItemsKinds (kindsOf ps) → ItemFormed rules (ListText rules) ps
   value-formed ps e k =
       let a = gap-first ps e in
       let f = items-formed k (a .rest) (a .parts) in
-      rw (a .made) (record { text = _; segments = _; changed = _; form = AddressValue.value (a .gap-is .form) (f .form); written = written-both (plain-written (a .gap-is .plain)) (f .written) })
+      rw (a .made) (record { text = _; segments = _; changed = _; form = ListText.list (a .gap-is .form) (f .form); written = written-both (plain-written (a .gap-is .plain)) (f .written) })
