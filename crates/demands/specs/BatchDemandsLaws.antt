@@ -1,6 +1,6 @@
 -- The demands on a batch hold of `batch`, and leave nothing open: what meets them is `batch`. Assumes nothing.
 use mathlib.Core.Path.{_≡_, sym, _∙_}
-use mathlib.Core.Logic.{_⊎_, ⊎-elim}
+use mathlib.Core.Logic.{⊎-elim}
 use mathlib.Core.Logic._⊎_.{inl, inr}
 use mathlib.Core.List.{List, [], _∷_}
 use Prim.Native.Nat.{ℕ, _+_, _≤_, _<_}
@@ -42,8 +42,8 @@ batch-demands rules input (s ∷ l ∷ t ∷ m ∷ v ∷ w ∷ x ∷ y ∷ []) b
 batch-demands rules input (s ∷ l ∷ t ∷ m ∷ v ∷ w ∷ x ∷ y ∷ z ∷ more) b c =
     let first = by-first-record rules input s l t m v w x y z more b c in
     by-range rules input s l t m b c
-    (λ k q. rw (first, q) (past-end {start₁ = s} {len₁ = l} {start₂ = t} {len₂ = m} (inl k) (batch-demands rules input more b c)))
-    (λ k q. rw (first, q) (past-end {start₁ = s} {len₁ = l} {start₂ = t} {len₂ = m} (inr k) (batch-demands rules input more b c)))
+    (λ k q. rw (first, q) (past-end {start₁ = s} {len₁ = l} {start₂ = t} {len₂ = m} (inl (omega arith)) (batch-demands rules input more b c)))
+    (λ k q. rw (first, q) (past-end {start₁ = s} {len₁ = l} {start₂ = t} {len₂ = m} (inr (omega arith)) (batch-demands rules input more b c)))
     (λ k n q.
     let o = outcome rules (take l (drop s input)) (take m (drop t input)) b c in
     rw (first, q)
@@ -52,10 +52,8 @@ batch-demands rules input (s ∷ l ∷ t ∷ m ∷ v ∷ w ∷ x ∷ y ∷ z ∷
 
 -- the outcome of a record by its two ranges
 module _ (rules : Rules) (input : List ℕ) (start₁ len₁ start₂ len₂ : ℕ) (b c : List ℕ) where
-  outside : (length input < start₁ + len₁) ⊎ (length input < start₂ + len₂) → rangeOutcome rules input start₁ len₁ start₂ len₂ b c ≡ rangeRefused b c
-  outside past =
-      by-range rules input start₁ len₁ start₂ len₂ b c (λ k q. q) (λ k q. q)
-      (λ k l q. absurd (⊎-elim (λ m. omega arith) (λ m. omega arith) past))
+  outside : (start₁ + len₁ ≤ length input → start₂ + len₂ ≤ length input → ⊥) → rangeOutcome rules input start₁ len₁ start₂ len₂ b c ≡ rangeRefused b c
+  outside none = by-range rules input start₁ len₁ start₂ len₂ b c (λ k q. q) (λ k q. q) (λ k l q. absurd (none k l))
 
   inside : start₁ + len₁ ≤ length input → start₂ + len₂ ≤ length input
       → rangeOutcome rules input start₁ len₁ start₂ len₂ b c ≡ outcome rules (take len₁ (drop start₁ input)) (take len₂ (drop start₂ input)) b c
@@ -68,7 +66,8 @@ pub batch-determined : (rules : Rules) (input : List ℕ) {records b c records�
 unfolding after fronted answers rangeRefused
 batch-determined rules input (last-part {records} {b} {c} k) = sym (batch-end rules input records b c (omega arith))
 batch-determined rules input (past-end {start₁} {len₁} {start₂} {len₂} {v} {w} {x} {y} {z} {more} {b} {c} past d) =
-    sym (rw (by-first-record rules input start₁ len₁ start₂ len₂ v w x y z more b c, outside rules input start₁ len₁ start₂ len₂ b c past, ← batch-determined rules input d))
+    let none : start₁ + len₁ ≤ length input → start₂ + len₂ ≤ length input → ⊥ = λ k l. ⊎-elim (λ m. omega arith) (λ m. omega arith) past in
+    sym (rw (by-first-record rules input start₁ len₁ start₂ len₂ v w x y z more b c, outside rules input start₁ len₁ start₂ len₂ b c none, ← batch-determined rules input d))
 batch-determined rules input (single {start₁} {len₁} {start₂} {len₂} {v} {w} {x} {y} {z} {more} {b} {c} {b₁} {c₁} {more′} {b′} {c′} {r} k l one d) =
     let is = determined rules (take len₁ (drop start₁ input)) (take len₂ (drop start₂ input)) b c r b₁ c₁ one in
     sym (rw (by-first-record rules input start₁ len₁ start₂ len₂ v w x y z more b c, inside rules input start₁ len₁ start₂ len₂ b c k l, ← is, ← batch-determined rules input d))
