@@ -53,7 +53,7 @@ batch-demands rules input (s ∷ l ∷ t ∷ m ∷ v ∷ w ∷ x ∷ y ∷ z ∷
 -- the outcome of a record by its two ranges
 module _ (rules : Rules) (input : List ℕ) (start₁ len₁ start₂ len₂ : ℕ) (b c : List ℕ) where
   outside : (start₁ + len₁ ≤ length input → start₂ + len₂ ≤ length input → ⊥) → rangeOutcome rules input start₁ len₁ start₂ len₂ b c ≡ rangeRefused b c
-  outside none = by-range rules input start₁ len₁ start₂ len₂ b c (λ k q. q) (λ k q. q) (λ k l q. absurd (none k l))
+  outside not-both = by-range rules input start₁ len₁ start₂ len₂ b c (λ k q. q) (λ k q. q) (λ k l q. absurd (not-both k l))
 
   inside : start₁ + len₁ ≤ length input → start₂ + len₂ ≤ length input
       → rangeOutcome rules input start₁ len₁ start₂ len₂ b c ≡ outcome rules (take len₁ (drop start₁ input)) (take len₂ (drop start₂ input)) b c
@@ -66,8 +66,8 @@ pub batch-determined : (rules : Rules) (input : List ℕ) {records b c records�
 unfolding after fronted answers rangeRefused
 batch-determined rules input (last-part {records} {b} {c} k) = sym (batch-end rules input records b c (omega arith))
 batch-determined rules input (past-end {start₁} {len₁} {start₂} {len₂} {v} {w} {x} {y} {z} {more} {b} {c} past d) =
-    let none : start₁ + len₁ ≤ length input → start₂ + len₂ ≤ length input → ⊥ = λ k l. ⊎-elim (λ m. omega arith) (λ m. omega arith) past in
-    sym (rw (by-first-record rules input start₁ len₁ start₂ len₂ v w x y z more b c, outside rules input start₁ len₁ start₂ len₂ b c none, ← batch-determined rules input d))
+    let not-both : start₁ + len₁ ≤ length input → start₂ + len₂ ≤ length input → ⊥ = λ k l. ⊎-elim (λ m. omega arith) (λ m. omega arith) past in
+    sym (rw (by-first-record rules input start₁ len₁ start₂ len₂ v w x y z more b c, outside rules input start₁ len₁ start₂ len₂ b c not-both, ← batch-determined rules input d))
 batch-determined rules input (single {start₁} {len₁} {start₂} {len₂} {v} {w} {x} {y} {z} {more} {b} {c} {b₁} {c₁} {more′} {b′} {c′} {r} k l one d) =
     let is = determined rules (take len₁ (drop start₁ input)) (take len₂ (drop start₂ input)) b c r b₁ c₁ one in
     sym (rw (by-first-record rules input start₁ len₁ start₂ len₂ v w x y z more b c, inside rules input start₁ len₁ start₂ len₂ b c k l, ← is, ← batch-determined rules input d))

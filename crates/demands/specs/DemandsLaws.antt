@@ -1,16 +1,16 @@
 -- The three demands hold of the outcome. Assumes nothing.
 use mathlib.Core.Path.{_≡_, refl, sym, ap, _∙_}
 use mathlib.Core.Logic.{_≢_}
-use mathlib.Core.Bool.{Bool, true, false, not}
-use mathlib.Core.List.{List, [], _∷_, _++_, append-assoc, append-nil, map, List·Memᴰ, List·Memᴰ·head, List·Memᴰ·tail}
-use Prim.Native.Nat.{ℕ, zero, suc, pred, _+_, _≤_}
+use mathlib.Core.Bool.{Bool, true, not}
+use mathlib.Core.List.{List, [], _∷_, _++_, append-assoc, append-nil, List·Memᴰ, List·Memᴰ·head, List·Memᴰ·tail}
+use Prim.Native.Nat.{ℕ, suc, pred, _≤_}
 use native.Mathlib.Omega.{arith}
 use lib.Dec.{T, eqb, ltb, eqb→eq}
-use lib.ListN.{length, take, drop}
+use lib.ListN.{length, take}
 use mir.Facts.{ltb-yes, ltb-no, eqb-no}
 use Rattle.lists.specs.Byte.{isAscii}
 use Rattle.utf8.specs.Utf8.{utf8}
-use Rattle.lists.specs.Lists.{all, joined}
+use Rattle.lists.specs.Lists.{all}
 use Rattle.lists.specs.ListsLaws.{by-test, all-append}
 use Rattle.buffer.specs.Buffer.{overlay}
 use Rattle.buffer.specs.BufferLaws.{length-overlay, overlay-front, overlay-past}
@@ -437,11 +437,11 @@ unfolding outcomeOf
 header-left rules e h b c z = let t = after-zero rules e h b c z in (rw (← outcome-is rules e h b c t), header-is rules e h (t .passes) b c t)
 
 -- the demands on an outcome
-abbrev pub Demanded : Rules → List ℕ → List ℕ → List ℕ → List ℕ → Outcome → Type 0
-Demanded rules e h b c o = Demands rules e h b c (answerOf o) (o .envelopeBuffer) (o .headerBuffer)
+abbrev pub OutcomeDemands : Rules → List ℕ → List ℕ → List ℕ → List ℕ → Outcome → Type 0
+OutcomeDemands rules e h b c o = Demands rules e h b c (answerOf o) (o .envelopeBuffer) (o .headerBuffer)
 
 -- All three, of every envelope, every header and every two buffers.
-pub demands : (rules : Rules) (e h b c : List ℕ) → Demanded rules e h b c (outcome rules e h b c)
+pub demands : (rules : Rules) (e h b c : List ℕ) → OutcomeDemands rules e h b c (outcome rules e h b c)
 demands rules e h b c = record {
   demand-1 = outcome-demand-1 rules e h b c;
   demand-2 = λ z. let t = after-zero rules e h b c z in outcome-demand-2 rules e h (t .passes) b c t;
@@ -452,5 +452,5 @@ demands rules e h b c = record {
 pub met : {rules : Rules} {e h b c : List ℕ} {r : Answer} {b′ c′ : List ℕ} → observed r b′ c′ ≡ outcome rules e h b c → Demands rules e h b c r b′ c′
 met {rules} {e} {h} {b} {c} {r} {b′} {c′} q = by-outcome (observed r b′ c′) q
   where
-    by-outcome : (o : Outcome) → o ≡ outcome rules e h b c → Demanded rules e h b c o
+    by-outcome : (o : Outcome) → o ≡ outcome rules e h b c → OutcomeDemands rules e h b c o
     by-outcome o q = rw q (demands rules e h b c)

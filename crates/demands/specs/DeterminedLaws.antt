@@ -1,9 +1,8 @@
 -- The demands leave nothing open: what meets them is observed as the outcome. So no program that refuses all, answers a fixed envelope, writes
 -- nothing or invents lengths meets them. Assumes nothing.
 use mathlib.Core.Path.{_≡_, refl, ap, sym, _∙_}
-use mathlib.Core.Bool.{Bool, true, false}
 use mathlib.Core.List.{List, _++_}
-use Prim.Native.Nat.{ℕ, _≤_}
+use Prim.Native.Nat.{ℕ}
 use native.Mathlib.Omega.{arith}
 use lib.Dec.{eqb, eqb→eq}
 use mir.Facts.{eqb-no}
@@ -12,8 +11,8 @@ use Rattle.lists.specs.ListsLaws.{by-test}
 use Rattle.rules.specs.declared.Rules.{Rules}
 use Rattle.call.specs.declared.Answer.{Answer}
 use Rattle.call.specs.Outcome.{Outcome, outcome, observed}
-use Rattle.demands.specs.Demands.{KeptPast, Demand1, Demand2, Demands}
-use Rattle.demands.specs.DemandsLaws.{envelopeOut, headerOut, downgraded-out, downgraded-header, Demanded, demands}
+use Rattle.demands.specs.Demands.{KeptPast, Demands}
+use Rattle.demands.specs.DemandsLaws.{envelopeOut, headerOut, downgraded-out, downgraded-header, OutcomeDemands, demands}
 
 same-outcome : {o p : Outcome} → o .number ≡ p .number → o .input ≡ p .input → o .place ≡ p .place → o .offset ≡ p .offset → o .envelopeLen ≡ p .envelopeLen → o .headerLen ≡ p .headerLen
     → o .envelopeBuffer ≡ p .envelopeBuffer → o .headerBuffer ≡ p .headerBuffer → o ≡ p
@@ -45,7 +44,7 @@ module _ (rules : Rules) (e h b c : List ℕ) (r : Answer) (b′ c′ : List ℕ
   abbrev o : Outcome
   o = observed r b′ c′
 
-  meets : Demanded rules e h b c (outcome rules e h b c)
+  meets : OutcomeDemands rules e h b c (outcome rules e h b c)
   meets = demands rules e h b c
 
   numbers : (o .number ≡ outcome rules e h b c .number) × (o .input ≡ outcome rules e h b c .input) × (o .place ≡ outcome rules e h b c .place) × (o .offset ≡ outcome rules e h b c .offset)
