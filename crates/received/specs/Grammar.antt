@@ -23,8 +23,8 @@ use Rattle.received_token.specs.Grammar.{Clause}
 abbrev pub clauseSegments : List ℕ → List Segment
 clauseSegments clause = cond (all isAscii clause) (raw clause ∷ []) []
 
--- The rest of a value, and what becomes of it: "Comments follow [1].", a clause goes or stays, all else stays. White space is taken
--- whole, without a for after it: with one it is a clause's.
+-- The rest of a value, and what becomes of it: "Comments follow [1].", a clause goes or stays, all else stays. White space is
+-- taken whole, and by itself only where no for follows: before one it is the clause's.
 -- `comments` says whether a comment may start: of an unclosed parenthesis (40) "nothing after it is a comment". A field is "held" that has
 -- "a for that no such address, ASCII or not, follows", or "non-ASCII left elsewhere": no rule makes these.
 pub data RestOfValue : Bool → List ℕ → List Segment → Type 0 where
@@ -41,6 +41,6 @@ pub data ReceivedValue : List ℕ → List Segment → Type 0 where
   clause : {c more : List ℕ} {p : List Segment} → Clause c → RestOfValue true more p → ReceivedValue (c ++ more) (clauseSegments c ++ p)
   other : {v : List ℕ} {p : List Segment} → T (not (isFor (drop (run isWhite v) v))) → RestOfValue true v p → ReceivedValue v p
 
--- No "line grown past 998 bytes": bytes without LF (10) between them are at most 998 and the CR of the CRLF that ends a line.
+-- No "line grown past 998 bytes": what stands without LF (10) is at most 998 bytes and the CR before LF.
 abbrev pub LinesFit : List ℕ → Type 0
 LinesFit s = (before line after : List ℕ) → s ≡ before ++ (line ++ after) → T (all (λ b. not (eqb b 10)) line) → length line ≤ 999
