@@ -1,6 +1,12 @@
 pub mod PartGrammar
+pub mod AddressField
 pub mod GrammarLaws
 pub mod PartGrammarLaws
 pub mod FoundLaws
 pub mod FittingLaws
+pub mod PartListLaws
+pub mod PhraseWordsLaws
+pub mod FormPartsLaws
+pub mod PartsFormLaws
+pub mod AddressFieldLaws
 pub mod ListCases

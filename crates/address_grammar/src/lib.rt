@@ -1,1 +1,2 @@
-// The grammar of address fields in the paper's words, and that address_list takes exactly what it makes: specs/.
+// The grammar of address fields in the paper's words, that address_list takes exactly what it makes, and that address_pieces writes for a
+// field exactly what it says: specs/.

@@ -1,12 +1,11 @@
 -- What an address field becomes. Assumes nothing.
 use mathlib.Core.Bool.{true}
-use mathlib.Core.List.{List, [], _∷_, _++_}
+use mathlib.Core.List.{List, _++_}
 use Prim.Native.Nat.{ℕ}
 use Rattle.rules.specs.declared.Rules.{Rules}
 use Rattle.piece.specs.Piece.{fitting as fittingScratch}
 use Rattle.encoded_word.specs.Segments.{Segment}
-use Rattle.encoded_word.specs.Segments.Segment.{raw}
-use Rattle.field.specs.Field.{encodedField}
+use Rattle.field.specs.Field.{encodedField, named}
 use Rattle.address_list.specs.Parts.{partsOf}
 use Rattle.group.specs.Group.{turnsOf}
 use Rattle.address_list.specs.Table.{examined}
@@ -14,9 +13,9 @@ use Rattle.address_list.specs.declared.Examined.{Examined}
 use Rattle.address_list.specs.declared.Examined.the-variants.{DoesNotFit, Kept, Changed}
 use Rattle.address_pieces.specs.Pieces.{piecesOf}
 
--- the name as it came, colon (58), the rewritten value, CRLF
+-- the field with its value rewritten
 unfoldable pub rewrittenField : Rules → List ℕ → List ℕ → List Segment
-rewrittenField rules name text = raw (name ++ (58 ∷ [])) ∷ (piecesOf rules (turnsOf (partsOf rules text)) ++ (raw (13 ∷ 10 ∷ []) ∷ []))
+rewrittenField rules name text = named name (piecesOf rules (turnsOf (partsOf rules text)))
 
 -- "Text that does not fit is encapsulated." "If any address was replaced or removed, a `Downgraded-` field with encoded words of the
 -- original text follows the rewritten field."

@@ -1,5 +1,4 @@
 -- How long a rewritten address field can be. Assumes nothing.
-use mathlib.Core.Path.{ap}
 use mathlib.Core.Bool.{Bool, true, false, cond}
 use mathlib.Core.List.{List, [], _∷_, map}
 use Prim.Native.Nat.{ℕ, zero, suc, pred, _+_, _-_, _*_, _≤_, _<_, zero-le}
@@ -19,8 +18,8 @@ use Rattle.rules.specs.declared.Rules.the-variants.{Spool, Current, Mailbox}
 use Rattle.row.specs.RowLaws.{length-row-le}
 use Rattle.encoded_word.specs.SegmentsLaws.{rendered-append}
 use Rattle.encoded_word.specs.Segments.{Segment, bytesOf, rendered}
-use Rattle.encoded_word.specs.Segments.Segment.{raw, words}
-use Rattle.field.specs.FieldLaws.{length-encoded}
+use Rattle.encoded_word.specs.Segments.Segment.{words}
+use Rattle.field.specs.FieldLaws.{length-encoded, length-named}
 use Rattle.address.specs.AddressLaws.{byte-within}
 use Rattle.address.specs.declared.Scan.{Scan}
 use Rattle.address.specs.declared.Scan.the-variants.{To, Stop}
@@ -245,10 +244,8 @@ value-le rules text = omega (arith, turns-have (Written rules) (Passing rules) (
 
 module _ (rules : Rules) (name text : List ℕ) where
   rewritten-le : length (rendered (rewrittenField rules name text)) ≤ 3 + length name + 25 * length text
-  unfolding rewrittenField rendered
-  rewritten-le =
-      rw (length-append, rendered-append, length-append, length-append)
-      (omega (arith, value-le rules text, ap length (rendered-one (raw (13 ∷ 10 ∷ [])))))
+  unfolding rewrittenField
+  rewritten-le = rw (length-named name (piecesOf rules (turnsOf (partsOf rules text)))) (omega (arith, value-le rules text))
 
   by-le : (e : Examined) → length (rendered (fieldBy e rules name text)) ≤ 45 + 2 * length name + 28 * length text
   unfolding fieldBy

@@ -20,9 +20,9 @@ use Rattle.rules.specs.Rules.{removalStart, removalEnd}
 use Rattle.rules.specs.declared.Rules.{Rules}
 use Rattle.rules.specs.declared.Rules.the-variants.{Spool, Current, Mailbox}
 use Rattle.encoded_word.specs.Segments.{Segment, sound}
-use Rattle.encoded_word.specs.Segments.Segment.{raw, words}
+use Rattle.encoded_word.specs.Segments.Segment.{words}
 use Rattle.field.specs.Field.{encodedField}
-use Rattle.field.specs.FieldLaws.{encoded-sound}
+use Rattle.field.specs.FieldLaws.{encoded-sound, named-sound}
 use Rattle.phrase.specs.Phrase.{wordSize, wordsFrom, phraseWords, phraseText}
 use Rattle.phrase.specs.BoundaryLaws.{Boundary, boundary-then, boundary-first, boundary-byte, address-boundary, blank-low, blanks-boundary, phrase-boundary, phrase-text-utf8}
 use Rattle.comment.specs.BoundaryLaws.{comment-cut}
@@ -253,10 +253,7 @@ module _ (rules : Rules) (name text : List ℕ) (a : T (all isAscii name)) (u : 
   unfolding rewrittenField partsOf turnsOf
   rewritten-sound t =
       let ps = partsFrom rules 0 text in
-      let value = piecesOf rules (turnsFrom false ps) in
-      yes-and (all isAscii (name ++ (58 ∷ []))) (all sound (value ++ (raw (13 ∷ 10 ∷ []) ∷ [])))
-      (all-append isAscii name (58 ∷ []) a tt)
-      (all-append sound value (raw (13 ∷ 10 ∷ []) ∷ []) (turns-have (SoundTurns rules) (SoundTurns rules) (turns-sound rules) ps .0 (parts-known rules 0 text ItemDue u t)) tt)
+      named-sound name (piecesOf rules (turnsFrom false ps)) a (turns-have (SoundTurns rules) (SoundTurns rules) (turns-sound rules) ps .0 (parts-known rules 0 text ItemDue u t))
 
   -- Every segment of an address field is sound.
   pub address-field-sound : T (all sound (addressField rules name text))

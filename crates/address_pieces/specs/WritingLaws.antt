@@ -6,7 +6,7 @@ use Prim.Native.Nat.{ℕ, _+_, _-_, _*_, _≤_}
 use native.Mathlib.Omega.{arith}
 use lib.ListN.{length, length-append}
 use Rattle.buffer.specs.Buffer.{Wrote, AppendedCapped, greatest}
-use Rattle.buffer.specs.BufferLaws.{appended-from, appended-of, appended-then, capped-then, capped-same, length-wrote, length-added, wrote-from}
+use Rattle.buffer.specs.BufferLaws.{appended-from, appended-of, appended-then, capped-then, capped-same, length-wrote, wrote-from}
 use Rattle.rules.specs.Rules.{removalStart, removalEnd}
 use Rattle.rules.specs.declared.Rules.{Rules}
 use Rattle.row.specs.Row.{row, bounded}
@@ -14,6 +14,7 @@ use Rattle.row.specs.RowLaws.{bounded-short}
 use Rattle.encoded_word.specs.SegmentsLaws.{rendered-append}
 use Rattle.encoded_word.specs.Segments.{rendered, bytesOf}
 use Rattle.field.specs.Field.{encodedField}
+use Rattle.field.specs.FieldLaws.{named-added}
 use Rattle.phrase.specs.Phrase.{phraseText}
 use Rattle.phrase.specs.PhraseLaws.{length-phrase-text}
 use Rattle.address_list.specs.Parts.{partsOf}
@@ -58,17 +59,11 @@ module _ (t : List ℕ) {begun text : List ℕ} {n : ℕ} (u : AppendedCapped (p
 -- ---- the field
 
 module _ (rules : Rules) (name text : List ℕ) where
-  rewritten-bytes : rendered (rewrittenField rules name text) ≡ (name ++ (58 ∷ [])) ++ (rendered (piecesOf rules (turnsOf (partsOf rules text))) ++ (13 ∷ 10 ∷ []))
-  unfolding rewrittenField rendered
-  rewritten-bytes = rw (rendered-append (piecesOf rules (turnsOf (partsOf rules text))))
-
-  pub rewritten-added : {before named marked valued after : List ℕ} {at n c v s : ℕ} → length before ≤ greatest
-      → AppendedCapped name at before named n → AppendedCapped (58 ∷ []) n named marked c → AppendedCapped (rendered (piecesOf rules (turnsOf (partsOf rules text)))) c marked valued v
+  pub rewritten-added : {before labelled marked valued after : List ℕ} {at n c v s : ℕ} → length before ≤ greatest
+      → AppendedCapped name at before labelled n → AppendedCapped (58 ∷ []) n labelled marked c → AppendedCapped (rendered (piecesOf rules (turnsOf (partsOf rules text)))) c marked valued v
       → AppendedCapped (13 ∷ 10 ∷ []) v valued after s → AppendedCapped (rendered (rewrittenField rules name text)) at before after s
-  rewritten-added k a b d f =
-      let label = capped-then a b k in
-      let value = capped-then d f (omega (arith, k, length-added a, length-added b)) in
-      capped-same (sym rewritten-bytes) (capped-then label value k)
+  unfolding rewrittenField
+  rewritten-added k a b d f = named-added name (piecesOf rules (turnsOf (partsOf rules text))) k a b d f
 
   module _ (h : length text ≤ 32768) where
     copy-added : {before after : List ℕ} {at r : ℕ} → AppendedCapped (rendered (encodedField true name (bounded text))) at before after r

@@ -4,7 +4,8 @@ use mathlib.Core.List.{List, [], _∷_, map}
 use mathlib.Core.Option.{Option, none, some}
 use Prim.Native.Nat.{ℕ}
 use lib.ListN.{take}
-use Rattle.base64.specs.Base64.{digit64, inBase64, isDigit64, value64, fromQuad, fromThree, fromTwo, fromLast, fromBase64}
+use Rattle.base64.specs.Base64.{digit64, inBase64}
+use Rattle.base64.specs.Reading.{isDigit64, value64, fromQuad, fromThree, fromTwo, fromLast, fromBase64}
 
 -- `foobar`, and its fronts
 abbrev foobar : List ℕ

@@ -9,7 +9,7 @@ use lib.ListN.{length, take, drop, getD, drop-of-length-le, length-take, length-
 use lib.Seq.{drop-cons, drop-drop, take-all}
 use Rattle.buffer.specs.Buffer.{overlay, Appended, AppendedCapped}
 use Rattle.buffer.specs.BufferLaws.{wrote-from, overlay-front, length-overlay, reached-start, reached-then, reached-end}
-use Rattle.base64.specs.Base64.{digit64, quad, quadOfTwo, quadOfOne, inBase64, base64Length}
+use Rattle.base64.specs.Base64.{digit64, inBase64, base64Length}
 use Rattle.base64.specs.Base64Laws.{length-base64}
 
 -- ---- a digit
@@ -61,15 +61,15 @@ module _ (s : List ℕ) (i : ℕ) where
 
 module _ (s : List ℕ) (i : ℕ) where
   pub base64-quad : 3 ≤ length s - i
-      → inBase64 (drop i s) ≡ quad (getD s i 0) (getD s (i + 1) 0) (getD s (i + 1 + 1) 0) ++ inBase64 (drop (i + 1 + 1 + 1) s)
+      → inBase64 (drop i s) ≡ inBase64 (getD s i 0 ∷ getD s (i + 1) 0 ∷ getD s (i + 1 + 1) 0 ∷ []) ++ inBase64 (drop (i + 1 + 1 + 1) s)
   unfolding inBase64
   base64-quad h = rw (cons s i (omega arith), cons s (i + 1) (omega arith), cons s (i + 1 + 1) (omega arith)) refl
 
-  pub base64-two : length s - i ≡ 2 → inBase64 (drop i s) ≡ quadOfTwo (getD s i 0) (getD s (i + 1) 0)
+  pub base64-two : length s - i ≡ 2 → inBase64 (drop i s) ≡ inBase64 (getD s i 0 ∷ getD s (i + 1) 0 ∷ [])
   unfolding inBase64
   base64-two h = rw (cons s i (omega arith), cons s (i + 1) (omega arith), nil s (i + 1 + 1) (omega arith)) refl
 
-  pub base64-one : length s - i ≡ 1 → inBase64 (drop i s) ≡ quadOfOne (getD s i 0)
+  pub base64-one : length s - i ≡ 1 → inBase64 (drop i s) ≡ inBase64 (getD s i 0 ∷ [])
   unfolding inBase64
   base64-one h = rw (cons s i (omega arith), nil s (i + 1) (omega arith)) refl
 
@@ -106,7 +106,7 @@ whole-groups (suc n) (a ∷ []) h = absurd (omega arith)
 whole-groups (suc n) (a ∷ b ∷ []) h = absurd (omega arith)
 whole-groups (suc n) (a ∷ b ∷ c ∷ s) h =
     let three : 3 * suc n ≡ suc (suc (suc (3 * n))) = omega arith in
-    rw three (ap (λ (l : List ℕ). quad a b c ++ l) (whole-groups n s (omega arith)))
+    rw three (ap (λ (l : List ℕ). inBase64 (a ∷ b ∷ c ∷ []) ++ l) (whole-groups n s (omega arith)))
 
 -- five groups from a place on, up to e
 module _ (s : List ℕ) (i e : ℕ) (h : 15 ≤ length s - i) (he : e ≡ i + 15) where
@@ -124,9 +124,9 @@ module _ (s : List ℕ) (i e : ℕ) (h : 15 ≤ length s - i) (he : e ≡ i + 15
 
 -- five groups, written one after another
 pub five-quads : (s : List ℕ) {before after₁ after₂ after₃ after₄ after₅ : List ℕ} {at n₁ n₂ n₃ n₄ n₅ : ℕ} → length s ≡ 15
-    → Appended (quad (getD s 0 0) (getD s 1 0) (getD s 2 0)) at before after₁ n₁ → Appended (quad (getD s 3 0) (getD s 4 0) (getD s 5 0)) n₁ after₁ after₂ n₂
-    → Appended (quad (getD s 6 0) (getD s 7 0) (getD s 8 0)) n₂ after₂ after₃ n₃ → Appended (quad (getD s 9 0) (getD s 10 0) (getD s 11 0)) n₃ after₃ after₄ n₄
-    → Appended (quad (getD s 12 0) (getD s 13 0) (getD s 14 0)) n₄ after₄ after₅ n₅ → Appended (inBase64 s) at before after₅ n₅
+    → Appended (inBase64 (getD s 0 0 ∷ getD s 1 0 ∷ getD s 2 0 ∷ [])) at before after₁ n₁ → Appended (inBase64 (getD s 3 0 ∷ getD s 4 0 ∷ getD s 5 0 ∷ [])) n₁ after₁ after₂ n₂
+    → Appended (inBase64 (getD s 6 0 ∷ getD s 7 0 ∷ getD s 8 0 ∷ [])) n₂ after₂ after₃ n₃ → Appended (inBase64 (getD s 9 0 ∷ getD s 10 0 ∷ getD s 11 0 ∷ [])) n₃ after₃ after₄ n₄
+    → Appended (inBase64 (getD s 12 0 ∷ getD s 13 0 ∷ getD s 14 0 ∷ [])) n₄ after₄ after₅ n₅ → Appended (inBase64 s) at before after₅ n₅
 five-quads s {before} {at = at} h a b c d e =
     let start = reached-start (inBase64 (drop 0 s)) at before in
     let one = reached-then _ _ start (base64-quad s 0 (omega arith)) a in

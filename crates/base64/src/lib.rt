@@ -1,9 +1,10 @@
 // Base64 with its padding (RFC 4648, section 4), written.
 ghost use mathlib.Core.Path.{_≡_};
+ghost use mathlib.Core.List.{[], _∷_};
 ghost use Prim.Native.Nat.{_+_, _%_, _≤_};
 ghost use lib.ListN.{length};
 ghost use Rattle.buffer.specs.Buffer.{Appended, AppendedCapped};
-ghost use Rattle.base64.specs.Base64.{digit64, quad, quadOfTwo, quadOfOne, inBase64, base64Length};
+ghost use Rattle.base64.specs.Base64.{digit64, inBase64, base64Length};
 ghost use Rattle.base64.specs.WritingLaws.{digits64, bitsOf};
 
 // The digits, by their values.
@@ -40,7 +41,7 @@ fn bits_of(a: u8, b: u8, c: u8) -> usize
 // Three bytes.
 fn put_quad(digits: &[u8; 64], out: &mut [u8], at: usize, a: u8, b: u8, c: u8) -> usize
     requires { ⌜ (now digits ≡ digits64) × (at + 4 ≤ length (now out)) ⌝ }
-    ensures { λ r. ⌜ Appended (quad a b c) at (now (out .entry)) (now (out .exit)) r ⌝ }
+    ensures { λ r. ⌜ Appended (inBase64 (a ∷ b ∷ c ∷ [])) at (now (out .entry)) (now (out .exit)) r ⌝ }
 {
     let bits = bits_of(a, b, c);
     let second = at + 1;
@@ -56,7 +57,7 @@ fn put_quad(digits: &[u8; 64], out: &mut [u8], at: usize, a: u8, b: u8, c: u8) -
 // The last two bytes.
 fn put_two(digits: &[u8; 64], out: &mut [u8], at: usize, a: u8, b: u8) -> usize
     requires { ⌜ (now digits ≡ digits64) × (at + 4 ≤ length (now out)) ⌝ }
-    ensures { λ r. ⌜ Appended (quadOfTwo a b) at (now (out .entry)) (now (out .exit)) r ⌝ }
+    ensures { λ r. ⌜ Appended (inBase64 (a ∷ b ∷ [])) at (now (out .entry)) (now (out .exit)) r ⌝ }
 {
     let bits = bits_of(a, b, 0);
     let second = at + 1;
@@ -72,7 +73,7 @@ fn put_two(digits: &[u8; 64], out: &mut [u8], at: usize, a: u8, b: u8) -> usize
 // The last byte.
 fn put_one(digits: &[u8; 64], out: &mut [u8], at: usize, a: u8) -> usize
     requires { ⌜ (now digits ≡ digits64) × (at + 4 ≤ length (now out)) ⌝ }
-    ensures { λ r. ⌜ Appended (quadOfOne a) at (now (out .entry)) (now (out .exit)) r ⌝ }
+    ensures { λ r. ⌜ Appended (inBase64 (a ∷ [])) at (now (out .entry)) (now (out .exit)) r ⌝ }
 {
     let bits = bits_of(a, 0, 0);
     let second = at + 1;

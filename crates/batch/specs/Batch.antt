@@ -19,16 +19,7 @@ range input start len = take len (drop start input)
 
 -- 9: "place, offset and lengths 0"
 unfoldable pub rangeRefused : List ℕ → List ℕ → Outcome
-rangeRefused b c = record {
-  number = 9;
-  input = 0;
-  place = 0;
-  offset = 0;
-  envelopeLen = 0;
-  headerLen = 0;
-  envelopeBuffer = b;
-  headerBuffer = c;
-}
+rangeRefused b c = record { number = 9; input = 0; place = 0; offset = 0; envelopeLen = 0; headerLen = 0; envelopeBuffer = b; headerBuffer = c }
 
 -- What becomes of a record with these four numbers, b and c being the room that is left: 9 "before all others", else a single call with the
 -- envelope and the header that they name.

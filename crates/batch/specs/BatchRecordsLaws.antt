@@ -1,5 +1,5 @@
--- The batch record by record. Assumes nothing.
-use mathlib.Core.Path.{_≡_, refl, sym, _∙_}
+-- The batch record by record: which room each record has, where its outputs stand, and what is not touched. Assumes nothing.
+use mathlib.Core.Path.{_≡_, refl, sym}
 use mathlib.Core.List.{List, _++_, append-assoc}
 use Prim.Native.Nat.{ℕ, zero, suc, _+_, _*_, _/_, _≤_, _<_}
 use native.Mathlib.Omega.{arith}
@@ -11,7 +11,7 @@ use Rattle.call.specs.Outcome.{Outcome}
 use Rattle.call.specs.BoundLaws.{Bounded}
 use Rattle.batch.specs.Batch.{recordOutcome, answers, Batch, batchOf, batch}
 use Rattle.batch.specs.BatchLaws.{record-bounded}
-use Rattle.batch.specs.BatchRecords.{fromRecord, total, used₁, used₂, RecordDone, BatchDone}
+use Rattle.batch.specs.BatchRecords.{fromRecord, total, used₁, used₂}
 
 -- ---- lists
 
@@ -27,9 +27,34 @@ next-record k = omega arith
 
 -- ---- the record at the front, and the others
 
--- the outcome of the call for a record
-abbrev pub Called : Rules → List ℕ → List ℕ → List ℕ → List ℕ → Outcome → Type 0
-Called rules input before b c o = o ≡ recordOutcome rules input before b c
+-- The record at the front of these numbers, whose outcome is o: its numbers before and afterwards, the room that is left, b and c, and what
+-- stands there afterwards, b′ and c′.
+pub record RecordDone (o : Outcome) (before after b c b′ c′ : List ℕ) : Type 0 where
+  pub inputs : take 4 after ≡ take 4 before
+  pub number : getD after 4 0 ≡ o .number
+  pub place : getD after 5 0 ≡ o .place
+  pub offset : getD after 6 0 ≡ o .offset
+  pub envelope-len : getD after 7 0 ≡ o .envelopeLen
+  pub header-len : getD after 8 0 ≡ o .headerLen
+  pub envelope : take (o .envelopeLen) b′ ≡ take (o .envelopeLen) (o .envelopeBuffer)
+  pub header : take (o .headerLen) c′ ≡ take (o .headerLen) (o .headerBuffer)
+  -- every number fits 32 bits, the outputs fit the room, and a refused record takes none of it
+  pub bounded : Bounded b c o
+
+-- n records, each with the room that the ones before it left
+pub record BatchDone (n : ℕ) (rules : Rules) (input records b c : List ℕ) (after : Batch) : Type 0 where
+  pub each : (k : ℕ) → k < n
+      → RecordDone (recordOutcome rules input (fromRecord k records) (drop (used₁ k after) b) (drop (used₂ k after) c)) (fromRecord k records) (fromRecord k (after .records)) (drop (used₁ k after) b) (drop (used₂ k after) c) (drop (used₁ k after) (after .envelopeBuffer)) (drop (used₂ k after) (after .headerBuffer))
+  -- the numbers past the last record
+  pub size : length (after .records) ≡ length records
+  pub last-part : fromRecord n (after .records) ≡ fromRecord n records
+  -- past the last output both buffers are as before
+  pub envelope-within : used₁ n after ≤ length b
+  pub header-within : used₂ n after ≤ length c
+  pub envelope-size : length (after .envelopeBuffer) ≡ length b
+  pub header-size : length (after .headerBuffer) ≡ length c
+  pub envelope-past : drop (used₁ n after) (after .envelopeBuffer) ≡ drop (used₁ n after) b
+  pub header-past : drop (used₂ n after) (after .headerBuffer) ≡ drop (used₂ n after) c
 
 module _ (rules : Rules) (input records b c : List ℕ) (k : 9 ≤ length records) where
   abbrev o : Outcome
@@ -62,28 +87,10 @@ module _ (rules : Rules) (input records b c : List ℕ) (k : 9 ≤ length record
     at-answer : (j : ℕ) → getD numbers (4 + j) 0 ≡ getD (answers o ++ rest .records) j 0
     at-answer j = front-at (take 4 records) (answers o ++ rest .records) 4 j four
 
-    small : (j : ℕ) → 4 ≤ j → j < 9 → getD numbers j 0 ≤ 4294967295
-    unfolding answers
-    small j h l = go j h l
-      where
-        go : (j : ℕ) → 4 ≤ j → j < 9 → getD numbers j 0 ≤ 4294967295
-        go zero h l = absurd (omega arith)
-        go (suc zero) h l = absurd (omega arith)
-        go (suc (suc zero)) h l = absurd (omega arith)
-        go (suc (suc (suc zero))) h l = absurd (omega arith)
-        go (suc (suc (suc (suc zero)))) h l = rw (at-answer 0) (bounded .number)
-        go (suc (suc (suc (suc (suc zero))))) h l = rw (at-answer 1) (bounded .place)
-        go (suc (suc (suc (suc (suc (suc zero)))))) h l = rw (at-answer 2) (bounded .offset)
-        go (suc (suc (suc (suc (suc (suc (suc zero))))))) h l = rw (at-answer 3) (bounded .envelope-len)
-        go (suc (suc (suc (suc (suc (suc (suc (suc zero)))))))) h l = rw (at-answer 4) (bounded .header-len)
-        go (suc (suc (suc (suc (suc (suc (suc (suc (suc j))))))))) h l = absurd (omega arith)
-
-    first-done : RecordDone (Called rules input) records numbers b c (take (o .envelopeLen) (o .envelopeBuffer) ++ rest .envelopeBuffer) (take (o .headerLen) (o .headerBuffer) ++ rest .headerBuffer)
+    first-done : RecordDone o records numbers b c (take (o .envelopeLen) (o .envelopeBuffer) ++ rest .envelopeBuffer) (take (o .headerLen) (o .headerBuffer) ++ rest .headerBuffer)
     unfolding answers
     first-done = record {
       inputs = take-at (take 4 records) (answers o ++ rest .records) 4 four;
-      single = o;
-      is-single = refl;
       number = at-answer 0;
       place = at-answer 1;
       offset = at-answer 2;
@@ -91,8 +98,7 @@ module _ (rules : Rules) (input records b c : List ℕ) (k : 9 ≤ length record
       header-len = at-answer 4;
       envelope = take-at (take (o .envelopeLen) (o .envelopeBuffer)) (rest .envelopeBuffer) (o .envelopeLen) output₁;
       header = take-at (take (o .headerLen) (o .headerBuffer)) (rest .headerBuffer) (o .headerLen) output₂;
-      refused = λ z. let none = bounded .refused (λ y. z (at-answer 0 ∙ y)) in (at-answer 3 ∙ none .0, at-answer 4 ∙ none .1);
-      small = small;
+      bounded = bounded;
     }
 
     -- the numbers from the next record on, and what its predecessors used
@@ -127,7 +133,7 @@ module _ (rules : Rules) (input records b c : List ℕ) (k : 9 ≤ length record
     left-next₂ n = front-drop (take (o .headerLen) (o .headerBuffer)) (rest .headerBuffer) (o .headerLen) n output₂
 
     -- where the other n records are done, all are
-    module _ (n : ℕ) (d : BatchDone (Called rules input) n (drop 9 records) (drop (o .envelopeLen) (o .envelopeBuffer)) (drop (o .headerLen) (o .headerBuffer)) rest) where
+    module _ (n : ℕ) (d : BatchDone n rules input (drop 9 records) (drop (o .envelopeLen) (o .envelopeBuffer)) (drop (o .headerLen) (o .headerBuffer)) rest) where
       abbrev whole : Batch
       whole = record {
         records = numbers;
@@ -137,7 +143,7 @@ module _ (rules : Rules) (input records b c : List ℕ) (k : 9 ≤ length record
 
       abbrev Done : ℕ → Type 0
       Done i =
-          RecordDone (Called rules input) (fromRecord i records) (fromRecord i numbers) (drop (used₁ i whole) b) (drop (used₂ i whole) c)
+          RecordDone (recordOutcome rules input (fromRecord i records) (drop (used₁ i whole) b) (drop (used₂ i whole) c)) (fromRecord i records) (fromRecord i numbers) (drop (used₁ i whole) b) (drop (used₂ i whole) c)
           (drop (used₁ i whole) (whole .envelopeBuffer))
           (drop (used₂ i whole) (whole .headerBuffer))
 
@@ -152,7 +158,7 @@ module _ (rules : Rules) (input records b c : List ℕ) (k : 9 ≤ length record
       each-done zero h = first-done
       each-done (suc i) h = next-done i (le-of-suc-le-suc h)
 
-      all-done : BatchDone (Called rules input) (suc n) records b c whole
+      all-done : BatchDone (suc n) rules input records b c whole
       all-done = record {
         each = each-done;
         size = rw (joined, length-append (take 4 records ++ answers o) (rest .records), nine, d .size, length-drop 9 records) (omega arith);
@@ -171,7 +177,7 @@ module _ (rules : Rules) (input records b c : List ℕ) (k : 9 ≤ length record
 
 -- ---- all records
 
-done-of : (n : ℕ) (rules : Rules) (input records b c : List ℕ) → 9 * n ≤ length records → BatchDone (Called rules input) n records b c (batchOf n rules input records b c)
+done-of : (n : ℕ) (rules : Rules) (input records b c : List ℕ) → 9 * n ≤ length records → BatchDone n rules input records b c (batchOf n rules input records b c)
 unfolding batchOf total
 done-of zero rules input records b c k = record {
   each = λ i h. absurd (not-suc-le-zero h);
@@ -190,37 +196,6 @@ done-of (suc n) rules input records b c k =
     (done-of n rules input (drop 9 records) (drop (o .envelopeLen) (o .envelopeBuffer)) (drop (o .headerLen) (o .headerBuffer)) (rw (length-drop 9 records) (omega arith)))
 
 -- Of every batch.
-pub batch-done : (rules : Rules) (input records b c : List ℕ) → BatchDone (Called rules input) (length records / 9) records b c (batch rules input records b c)
+pub batch-done : (rules : Rules) (input records b c : List ℕ) → BatchDone (length records / 9) rules input records b c (batch rules input records b c)
 unfolding batch
 batch-done rules input records b c = done-of (length records / 9) rules input records b c (omega arith)
-
--- the same for what the outcome of each record is known by
-module _ {Single Known : List ℕ → List ℕ → List ℕ → Outcome → Type 0} (known : (before b c : List ℕ) (o : Outcome) → Single before b c o → Known before b c o) where
-  record-known : {before after b c b′ c′ : List ℕ} → RecordDone Single before after b c b′ c′ → RecordDone Known before after b c b′ c′
-  record-known {before} {after} {b} {c} r = record {
-    inputs = r .inputs;
-    single = r .single;
-    is-single = known before b c (r .single) (r .is-single);
-    number = r .number;
-    place = r .place;
-    offset = r .offset;
-    envelope-len = r .envelope-len;
-    header-len = r .header-len;
-    envelope = r .envelope;
-    header = r .header;
-    refused = r .refused;
-    small = r .small;
-  }
-
-  pub batch-known : {n : ℕ} {records b c : List ℕ} {after : Batch} → BatchDone Single n records b c after → BatchDone Known n records b c after
-  batch-known d = record {
-    each = λ k h. record-known (d .each k h);
-    size = d .size;
-    last-part = d .last-part;
-    envelope-within = d .envelope-within;
-    header-within = d .header-within;
-    envelope-size = d .envelope-size;
-    header-size = d .header-size;
-    envelope-past = d .envelope-past;
-    header-past = d .header-past;
-  }

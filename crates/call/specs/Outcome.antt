@@ -160,13 +160,5 @@ outcome rules e h b c = outcomeOf rules (verdict rules e h (length b) (length c)
 
 -- an answer and two buffers as an outcome
 abbrev pub observed : Answer → List ℕ → List ℕ → Outcome
-observed answer envelopeBuffer headerBuffer = record {
-  number = answer .number;
-  input = answer .input;
-  place = answer .place;
-  offset = answer .offset;
-  envelopeLen = answer .«envelope_len»;
-  headerLen = answer .«header_len»;
-  envelopeBuffer = envelopeBuffer;
-  headerBuffer = headerBuffer;
-}
+observed answer envelopeBuffer headerBuffer =
+    record { number = answer .number; input = answer .input; place = answer .place; offset = answer .offset; envelopeLen = answer .«envelope_len»; headerLen = answer .«header_len»; envelopeBuffer = envelopeBuffer; headerBuffer = headerBuffer }

@@ -5,7 +5,7 @@ use Prim.Native.Nat.{ℕ}
 use Prim.Native.Char.{code}
 use Prim.Native.String.{String, [] as nil, _∷_ as cons}
 use Rattle.lists.specs.CutBy.{cutAfter, cutBy}
-use Rattle.unquote.specs.Unquote.{kept, keptFrom}
+use Rattle.unquote.specs.Unquote.{keptFrom}
 use Rattle.comment.specs.Comment.{past, depthAfter, closing, commentLen, runTo, runLen}
 use Rattle.comment.specs.Parts.{partLen, parts, runText}
 
@@ -52,5 +52,5 @@ cases =
     ∷ []
 
 pub cases-right : AllRight cases
-unfolding past depthAfter closing commentLen runTo runLen partLen parts cutBy cutAfter kept keptFrom runText
+unfolding past depthAfter closing commentLen runTo runLen partLen parts cutBy cutAfter keptFrom runText
 cases-right = (refl, (refl, (refl, (refl, (refl, (refl, (refl, (refl, (refl, (refl, (refl, (refl, (refl, (refl, (refl, tt)))))))))))))))

@@ -1,121 +1,82 @@
--- The demands hold of a batch. Assumes nothing.
-use mathlib.Core.Path.{_≡_, refl, sym, ap, _∙_}
-use mathlib.Core.List.{List}
-use Prim.Native.Nat.{ℕ, _/_}
+-- The demands on a batch hold of `batch`, and leave nothing open: what meets them is `batch`. Assumes nothing.
+use mathlib.Core.Path.{_≡_, sym, _∙_}
+use mathlib.Core.Logic.{⊎-elim}
+use mathlib.Core.Logic._⊎_.{inl, inr}
+use mathlib.Core.List.{List, [], _∷_}
+use Prim.Native.Nat.{ℕ, _+_, _≤_, _<_}
 use native.Mathlib.Omega.{arith}
-use lib.ListN.{length, take, getD}
+use lib.ListN.{length, take, drop}
 use Rattle.rules.specs.declared.Rules.{Rules}
-use Rattle.encoded_word.specs.Segments.Segment.{raw, words, labelled}
-use Rattle.call.specs.Outcome.{Outcome}
-use Rattle.batch.specs.Batch.{rangeRefused, recordOutcome, Batch, batch}
-use Rattle.batch.specs.BatchLaws.{by-range}
-use Rattle.batch.specs.BatchRecords.{RecordDone}
-use Rattle.batch.specs.BatchRecordsLaws.{batch-done, batch-known}
-use Rattle.demands.specs.Demands.{Demand2, DemandThree, Demands}
+use Rattle.call.specs.Outcome.{outcome}
+use Rattle.batch.specs.Batch.{range, rangeRefused, rangeOutcome, recordOutcome, answers, Batch, batch, afterwards}
+use Rattle.batch.specs.BatchLaws.{by-range, after, fronted, batch-step, batch-end}
 use Rattle.demands.specs.DemandsLaws.{demands}
-use Rattle.demands.specs.BatchDemands.{envelopeOf, headerOf, PastEnd, Inside, SingleOrNine, GivenRecord, seen, RecordDemands, DemandsOf}
-use Rattle.demands.specs.BatchDemands.PastEnd.{envelope-past, header-past}
-use Rattle.demands.specs.BatchDemands.SingleOrNine.{nine, single}
-use Rattle.demands.specs.BatchDemands.GivenRecord.{past-end, inside}
+use Rattle.demands.specs.DeterminedLaws.{determined}
+use Rattle.demands.specs.BatchDemands.{BatchDemands}
+use Rattle.demands.specs.BatchDemands.BatchDemands.{last-part, past-end, single}
 
--- ---- demands 2 and 3 speak of what was written alone
-
-module _ (rules : Rules) (e h : List ℕ) (o p : Outcome) (l₁ : p .envelopeLen ≡ o .envelopeLen) (l₂ : p .headerLen ≡ o .headerLen)
-    (t₁ : take (p .envelopeLen) (p .envelopeBuffer) ≡ take (o .envelopeLen) (o .envelopeBuffer))
-    (t₂ : take (p .headerLen) (p .headerBuffer) ≡ take (o .headerLen) (o .headerBuffer)) where
-  same-2 : Demand2 rules e h o → Demand2 rules e h p
-  same-2 d = record {
-    envelope = t₁ ∙ d .envelope;
-    header = t₂ ∙ d .header;
-    envelope-len = l₁ ∙ d .envelope-len;
-    header-len = l₂ ∙ d .header-len;
-    envelope-lines = rw t₁ (d .envelope-lines);
-    envelope-ascii = d .envelope-ascii;
-    header-ascii = d .header-ascii;
-    fields = d .fields;
-    whole = d .whole;
-    copied = d .copied;
-    retired = d .retired;
-  }
-
-  same-3 : DemandThree rules e h o → DemandThree rules e h p
-  same-3 d before (raw bytes) after q = tt
-  same-3 d before (words text) after q = let x = d before (words text) after q in record { row = x .row; there = t₂ ∙ x .there; demand = x .demand }
-  same-3 d before (labelled label text) after q = let x = d before (labelled label text) after q in record { row = x .row; there = t₂ ∙ x .there; demand = x .demand }
-
--- ---- a record
-
--- past the end and inside exclude each other
-never-both : {input numbers : List ℕ} → PastEnd input numbers → Inside input numbers → ⊥
-never-both (envelope-past k) i = omega (arith, i .envelope)
-never-both (header-past k) i = omega (arith, i .header)
-
-record-outcome : (rules : Rules) (input numbers b c : List ℕ) (o : Outcome) → o ≡ recordOutcome rules input numbers b c → SingleOrNine rules input numbers b c o
+-- a batch by its first record
+by-first-record : (rules : Rules) (input : List ℕ) (start₁ len₁ start₂ len₂ v w x y z : ℕ) (more b c : List ℕ)
+    → batch rules input (start₁ ∷ len₁ ∷ start₂ ∷ len₂ ∷ v ∷ w ∷ x ∷ y ∷ z ∷ more) b c ≡ fronted rules input (start₁ ∷ len₁ ∷ start₂ ∷ len₂ ∷ v ∷ w ∷ x ∷ y ∷ z ∷ more) (rangeOutcome rules input start₁ len₁ start₂ len₂ b c)
 unfolding recordOutcome
-record-outcome rules input numbers b c o e =
-    by-range rules input (getD numbers 0 0) (getD numbers 1 0) (getD numbers 2 0) (getD numbers 3 0) b c
-    (λ k q. rw (e ∙ q) (nine (envelope-past k)))
-    (λ k q. rw (e ∙ q) (nine (header-past k)))
-    (λ k l q. single (record { envelope = k; header = l }) (rw (e ∙ q) (demands rules (envelopeOf input numbers) (headerOf input numbers) b c)))
+by-first-record rules input start₁ len₁ start₂ len₂ v w x y z more b c = batch-step rules input (start₁ ∷ len₁ ∷ start₂ ∷ len₂ ∷ v ∷ w ∷ x ∷ y ∷ z ∷ more) b c (omega arith)
 
-module _ (rules : Rules) (input before after b c b′ c′ : List ℕ) where
-  abbrev Answers : Outcome → Type 0
-  Answers o = (getD after 4 0 ≡ o .number) × (getD after 5 0 ≡ o .place) × (getD after 6 0 ≡ o .offset)
+abbrev Demanded : Rules → List ℕ → List ℕ → List ℕ → List ℕ → Batch → Type 0
+Demanded rules input records b c after = BatchDemands rules input records b c (after .records) (after .envelopeBuffer) (after .headerBuffer)
 
-  -- where a range is past the end, the answer is 9 alone
-  only-nine : PastEnd input before → (number place offset : ℕ) → GivenRecord rules input before b c number place offset → (number ≡ 9) × (place ≡ 0) × (offset ≡ 0)
-  only-nine out number place offset (past-end k) = (refl, refl, refl)
-  only-nine out number place offset (inside i g) = absurd (never-both out i)
+none-left : (rules : Rules) (input records b c : List ℕ) → length records < 9 → Demanded rules input records b c (batch rules input records b c)
+none-left rules input records b c k = rw (batch-end rules input records b c k) (last-part {records = records} (omega arith))
 
-  -- where both are inside, that of the single call
-  only-single : {o : Outcome} → Inside input before → Demands rules (envelopeOf input before) (headerOf input before) b c o
-      → (number place offset : ℕ) → GivenRecord rules input before b c number place offset → (number ≡ o .number) × (place ≡ o .place) × (offset ≡ o .offset)
-  only-single i d number place offset (past-end k) = absurd (never-both k i)
-  only-single i d number place offset (inside {about = about} j g) = let x = d .demand-1 .exact number about place offset g in (x .0, x .2, x .3)
+-- Every batch meets the demands.
+pub batch-demands : (rules : Rules) (input records b c : List ℕ) → Demanded rules input records b c (batch rules input records b c)
+unfolding after fronted answers range rangeRefused
+batch-demands rules input [] b c = none-left rules input [] b c (omega arith)
+batch-demands rules input (s ∷ []) b c = none-left rules input (s ∷ []) b c (omega arith)
+batch-demands rules input (s ∷ l ∷ []) b c = none-left rules input (s ∷ l ∷ []) b c (omega arith)
+batch-demands rules input (s ∷ l ∷ t ∷ []) b c = none-left rules input (s ∷ l ∷ t ∷ []) b c (omega arith)
+batch-demands rules input (s ∷ l ∷ t ∷ m ∷ []) b c = none-left rules input (s ∷ l ∷ t ∷ m ∷ []) b c (omega arith)
+batch-demands rules input (s ∷ l ∷ t ∷ m ∷ v ∷ []) b c = none-left rules input (s ∷ l ∷ t ∷ m ∷ v ∷ []) b c (omega arith)
+batch-demands rules input (s ∷ l ∷ t ∷ m ∷ v ∷ w ∷ []) b c = none-left rules input (s ∷ l ∷ t ∷ m ∷ v ∷ w ∷ []) b c (omega arith)
+batch-demands rules input (s ∷ l ∷ t ∷ m ∷ v ∷ w ∷ x ∷ []) b c = none-left rules input (s ∷ l ∷ t ∷ m ∷ v ∷ w ∷ x ∷ []) b c (omega arith)
+batch-demands rules input (s ∷ l ∷ t ∷ m ∷ v ∷ w ∷ x ∷ y ∷ []) b c = none-left rules input (s ∷ l ∷ t ∷ m ∷ v ∷ w ∷ x ∷ y ∷ []) b c (omega arith)
+batch-demands rules input (s ∷ l ∷ t ∷ m ∷ v ∷ w ∷ x ∷ y ∷ z ∷ more) b c =
+    let first = by-first-record rules input s l t m v w x y z more b c in
+    by-range rules input s l t m b c
+    (λ k q. rw (first, q) (past-end {start₁ = s} {len₁ = l} {start₂ = t} {len₂ = m} (inl (omega arith)) (batch-demands rules input more b c)))
+    (λ k q. rw (first, q) (past-end {start₁ = s} {len₁ = l} {start₂ = t} {len₂ = m} (inr (omega arith)) (batch-demands rules input more b c)))
+    (λ k n q.
+    let o = outcome rules (take l (drop s input)) (take m (drop t input)) b c in
+    rw (first, q)
+    (single k n (demands rules (take l (drop s input)) (take m (drop t input)) b c)
+    (batch-demands rules input more (drop (o .envelopeLen) (o .envelopeBuffer)) (drop (o .headerLen) (o .headerBuffer)))))
 
-  module _ (r : RecordDone (SingleOrNine rules input) before after b c b′ c′) where
-    bytes₁ : take (getD after 7 0) b′ ≡ take (r .single .envelopeLen) (r .single .envelopeBuffer)
-    bytes₁ = rw (r .envelope-len) (r .envelope)
+-- the outcome of a record by its two ranges
+module _ (rules : Rules) (input : List ℕ) (start₁ len₁ start₂ len₂ : ℕ) (b c : List ℕ) where
+  outside : (start₁ + len₁ ≤ length input → start₂ + len₂ ≤ length input → ⊥) → rangeOutcome rules input start₁ len₁ start₂ len₂ b c ≡ rangeRefused b c
+  outside not-both = by-range rules input start₁ len₁ start₂ len₂ b c (λ k q. q) (λ k q. q) (λ k l q. absurd (not-both k l))
 
-    bytes₂ : take (getD after 8 0) c′ ≡ take (r .single .headerLen) (r .single .headerBuffer)
-    bytes₂ = rw (r .header-len) (r .header)
+  inside : start₁ + len₁ ≤ length input → start₂ + len₂ ≤ length input
+      → rangeOutcome rules input start₁ len₁ start₂ len₂ b c ≡ outcome rules (take len₁ (drop start₁ input)) (take len₂ (drop start₂ input)) b c
+  unfolding range
+  inside k l = by-range rules input start₁ len₁ start₂ len₂ b c (λ m q. absurd (omega arith)) (λ m q. absurd (omega arith)) (λ m n q. q)
 
-    by-outcome : {o : Outcome} → r .single ≡ o → SingleOrNine rules input before b c o → RecordDemands rules input before after b c b′ c′
-    unfolding rangeRefused
-    by-outcome e (nine out) =
-        let number : getD after 4 0 ≡ 9 = r .number ∙ ap (λ (o : Outcome). o .number) e in
-        let place : getD after 5 0 ≡ 0 = r .place ∙ ap (λ (o : Outcome). o .place) e in
-        let offset : getD after 6 0 ≡ 0 = r .offset ∙ ap (λ (o : Outcome). o .offset) e in
-        record {
-          answered = rw (number, place, offset) (past-end out);
-          exact = λ n p f g. let x = only-nine out n p f g in (x .0 ∙ sym number, x .1 ∙ sym place, x .2 ∙ sym offset);
-          demand-2 = λ z. absurd (omega arith);
-          demand-3 = λ z. absurd (omega arith);
-        }
-    by-outcome e (single i meets) =
-        let d : Demands rules (envelopeOf input before) (headerOf input before) b c (r .single) = rw e meets in
-        record {
-          answered = rw (r .number, r .place, r .offset) (inside i (d .demand-1 .answered));
-          exact = λ n p f g. let x = only-single i d n p f g in (x .0 ∙ sym (r .number), x .1 ∙ sym (r .place), x .2 ∙ sym (r .offset));
-          demand-2 = λ z.
-              same-2 rules (envelopeOf input before) (headerOf input before) (r .single) (seen after b′ c′) (r .envelope-len) (r .header-len) bytes₁ bytes₂
-              (d .demand-2 (sym (r .number) ∙ z));
-          demand-3 = λ z.
-              same-3 rules (envelopeOf input before) (headerOf input before) (r .single) (seen after b′ c′) (r .envelope-len) (r .header-len) bytes₁ bytes₂
-              (d .demand-3 (sym (r .number) ∙ z));
-        }
+-- What meets them is the batch.
+pub batch-determined : (rules : Rules) (input : List ℕ) {records b c records′ b′ c′ : List ℕ} → BatchDemands rules input records b c records′ b′ c′
+    → afterwards records′ b′ c′ ≡ batch rules input records b c
+unfolding after fronted answers rangeRefused
+batch-determined rules input (last-part {records} {b} {c} k) = sym (batch-end rules input records b c (omega arith))
+batch-determined rules input (past-end {start₁} {len₁} {start₂} {len₂} {v} {w} {x} {y} {z} {more} {b} {c} past d) =
+    let not-both : start₁ + len₁ ≤ length input → start₂ + len₂ ≤ length input → ⊥ = λ k l. ⊎-elim (λ m. omega arith) (λ m. omega arith) past in
+    sym (rw (by-first-record rules input start₁ len₁ start₂ len₂ v w x y z more b c, outside rules input start₁ len₁ start₂ len₂ b c not-both, ← batch-determined rules input d))
+batch-determined rules input (single {start₁} {len₁} {start₂} {len₂} {v} {w} {x} {y} {z} {more} {b} {c} {b₁} {c₁} {more′} {b′} {c′} {r} k l one d) =
+    let is = determined rules (take len₁ (drop start₁ input)) (take len₂ (drop start₂ input)) b c r b₁ c₁ one in
+    sym (rw (by-first-record rules input start₁ len₁ start₂ len₂ v w x y z more b c, inside rules input start₁ len₁ start₂ len₂ b c k l, ← is, ← batch-determined rules input d))
 
-    record-demands : RecordDemands rules input before after b c b′ c′
-    record-demands = by-outcome refl (r .is-single)
+-- So two that meet them for one call are equal.
+pub batch-unique : (rules : Rules) (input records b c : List ℕ) {records₁ b₁ c₁ records₂ b₂ c₂ : List ℕ} → BatchDemands rules input records b c records₁ b₁ c₁
+    → BatchDemands rules input records b c records₂ b₂ c₂ → afterwards records₁ b₁ c₁ ≡ afterwards records₂ b₂ c₂
+batch-unique rules input records b c d e = batch-determined rules input d ∙ sym (batch-determined rules input e)
 
--- ---- a batch
-
--- All of every batch.
-pub batch-demands : (rules : Rules) (input records b c : List ℕ) → DemandsOf (length records / 9) rules input records b c (batch rules input records b c)
-batch-demands rules input records b c =
-    let d = batch-known {Known = SingleOrNine rules input} (record-outcome rules input) (batch-done rules input records b c) in
-    record { done = d; each = λ k h. record-demands rules input _ _ _ _ _ _ (d .each k h) }
-
--- what equals the batch meets them
-pub batch-met : {rules : Rules} {input records b c : List ℕ} {after : Batch} → after ≡ batch rules input records b c → DemandsOf (length records / 9) rules input records b c after
+-- What equals the batch meets them.
+pub batch-met : {rules : Rules} {input records b c : List ℕ} {after : Batch} → after ≡ batch rules input records b c → Demanded rules input records b c after
 batch-met {rules} {input} {records} {b} {c} q = rw q (batch-demands rules input records b c)

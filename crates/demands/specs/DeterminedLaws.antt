@@ -1,17 +1,18 @@
--- The demands leave nothing open: what meets them is the outcome. So no program that refuses all, answers a fixed envelope, writes
+-- The demands leave nothing open: what meets them is observed as the outcome. So no program that refuses all, answers a fixed envelope, writes
 -- nothing or invents lengths meets them. Assumes nothing.
 use mathlib.Core.Path.{_≡_, refl, ap, sym, _∙_}
-use mathlib.Core.Bool.{Bool, true, false}
 use mathlib.Core.List.{List, _++_}
 use Prim.Native.Nat.{ℕ}
+use native.Mathlib.Omega.{arith}
 use lib.Dec.{eqb, eqb→eq}
 use mir.Facts.{eqb-no}
-use lib.ListN.{length, take, drop, take-append-drop}
+use lib.ListN.{length, take, drop, take-append-drop, length-take}
 use Rattle.lists.specs.ListsLaws.{by-test}
 use Rattle.rules.specs.declared.Rules.{Rules}
-use Rattle.call.specs.Outcome.{Outcome, outcome}
-use Rattle.demands.specs.Demands.{Given, Untouched, KeptPast, Demand1, Demand2, Demands}
-use Rattle.demands.specs.DemandsLaws.{demands}
+use Rattle.call.specs.declared.Answer.{Answer}
+use Rattle.call.specs.Outcome.{Outcome, outcome, observed}
+use Rattle.demands.specs.Demands.{KeptPast, Demands}
+use Rattle.demands.specs.DemandsLaws.{envelopeOut, headerOut, downgraded-out, downgraded-header, OutcomeDemands, demands}
 
 same-outcome : {o p : Outcome} → o .number ≡ p .number → o .input ≡ p .input → o .place ≡ p .place → o .offset ≡ p .offset → o .envelopeLen ≡ p .envelopeLen → o .headerLen ≡ p .headerLen
     → o .envelopeBuffer ≡ p .envelopeBuffer → o .headerBuffer ≡ p .headerBuffer → o ≡ p
@@ -28,8 +29,22 @@ same-outcome {o} {p} a i b k c d e f = same
 same-buffer : (text before after : List ℕ) (len : ℕ) → take len after ≡ text → KeptPast len before after → after ≡ text ++ drop len before
 same-buffer text before after len e k = sym (take-append-drop len after) ∙ rw (e, k .past)
 
-module _ (rules : Rules) (e h b c : List ℕ) (o : Outcome) (d : Demands rules e h b c o) where
-  meets : Demands rules e h b c (outcome rules e h b c)
+-- what is written in two buffers of one length is as long in both
+len-written : {len : ℕ} {before after : List ℕ} → KeptPast len before after → length (take len after) ≡ len
+len-written {len} {before} {after} k = rw length-take (omega (arith, k .inside, k .size))
+
+same-length : {len len′ : ℕ} {before before′ after after′ : List ℕ} → KeptPast len before after → KeptPast len′ before′ after′ → take len after ≡ take len′ after′ → len ≡ len′
+same-length k l e = sym (len-written k) ∙ ap length e ∙ len-written l
+
+-- where nothing is written a buffer is as before
+untouched : {len : ℕ} {before after : List ℕ} → len ≡ 0 → KeptPast len before after → after ≡ before
+untouched z k = rw z at (k .past)
+
+module _ (rules : Rules) (e h b c : List ℕ) (r : Answer) (b′ c′ : List ℕ) (d : Demands rules e h b c r b′ c′) where
+  abbrev o : Outcome
+  o = observed r b′ c′
+
+  meets : OutcomeDemands rules e h b c (outcome rules e h b c)
   meets = demands rules e h b c
 
   numbers : (o .number ≡ outcome rules e h b c .number) × (o .input ≡ outcome rules e h b c .input) × (o .place ≡ outcome rules e h b c .place) × (o .offset ≡ outcome rules e h b c .offset)
@@ -41,23 +56,27 @@ module _ (rules : Rules) (e h b c : List ℕ) (o : Outcome) (d : Demands rules e
       let y : p .number ≡ 0 = sym (numbers .0) ∙ z in
       let mine = d .demand-2 z in
       let theirs = meets .demand-2 y in
-      let kept = d .demand-1 .success z in
-      let stayed = meets .demand-1 .success y in
-      let len₁ : o .envelopeLen ≡ p .envelopeLen = mine .envelope-len ∙ sym (theirs .envelope-len) in
-      let len₂ : o .headerLen ≡ p .headerLen = mine .header-len ∙ sym (theirs .header-len) in
+      let mine-1 = d .demand-1 in
+      let theirs-1 = meets .demand-1 in
+      let text₁ : envelopeOut o ≡ envelopeOut p = downgraded-out rules e h (mine .downgraded) ∙ sym (downgraded-out rules e h (theirs .downgraded)) in
+      let text₂ : headerOut o ≡ headerOut p =
+      mine .header ∙ downgraded-header rules e h (mine .downgraded) ∙ sym (theirs .header ∙ downgraded-header rules e h (theirs .downgraded)) in
+      let len₁ : o .envelopeLen ≡ p .envelopeLen = same-length (mine-1 .envelope-kept) (theirs-1 .envelope-kept) text₁ in
+      let len₂ : o .headerLen ≡ p .headerLen = same-length (mine-1 .header-kept) (theirs-1 .header-kept) text₂ in
       same-outcome (numbers .0) (numbers .1) (numbers .2) (numbers .3) len₁ len₂
-      (same-buffer _ b _ _ (mine .envelope) (kept .0) ∙ rw len₁ (sym (same-buffer _ b _ _ (theirs .envelope) (stayed .0))))
-      (same-buffer _ c _ _ (mine .header) (kept .1) ∙ rw len₂ (sym (same-buffer _ c _ _ (theirs .header) (stayed .1))))
+      (same-buffer _ b _ _ text₁ (mine-1 .envelope-kept) ∙ rw len₁ (sym (same-buffer _ b _ _ refl (theirs-1 .envelope-kept))))
+      (same-buffer _ c _ _ text₂ (mine-1 .header-kept) ∙ rw len₂ (sym (same-buffer _ c _ _ refl (theirs-1 .header-kept))))
 
   after-refusal : (o .number ≡ 0 → ⊥) → o ≡ outcome rules e h b c
   after-refusal z =
+      let p = outcome rules e h b c in
       let mine = d .demand-1 .refusal z in
       let theirs = meets .demand-1 .refusal (λ y. z (numbers .0 ∙ y)) in
-      same-outcome (numbers .0) (numbers .1) (numbers .2) (numbers .3)
-      (mine .envelope-len ∙ sym (theirs .envelope-len))
-      (mine .header-len ∙ sym (theirs .header-len))
-      (mine .envelope-buffer ∙ sym (theirs .envelope-buffer))
-      (mine .header-buffer ∙ sym (theirs .header-buffer))
+      let len₁ : o .envelopeLen ≡ p .envelopeLen = mine .0 ∙ sym (theirs .0) in
+      let len₂ : o .headerLen ≡ p .headerLen = mine .1 ∙ sym (theirs .1) in
+      same-outcome (numbers .0) (numbers .1) (numbers .2) (numbers .3) len₁ len₂
+      (untouched (mine .0) (d .demand-1 .envelope-kept) ∙ sym (untouched (theirs .0) (meets .demand-1 .envelope-kept)))
+      (untouched (mine .1) (d .demand-1 .header-kept) ∙ sym (untouched (theirs .1) (meets .demand-1 .header-kept)))
 
-  pub determined : o ≡ outcome rules e h b c
+  pub determined : observed r b′ c′ ≡ outcome rules e h b c
   determined = by-test (eqb (o .number) 0) (λ t. after-zero (eqb→eq (o .number) 0 t)) (λ t. after-refusal (eqb-no {a = o .number} {b = 0} t))

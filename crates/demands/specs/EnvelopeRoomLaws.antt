@@ -6,25 +6,24 @@ use native.Mathlib.Omega.{arith}
 use lib.ListN.{length}
 use Rattle.envelope.specs.LengthLaws.{written-le}
 use Rattle.rules.specs.declared.Rules.{Rules}
-use Rattle.demands.specs.Demands.{Passes, Given}
-use Rattle.demands.specs.Demands.Given.{envelope-over, header-over, envelope-malformed, no-alternative, bad-alternative, retired-alternative, header-malformed, orcpt-non-ascii, held-non-ascii, envelope-longer, header-longer, none-holds}
+use Rattle.demands.specs.DemandsLaws.{refusal-number, downgraded-passes, downgraded-out}
+use Rattle.demands.specs.Demands.{Given}
+use Rattle.demands.specs.Demands.Given.{envelope-over, header-over, envelope-malformed, line-refused, header-malformed, orcpt-non-ascii, held-non-ascii, envelope-longer, header-longer, none-holds}
 
 -- where 7 is given, the buffer is shorter than the envelope, and the envelope within its limit
 seven : (rules : Rules) (e h b c : List ℕ) {number input place offset : ℕ} → Given rules e h b c number input place offset → number ≡ 7 → (length b < length e) × (length e ≤ 16384)
-seven rules e h b c (envelope-over x) z = absurd (omega arith)
-seven rules e h b c (header-over x y) z = absurd (omega arith)
-seven rules e h b c (envelope-malformed x y w) z = absurd (omega arith)
-seven rules e h b c (no-alternative x y) z = absurd (omega arith)
-seven rules e h b c (bad-alternative x y) z = absurd (omega arith)
-seven rules e h b c (retired-alternative x y) z = absurd (omega arith)
-seven rules e h b c (header-malformed x y w) z = absurd (omega arith)
-seven rules e h b c (orcpt-non-ascii x y) z = absurd (omega arith)
-seven rules e h b c (held-non-ascii x y) z = absurd (omega arith)
-seven rules e h b c (envelope-longer p y) z =
-    let q = p .orcpt .header .envelope in
-    (omega (arith, y, written-le rules e (q .recipients) (q .lines)), q .limits .envelope)
-seven rules e h b c (header-longer p x y) z = absurd (omega arith)
-seven rules e h b c (none-holds x y w) z = absurd (omega arith)
+seven rules e h b c (envelope-over k) z = absurd (omega arith)
+seven rules e h b c (header-over k l) z = absurd (omega arith)
+seven rules e h b c (envelope-malformed s t k ls m f) z = absurd (omega arith)
+seven rules e h b c (line-refused more s t k ls m f) z = absurd (refusal-number f z (omega arith) (omega arith) (omega arith))
+seven rules e h b c (header-malformed p k ls m f) z = absurd (omega arith)
+seven rules e h b c (orcpt-non-ascii more p q k ls l m) z = absurd (omega arith)
+seven rules e h b c (held-non-ascii after p q k ls m) z = absurd (omega arith)
+seven rules e h b c (envelope-longer d k) z =
+    let p = downgraded-passes rules e h d in
+    (omega (arith, rw (downgraded-out rules e h d) at k, written-le rules e (p .recipients) (p .envelope)), p .limits .0)
+seven rules e h b c (header-longer d k l) z = absurd (omega arith)
+seven rules e h b c (none-holds d k l) z = absurd (omega arith)
 
 -- With room for as many bytes as the envelope has, the answer 7 is never given.
 pub never-seven : (rules : Rules) (e h b c : List ℕ) → length e ≤ length b → {number input place offset : ℕ} → Given rules e h b c number input place offset → number ≡ 7 → ⊥

@@ -1,4 +1,7 @@
+pub mod Downgraded
 pub mod Demands
+pub mod HeaderLaws
+pub mod BecomesLaws
 pub mod DemandsLaws
 pub mod DeterminedLaws
 pub mod RoomLaws

@@ -1,12 +1,11 @@
 // The three demands on the exported calls: specs/Demands.antt and specs/BatchDemands.antt state them, and here the calls are checked against
 // them.
-ghost use Rattle.call.specs.Outcome.{observed};
-ghost use Rattle.batch.specs.Batch.{afterwards};
-ghost use Rattle.demands.specs.Demands.{SettingDemands};
+ghost use Rattle.rules.specs.Rules.{settingRules};
+ghost use Rattle.demands.specs.Demands.{Demands};
 ghost use Rattle.demands.specs.BatchDemands.{BatchDemands};
 use call::Answer;
 
-// The exported call: what it answers and leaves meets the three demands.
+// The exported call: what it answers and leaves meets the three demands, by the rules of its setting.
 pub fn downgrade(
     setting: u64,
     envelope: &[u8],
@@ -14,12 +13,12 @@ pub fn downgrade(
     envelope_buffer: &mut [u8],
     header_buffer: &mut [u8],
 ) -> Answer
-    ensures { λ r. ⌜ SettingDemands setting (now (envelope .entry)) (now (header .entry)) (now («envelope_buffer» .entry)) (now («header_buffer» .entry)) (observed r (now («envelope_buffer» .exit)) (now («header_buffer» .exit))) ⌝ }
+    ensures { λ r. ⌜ Demands (settingRules setting) (now (envelope .entry)) (now (header .entry)) (now («envelope_buffer» .entry)) (now («header_buffer» .entry)) r (now («envelope_buffer» .exit)) (now («header_buffer» .exit)) ⌝ }
 {
     hennelaku::hennelaku_downgrade_slices(setting, envelope, header, envelope_buffer, header_buffer)
 }
 
-// The exported call for a batch: what it leaves meets the demands on each record, and on the records and both buffers.
+// The exported call for a batch: what it leaves meets the demands on a batch, by the rules of its one setting.
 pub fn downgrade_batch(
     setting: u64,
     input: &[u8],
@@ -27,7 +26,7 @@ pub fn downgrade_batch(
     envelope_buffer: &mut [u8],
     header_buffer: &mut [u8],
 )
-    ensures { λ _. ⌜ BatchDemands setting (now (input .entry)) (now (records .entry)) (now («envelope_buffer» .entry)) (now («header_buffer» .entry)) (afterwards (now (records .exit)) (now («envelope_buffer» .exit)) (now («header_buffer» .exit))) ⌝ }
+    ensures { λ _. ⌜ BatchDemands (settingRules setting) (now (input .entry)) (now (records .entry)) (now («envelope_buffer» .entry)) (now («header_buffer» .entry)) (now (records .exit)) (now («envelope_buffer» .exit)) (now («header_buffer» .exit)) ⌝ }
 {
     hennelaku::hennelaku_downgrade_batch_slices(
         setting,

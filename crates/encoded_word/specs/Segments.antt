@@ -1,11 +1,11 @@
 -- The outgoing header as a list of segments: bytes as they stand, the encoded words of a text, or a label, which is a name with its colon,
 -- with the encoded words of a text set after it. Wherever a rule asks for encoded words of something there is one segment `words` or `labelled`. Assumes nothing.
 use mathlib.Core.Bool.{Bool, _&&_}
-use mathlib.Core.List.{List, [], _∷_, _++_}
+use mathlib.Core.List.{List, _++_, map}
 use Prim.Native.Nat.{ℕ}
 use lib.ListN.{length}
 use Rattle.lists.specs.Byte.{isAscii}
-use Rattle.lists.specs.Lists.{all}
+use Rattle.lists.specs.Lists.{all, joined}
 use Rattle.utf8.specs.Utf8.{utf8}
 use Rattle.row.specs.Row.{row, rowAfter}
 
@@ -22,8 +22,7 @@ bytesOf (labelled label text) = label ++ rowAfter (length label) text
 
 -- the bytes of segments one after another
 unfoldable pub rendered : List Segment → List ℕ
-rendered [] = []
-rendered (s ∷ ss) = bytesOf s ++ rendered ss
+rendered segments = joined (map bytesOf segments)
 
 -- bytes that stand as they are have to be ASCII, a text that is encoded has to be UTF-8
 abbrev pub sound : Segment → Bool

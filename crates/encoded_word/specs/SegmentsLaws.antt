@@ -14,7 +14,8 @@ use Rattle.utf8.specs.Utf8.{chars, utf8}
 use Rattle.utf8.specs.Utf8Laws.{chars-joined, utf8-bytes}
 use Rattle.hex.specs.Hex.{hexDigit}
 use Rattle.word_spelling.specs.Spelling.{closing, bare, spellByte, spell}
-use Rattle.base64.specs.Base64.{digit64, isDigit64, value64, inBase64}
+use Rattle.base64.specs.Base64.{digit64, inBase64}
+use Rattle.base64.specs.Reading.{isDigit64, value64}
 use Rattle.base64.specs.Base64Laws.{isBase64, reads-only, all-base64}
 use Rattle.row.specs.declared.Encoding.{Encoding}
 use Rattle.row.specs.declared.Encoding.the-variants.{Q, B}

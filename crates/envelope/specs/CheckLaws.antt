@@ -57,7 +57,7 @@ module _ (s : List ℕ) (i end : ℕ) (d : end ≡ i + lineLen (drop i s)) where
 
 -- ---- a line without fault
 
-fine-is : (f : Fault) → isFine f ≡ true → f ≡ Fine
+pub fine-is : (f : Fault) → isFine f ≡ true → f ≡ Fine
 unfolding isFine faultNumber
 fine-is Fine e = refl
 fine-is Malformed e = absurd (true-yes false e)

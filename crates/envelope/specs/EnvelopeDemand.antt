@@ -1,33 +1,30 @@
--- The envelope's half of demand 2: an envelope, line by line, and what is written for it. EnvelopeDemandLaws.antt proves it of what is
--- written for every envelope without fault. Assumes nothing.
-use mathlib.Core.Path.{_≡_}
-use mathlib.Core.Bool.{true, false}
+-- An envelope, line by line, by the grammar of its lines: what is written for it. EnvelopeDemandLaws.antt proves that this is what is checked and
+-- written. Assumes nothing.
 use mathlib.Core.List.{List, [], _∷_, _++_}
-use Prim.Native.Nat.{ℕ, _≤_}
-use lib.ListN.{length}
+use mathlib.Core.Option.{Option}
+use Prim.Native.Nat.{ℕ, suc, _≤_}
+use lib.Dec.{T, eqb}
+use Rattle.lists.specs.Byte.{isAscii}
+use Rattle.lists.specs.Lists.{all}
 use Rattle.rules.specs.declared.Rules.{Rules}
-use Rattle.envelope_line.specs.LineGrammar.{Written}
+use Rattle.envelope_line.specs.LineGrammar.{Line, Written}
 
--- lines, "each ended by CRLF"
-abbrev pub eachEnded : List (List ℕ) → List ℕ
-eachEnded [] = []
-eachEnded (line ∷ more) = line ++ (13 ∷ 10 ∷ eachEnded more)
+-- "any well-formed line at that number": "One MAIL line, then 1 to 100 RCPT lines". "Lines count from 0."
+pub record WellFormedAt (n : ℕ) (line : List ℕ) : Type 0 where
+  pub few : n ≤ 100
+  pub formed : (path : List ℕ) × (alternative : Option (List ℕ)) × Line (eqb n 0) path alternative line
 
--- RCPT lines, and in the same order what is written for each
-pub data RcptsWritten (rules : Rules) : List (List ℕ) → List (List ℕ) → Type 0 where
-  end : RcptsWritten rules [] []
-  then : {line out : List ℕ} {more outs : List (List ℕ)} → Written rules false line out → RcptsWritten rules more outs → RcptsWritten rules (line ∷ more) (out ∷ outs)
+-- what may be asked of the bytes after a path: nothing; or that they are ASCII, so that no "ORCPT carries non-ASCII": only an ORCPT may
+abbrev pub Any : List ℕ → Type 0
+Any tail = Unit {0}
 
--- "One MAIL line, then 1 to 100 RCPT lines, each ended by CRLF": the envelope is these lines, what is written is a line for each of
--- them, and each is copied or has its path replaced.
-pub record EnvelopeWritten (rules : Rules) (e out : List ℕ) : Type 0 where
-  pub mail : List ℕ
-  pub rcpts : List (List ℕ)
-  pub new-mail : List ℕ
-  pub new-rcpts : List (List ℕ)
-  pub incoming : e ≡ eachEnded (mail ∷ rcpts)
-  pub outgoing : out ≡ eachEnded (new-mail ∷ new-rcpts)
-  pub first : Written rules true mail new-mail
-  pub others : RcptsWritten rules rcpts new-rcpts
-  pub some : 1 ≤ length rcpts
-  pub few : length rcpts ≤ 100
+abbrev pub Ascii : List ℕ → Type 0
+Ascii tail = T (all isAscii tail)
+
+-- The first n lines of an envelope, "each ended by CRLF", none of them refused: their bytes, what is written for them, and for each line the text
+-- `<old <new>>` where its path is replaced. `Asked` is what is asked of the bytes after each line's path.
+pub data EnvelopeLines (rules : Rules) (Asked : List ℕ → Type 0) : ℕ → List ℕ → List ℕ → List (List ℕ) → Type 0 where
+  none : EnvelopeLines rules Asked 0 [] [] []
+  then : {n : ℕ} {before line tail out new text : List ℕ} {texts : List (List ℕ)} → EnvelopeLines rules Asked n before out texts → n ≤ 100
+      → Written rules (eqb n 0) line tail new text → Asked tail
+      → EnvelopeLines rules Asked (suc n) (before ++ (line ++ (13 ∷ 10 ∷ []))) (out ++ (new ++ (13 ∷ 10 ∷ []))) (texts ++ (text ∷ []))

@@ -1,15 +1,14 @@
 -- The bytes of a line of the grammar: no CR stands inside; past the path only an ORCPT carries non-ASCII. Assumes nothing.
-use mathlib.Core.Path.{_≡_, refl, sym}
+use mathlib.Core.Path.{_≡_, refl}
 use mathlib.Core.Bool.{Bool, true, false, not, or-true}
 use mathlib.Core.List.{List, [], _∷_, _++_, map}
-use mathlib.Core.Option.{Option, none}
+use mathlib.Core.Option.{Option}
 use Prim.Native.Nat.{ℕ, _+_}
-use native.Mathlib.Omega.{arith}
-use lib.Dec.{T, eqb, eqb→eq}
+use lib.Dec.{T}
 use lib.ListN.{take, drop, take-append-drop}
-use mir.Facts.{T-not, not-T, and-yes, yes-and, no-eqb, eqb-no}
+use mir.Facts.{T-not, not-T, and-yes, yes-and, no-eqb}
 use Rattle.lists.specs.ListsLaws.{by-test, yes-true, no-false, all-append, all-right, all-weaken, all-joined}
-use Rattle.lists.specs.Lists.{all}
+use Rattle.lists.specs.Lists.{all, nonempty}
 use Rattle.lists.specs.Byte.{isAscii}
 use Rattle.lists.specs.CutBy.{cutBy}
 use Rattle.lists.specs.CutByLaws.{cut-joined}
@@ -21,33 +20,28 @@ use Rattle.parameter.specs.Parameter.{spacedLen, params, isKeywordByte, isValue
 use Rattle.parameter.specs.AsciiLaws.{tail-ascii}
 use Rattle.envelope_line.specs.EnvelopeLine.{verb, tail, orcptFault}
 use Rattle.rules.specs.declared.Rules.{Rules}
-use Rattle.envelope_line.specs.LineGrammar.{Verb, Path, Keyword, Value, Parameter, Others, Alt, Tail, Line, Written}
-use Rattle.envelope_line.specs.LineGrammarLaws.{lower-mark, line-tail}
-use Rattle.envelope_line.specs.TailGrammarLaws.{tail-reads}
+use Rattle.envelope_line.specs.LineGrammar.{Path, isValue, Others, Tail, Line, LineRefused, Written}
+use Rattle.envelope_line.specs.LineGrammarLaws.{line-tail}
+use Rattle.envelope_line.specs.TailGrammarLaws.{same-each, Keyword, other-keyword, alt-keyword, tail-reads}
 
 -- bytes of a class that CR is not in
 class-no-cr : (f : ℕ → Bool) → f 13 ≡ false → (s : List ℕ) → T (all f s) → T (all notCr s)
 class-no-cr f n s h = all-weaken f notCr (λ b t. no-eqb {a = b} {b = 13} (λ e. rw (e, n) at t)) s h
 
-same-no-cr : (xs ys : List ℕ) → T (sameAnyCase xs ys) → T (all notCr xs) → T (all notCr ys)
-unfolding sameAnyCase lower
-same-no-cr [] [] t h = tt
-same-no-cr [] (y ∷ ys) t h = absurd t
-same-no-cr (x ∷ xs) [] t h = absurd t
-same-no-cr (x ∷ xs) (y ∷ ys) t h =
-    let p = and-yes (eqb (lower x) (lower y)) (sameAnyCase xs ys) t in
-    let q = and-yes (notCr x) (all notCr xs) h in
-    let e = eqb→eq (lower x) (lower y) (p .0) in
-    let no : y ≡ 13 → ⊥ = λ k. eqb-no {a = x} {b = 13} (q .0) (lower-mark 13 x (omega arith) (sym (rw k at e))) in
-    yes-and (notCr y) (all notCr ys) (no-eqb {a = y} {b = 13} no) (same-no-cr xs ys (p .1) (q .1))
+lower-no-cr : (y : ℕ) → T (notCr (lower y)) → T (notCr y)
+unfolding lower
+lower-no-cr y t = no-eqb {a = y} {b = 13} (λ e. rw e at t)
 
-verb-no-cr : (mail : Bool) → T (all notCr (verb mail))
-unfolding verb bytes
+same-no-cr : (xs ys : List ℕ) → T (sameAnyCase xs ys) → T (all (λ x. notCr (lower x)) xs) → T (all notCr ys)
+same-no-cr = same-each notCr notCr lower-no-cr
+
+verb-no-cr : (mail : Bool) → T (all (λ x. notCr (lower x)) (verb mail))
+unfolding verb bytes lower
 verb-no-cr true = tt
 verb-no-cr false = tt
 
 path-no-cr : {mail : Bool} {p : List ℕ} → Path mail p → T (all notCr p)
-unfolding isQuotedByte bytes
+unfolding isQuotedByte bytes lower
 path-no-cr (Path.address {path = p} a) = class-no-cr isQuotedByte refl p (address-visible a)
 path-no-cr Path.empty = tt
 path-no-cr (Path.postmaster {path = p} t) = same-no-cr (bytes "Postmaster") p t tt
@@ -61,32 +55,41 @@ unfolding isValueByte
 no-value true = refl
 no-value false = refl
 
-value-no-cr : {k v : List ℕ} → Value k v → T (all notCr v)
-value-no-cr {k} {v} x = let o = sameAnyCase (bytes "ORCPT") k in class-no-cr (isValueByte o) (no-value o) v (x .each)
+value-no-cr : (k v : List ℕ) → T (isValue k v) → T (all notCr v)
+value-no-cr k v x =
+    let o = sameAnyCase (bytes "ORCPT") k in
+    class-no-cr (isValueByte o) (no-value o) v (and-yes (nonempty v) (all (isValueByte o) v) x .1)
 
-parameter-no-cr : {k p : List ℕ} → Parameter k p → T (all notCr p)
-parameter-no-cr (Parameter.bare w) = keyword-no-cr w
-parameter-no-cr (Parameter.valued {k} {v} w x) = all-append notCr k (61 ∷ v) (keyword-no-cr w) (value-no-cr x)
+-- a parameter with a value before a tail
+valued-no-cr : {k : List ℕ} → Keyword k → (v more : List ℕ) → T (isValue k v) → T (all notCr more) → T (all notCr (k ++ (61 ∷ (v ++ more))))
+valued-no-cr {k} w v more x h = all-append notCr k (61 ∷ (v ++ more)) (keyword-no-cr w) (all-append notCr v more (value-no-cr k v x) h)
 
 others-no-cr : {t : List ℕ} → Others t → T (all notCr t)
 others-no-cr Others.end = tt
-others-no-cr (Others.then {p} {more} q n o) = all-append notCr p more (parameter-no-cr q) (others-no-cr o)
+others-no-cr (Others.bare {more} k t o) = all-append notCr k more (keyword-no-cr (other-keyword k t .keyword-is)) (others-no-cr o)
+others-no-cr (Others.valued {more} k v t x o) = valued-no-cr (other-keyword k t .keyword-is) v more x (others-no-cr o)
 
-alt-no-cr : {v p : List ℕ} → Alt v p → T (all notCr p)
-alt-no-cr {v} (Alt.alt {k} a w x) = all-append notCr k (61 ∷ v) (keyword-no-cr w) (value-no-cr x)
+parts-no-cr : (mail : Bool) (front : List ℕ) {p : List ℕ} → T (sameAnyCase (verb mail) front) → Path mail p → (t : List ℕ) → T (all notCr t)
+    → T (all notCr (front ++ (p ++ (62 ∷ t))))
+parts-no-cr mail front {p} f q t h = all-append notCr front (p ++ (62 ∷ t)) (same-no-cr (verb mail) front f (verb-no-cr mail)) (all-append notCr p (62 ∷ t) (path-no-cr q) h)
 
-with-alt-no-cr : {before p v after : List ℕ} → Others before → Alt v p → Others after → T (all notCr (before ++ (32 ∷ (p ++ after))))
-with-alt-no-cr {before} {p} {v} {after} o a q = all-append notCr before (32 ∷ (p ++ after)) (others-no-cr o) (all-append notCr p after (alt-no-cr a) (others-no-cr q))
+tail-no-cr : {v : Option (List ℕ)} {t : List ℕ} → Tail v t → T (all notCr t)
+tail-no-cr (Tail.plain o) = others-no-cr o
+tail-no-cr (Tail.with-alt {before} {v} {after} k o a x q) =
+    all-append notCr before (32 ∷ (k ++ (61 ∷ (v ++ after)))) (others-no-cr o) (valued-no-cr (alt-keyword k a) v after x (others-no-cr q))
 
-parts-no-cr : {mail : Bool} {front p : List ℕ} → Verb mail front → Path mail p → (t : List ℕ) → T (all notCr t) → T (all notCr (front ++ (p ++ (62 ∷ t))))
-parts-no-cr {mail} {front} {p} f q t h = all-append notCr front (p ++ (62 ∷ t)) (same-no-cr (verb mail) front (f .same) (verb-no-cr mail)) (all-append notCr p (62 ∷ t) (path-no-cr q) h)
+pub line-no-cr : {mail : Bool} {p : List ℕ} {v : Option (List ℕ)} {line : List ℕ} → Line mail p v line → T (all notCr line)
+line-no-cr {mail} l = rw (l .is) (parts-no-cr mail (l .front) (l .is-front) (l .is-path) (l .tail) (tail-no-cr (l .is-tail)))
 
-plain-no-cr : {t : List ℕ} → Tail none t → T (all notCr t)
-plain-no-cr (Tail.plain o) = others-no-cr o
+pub written-no-cr : {rules : Rules} {mail : Bool} {line t out text : List ℕ} → Written rules mail line t out text → T (all notCr line)
+written-no-cr (Written.copied l h) = line-no-cr l
+written-no-cr (Written.replaced l a h k) = line-no-cr l
 
-pub written-no-cr : {rules : Rules} {mail : Bool} {line out : List ℕ} → Written rules mail line out → T (all notCr line)
-written-no-cr (Written.copied l h) = rw (l .is) (parts-no-cr (l .is-front) (l .is-path) (l .tail) (plain-no-cr (l .is-tail)))
-written-no-cr (Written.replaced {before} {p} {after} u f q h o x a y) = parts-no-cr f q (before ++ (32 ∷ (p ++ after))) (with-alt-no-cr o x y)
+pub refused-no-cr : {rules : Rules} {mail : Bool} {line : List ℕ} {number byte : ℕ} → LineRefused rules mail line number byte → T (all notCr line)
+refused-no-cr (LineRefused.no-alternative l h) = line-no-cr l
+refused-no-cr (LineRefused.beside-ascii l a h) = line-no-cr l
+refused-no-cr (LineRefused.no-address l a h) = line-no-cr l
+refused-no-cr (LineRefused.retired l n) = line-no-cr l
 
 -- ---- ORCPT
 
@@ -118,3 +121,7 @@ orcpt-exact {mail} {p} {v} {line} l =
     (by-test (all isAscii t)
     (λ h. rw (yes-true (all isAscii t) h, yes-true (all orcptClean (params t)) (all-weaken (all isAscii) orcptClean ascii-clean (params t) (params-ascii t h))))
     (λ h. rw (no-false (all isAscii t) h, no-false (all orcptClean (params t)) (not-T (all orcptClean (params t)) (λ c. T-not (all isAscii t) (tail-ascii t (r .is-spaced) (r .each) c) h)))))
+
+pub written-orcpt : {rules : Rules} {mail : Bool} {line t out text : List ℕ} → Written rules mail line t out text → orcptFault mail line ≡ not (all isAscii t)
+written-orcpt (Written.copied l h) = orcpt-exact l
+written-orcpt (Written.replaced l a h k) = orcpt-exact l

@@ -1,6 +1,6 @@
 -- The fault of a line, and what is written for it, are those of the grammar. Assumes nothing.
 use mathlib.Core.Path.{_≡_, refl, ap, sym, _∙_}
-use mathlib.Core.Bool.{Bool, true, false, not, cond, _&&_}
+use mathlib.Core.Bool.{Bool, true, false, not, cond, _&&_, and-false}
 use mathlib.Core.List.{List, [], _∷_, _++_}
 use mathlib.Core.Option.{Option, none, some}
 use Prim.Native.Nat.{ℕ, suc, _+_, _≤_, _<_}
@@ -26,14 +26,15 @@ use Rattle.address.specs.Grammar.{DotAtom, LocalPart}
 use Rattle.address.specs.AddressLaws.{byte-within}
 use Rattle.address.specs.GrammarLaws.{Closed, address-sound, address-complete, local-alone}
 use Rattle.xtext.specs.Xtext.{decoded, isAltAddress}
+use Rattle.xtext.specs.Grammar.{AltAddress}
 use Rattle.xtext.specs.GrammarLaws.{xtext-read, read-alt-address, alt-address-read}
 use Rattle.parameter.specs.Parameter.{params, spaced, isParam, alts, altsOk}
 use Rattle.envelope_line.specs.declared.Fault.{Fault}
 use Rattle.envelope_line.specs.declared.Fault.the-variants.{Fine, Malformed, NoAlternative, BadAlternative, RetiredAlternative}
-use Rattle.envelope_line.specs.EnvelopeLine.{verb, verbLen, hasVerb, pathScan, scanEnd, isTo, pathLen, path, hasPath, tail, wellFormed, valueFault, altFault, lineFault, newPath, writtenLine}
-use Rattle.envelope_line.specs.FaultLaws.{alt-taken, Formed, formed-of, closed-of, well-formed}
-use Rattle.envelope_line.specs.LineGrammar.{Verb, Path, Others, Alt, Tail, Line, Answer, Written}
-use Rattle.envelope_line.specs.TailGrammarLaws.{altValue, read-tail, tail-reads, alt-value, alt-gone, value-le}
+use Rattle.envelope_line.specs.EnvelopeLine.{verb, verbLen, hasVerb, pathScan, scanEnd, isTo, pathLen, path, hasPath, tail, wellFormed, valueFault, altFault, lineFault, newPath, writtenLine, replacement}
+use Rattle.envelope_line.specs.FaultLaws.{Formed, formed-of, closed-of}
+use Rattle.envelope_line.specs.LineGrammar.{Path, Tail, Line, othersOf, valueByte, LineRefused, Written}
+use Rattle.envelope_line.specs.TailGrammarLaws.{same-each, altValue, read-tail, tail-reads, tail-value, tail-others, value-le}
 
 -- ---- texts that are the same in any case
 
@@ -95,16 +96,6 @@ letter-atom y =
     let wide : T (within 94 126 y) = yes-and (leb 94 y) (leb y 126) (yes-leb {a = 94} {b = y} (omega (arith, leb-yes {a = 97} {b = y} (b .0)))) (yes-leb {a = y} {b = 126} (omega (arith, leb-yes {a = y} {b = 122} (b .1)))) in
     rw (no-false (within 65 90 y) t, yes-true (within 94 126 y) wide) tt)
 
-letters-atoms : (xs ys : List ℕ) → T (sameAnyCase xs ys) → T (all (λ x. within 97 122 (lower x)) xs) → T (all isAtomByte ys)
-unfolding sameAnyCase
-letters-atoms [] [] t h = tt
-letters-atoms [] (y ∷ ys) t h = absurd t
-letters-atoms (x ∷ xs) [] t h = absurd t
-letters-atoms (x ∷ xs) (y ∷ ys) t h =
-    let p = and-yes (eqb (lower x) (lower y)) (sameAnyCase xs ys) t in
-    let l = and-yes (within 97 122 (lower x)) (all (λ x. within 97 122 (lower x)) xs) h in
-    yes-and (isAtomByte y) (all isAtomByte ys) (letter-atom y (rw (eqb→eq (lower x) (lower y) (p .0)) at (l .0))) (letters-atoms xs ys (p .1) (l .1))
-
 -- ---- path
 
 no-to : {n m : ℕ} → Stop n ≡ To m → ⊥
@@ -142,7 +133,7 @@ module _ (s : List ℕ) (t : T (sameAnyCase (bytes "Postmaster>") (take 11 s))) 
   unfolding bytes lower
   word-local = LocalPart.atoms (DotAtom.one (record {
     some = nonempty-of (word .front) (omega (arith, word-size));
-    bytes = letters-atoms (bytes "Postmaster") (word .front) (word .same) tt;
+    bytes = same-each (within 97 122) isAtomByte letter-atom (bytes "Postmaster") (word .front) (word .same) tt;
   }))
     where
       nonempty-of : (xs : List ℕ) → 0 < length xs → T (nonempty xs)
@@ -225,7 +216,7 @@ module _ (mail : Bool) (line : List ℕ) where
         is = cut-line k;
         short = k .short;
         is-utf8 = k .is-utf8;
-        is-front = record { same = k .has-verb };
+        is-front = k .has-verb;
         is-path = read-path mail s (scanEnd (pathScan mail s)) (to-end (pathScan mail s) to);
         is-tail = read-tail (tail mail line) (k .is-spaced) (k .are-params) (k .alts-ok);
       }
@@ -237,12 +228,12 @@ unfolding verb bytes
 verb-length true = refl
 verb-length false = refl
 
-module _ {mail : Bool} {front p : List ℕ} (f : Verb mail front) (q : Path mail p) (t : List ℕ) where
+module _ (mail : Bool) (front : List ℕ) {p : List ℕ} (f : T (sameAnyCase (verb mail) front)) (q : Path mail p) (t : List ℕ) where
   abbrev made : List ℕ
   made = front ++ (p ++ (62 ∷ t))
 
   front-size : length front ≡ verbLen mail
-  front-size = same-length (verb mail) front (f .same) ∙ verb-length mail
+  front-size = same-length (verb mail) front f ∙ verb-length mail
 
   made-front : take (verbLen mail) made ≡ front
   made-front = take-at front (p ++ (62 ∷ t)) (verbLen mail) front-size
@@ -281,7 +272,7 @@ module _ {mail : Bool} {front p : List ℕ} (f : Verb mail front) (q : Path mail
       let a = leb (length made) 998 in
       let b = utf8 made in
       let ps = params t in
-      let front-same : T (sameAnyCase (verb mail) (take (verbLen mail) made)) = rw made-front (f .same) in
+      let front-same : T (sameAnyCase (verb mail) (take (verbLen mail) made)) = rw made-front f in
       let marked : T (eqb (getD made (verbLen mail + pathLen mail made) 0) 62) = rw made-mark tt in
       rw (made-scan, made-tail)
       (yes-and (a && b && hasVerb mail made && (true && eqb (getD made (verbLen mail + pathLen mail made) 0) 62) && spaced t && all isParam ps) (altsOk (alts ps))
@@ -301,29 +292,83 @@ unfolding altFault
 alt-fault-by rules ascii [] = refl
 alt-fault-by rules ascii (p ∷ found) = refl
 
-record LineRead (mail : Bool) (p : List ℕ) (v : Option (List ℕ)) (line : List ℕ) : Type 0 where
-  well : T (wellFormed mail line)
-  path-is : path mail line ≡ p
-  value-is : altValue (alts (params (tail mail line))) ≡ v
+pub record LineRead (mail : Bool) (p : List ℕ) (v : Option (List ℕ)) (line : List ℕ) : Type 0 where
+  pub well : T (wellFormed mail line)
+  pub path-is : path mail line ≡ p
+  pub value-is : altValue (alts (params (tail mail line))) ≡ v
 
-line-read : {mail : Bool} {p : List ℕ} {v : Option (List ℕ)} {line : List ℕ} → Line mail p v line → LineRead mail p v line
-line-read {mail} {p} {v} {line} l =
-    rw (l .is) (record {
-      well = made-formed (l .is-front) (l .is-path) (l .tail) (l .is-tail) (rw (l .is) at (l .short)) (rw (l .is) at (l .is-utf8));
-      path-is = made-path (l .is-front) (l .is-path) (l .tail);
-      value-is = rw (made-tail (l .is-front) (l .is-path) (l .tail)) (tail-reads (l .is-tail) .alternative);
-    })
+module _ {mail : Bool} {p : List ℕ} {v : Option (List ℕ)} {line : List ℕ} (l : Line mail p v line) where
+  pub line-read : LineRead mail p v line
+  line-read =
+      rw (l .is) (record {
+        well = made-formed mail (l .front) (l .is-front) (l .is-path) (l .tail) (l .is-tail) (rw (l .is) at (l .short)) (rw (l .is) at (l .is-utf8));
+        path-is = made-path mail (l .front) (l .is-front) (l .is-path) (l .tail);
+        value-is = rw (made-tail mail (l .front) (l .is-front) (l .is-path) (l .tail)) (tail-reads (l .is-tail) .alternative);
+      })
 
-line-fault : (rules : Rules) {mail : Bool} {p : List ℕ} {v : Option (List ℕ)} {line : List ℕ} → Line mail p v line → lineFault rules mail line ≡ faultBy rules (all isAscii p) v
-unfolding lineFault
-line-fault rules {mail} {p} {v} {line} l =
-    let r = line-read l in
-    rw (yes-true (wellFormed mail line) (r .well), r .path-is) (alt-fault-by rules (all isAscii p) (alts (params (tail mail line))) ∙ ap (faultBy rules (all isAscii p)) (r .value-is))
+  line-fault : (rules : Rules) → lineFault rules mail line ≡ faultBy rules (all isAscii p) v
+  unfolding lineFault
+  line-fault rules =
+      rw (yes-true (wellFormed mail line) (line-read .well), line-read .path-is)
+      (alt-fault-by rules (all isAscii p) (alts (params (tail mail line))) ∙ ap (faultBy rules (all isAscii p)) (line-read .value-is))
 
-pub line-tail : {mail : Bool} {p : List ℕ} {v : Option (List ℕ)} {line : List ℕ} (l : Line mail p v line) → tail mail line ≡ l .tail
-line-tail {mail} l = ap (tail mail) (l .is) ∙ made-tail (l .is-front) (l .is-path) (l .tail)
+  pub line-verb : length (l .front) ≡ verbLen mail
+  line-verb = front-size mail (l .front) (l .is-front) (l .is-path) (l .tail)
 
--- ---- the answers
+  line-front : take (verbLen mail) line ≡ l .front
+  line-front = ap (take (verbLen mail)) (l .is) ∙ made-front mail (l .front) (l .is-front) (l .is-path) (l .tail)
+
+  pub line-tail : tail mail line ≡ l .tail
+  line-tail = ap (tail mail) (l .is) ∙ made-tail mail (l .front) (l .is-front) (l .is-path) (l .tail)
+
+-- ---- well-formed lines
+
+-- any well-formed line
+abbrev pub WellFormed : Bool → List ℕ → Type 0
+WellFormed mail line = (path : List ℕ) × (alternative : Option (List ℕ)) × Line mail path alternative line
+
+-- a line is well-formed exactly if the grammar makes it
+pub read-formed : (mail : Bool) (line : List ℕ) → T (wellFormed mail line) → WellFormed mail line
+read-formed mail line t = (path mail line, alternativeOf mail line, read-line mail line t)
+
+pub formed-read : {mail : Bool} {line : List ℕ} → WellFormed mail line → T (wellFormed mail line)
+formed-read w = line-read (w .2) .well
+
+-- ---- lines that are written
+
+-- what is written for a line without fault
+abbrev WrittenFor : Rules → Bool → List ℕ → Type 0
+WrittenFor rules mail line = Written rules mail line (tail mail line) (writtenLine mail line) (replacement mail line)
+
+copied-line : {rules : Rules} {mail : Bool} {p line : List ℕ} → Line mail p none line → T (all isAscii p) → WrittenFor rules mail line
+unfolding writtenLine replacement
+copied-line {p = p} l h = rw (line-read l .path-is, yes-true (all isAscii p) h, line-tail l) (Written.copied l h)
+
+module _ {mail : Bool} {p v line new : List ℕ} (l : Line mail p (some v) line) (h : T (not (all isAscii p))) (a : AltAddress v new) where
+  new-path : newPath mail line ≡ new
+  unfolding newPath
+  new-path = rw (line-tail l, tail-value (l .is-tail)) (xtext-read (a .0) .1)
+
+  replaced-line : writtenLine mail line ≡ l .front ++ (new ++ (62 ∷ othersOf (l .is-tail)))
+  unfolding writtenLine
+  replaced-line = rw (line-read l .path-is, no-false (all isAscii p) h, line-front l, new-path, line-tail l, tail-others (l .is-tail))
+
+  replaced-text : replacement mail line ≡ 60 ∷ (p ++ (32 ∷ 60 ∷ (new ++ (62 ∷ 62 ∷ []))))
+  unfolding replacement
+  replaced-text = rw (line-read l .path-is, no-false (all isAscii p) h, new-path)
+
+  replaced-for : {rules : Rules} → T (allowsAlternative rules) → WrittenFor rules mail line
+  replaced-for t = rw (line-tail l, replaced-line, replaced-text) (Written.replaced l t h a)
+
+-- ---- every line is malformed, refused or written, as its fault says
+
+-- what is said of a line by its fault
+abbrev pub LineAnswer : Rules → Bool → List ℕ → Fault → Type 0
+LineAnswer rules mail line Fine = WrittenFor rules mail line
+LineAnswer rules mail line Malformed = WellFormed mail line → ⊥
+LineAnswer rules mail line NoAlternative = (byte : ℕ) × LineRefused rules mail line 3 byte
+LineAnswer rules mail line BadAlternative = (byte : ℕ) × LineRefused rules mail line 4 byte
+LineAnswer rules mail line RetiredAlternative = (byte : ℕ) × LineRefused rules mail line 10 byte
 
 -- a value in a line is no longer than the line may be
 value-short : {mail : Bool} {p v line : List ℕ} → Line mail p (some v) line → length v ≤ 998
@@ -332,88 +377,76 @@ value-short {mail} {p} {v} {line} l =
     omega (arith, value-le (l .is-tail), l .short, size)
 
 -- with an ALT-ADDRESS that the rules allow
-alt-answer-by : {rules : Rules} {mail : Bool} {p v line : List ℕ} (ascii : Bool) → ascii ≡ all isAscii p → T (allowsAlternative rules) → Line mail p (some v) line
-    → Answer rules mail line (cond (not ascii && isAltAddress v) Fine BadAlternative)
-alt-answer-by true e a l = Answer.beside-ascii a l (rw (← e) tt)
-alt-answer-by {rules} {mail} {p} {v} {line} false e a l =
-    cond-has (λ f. Answer rules mail line f) (isAltAddress v) Fine BadAlternative
-    (λ t. Answer.to-replace a l (rw (← e) tt) (read-alt-address v t))
-    (λ t. Answer.no-address a l (rw (← e) tt) (λ new k. T-not (isAltAddress v) (alt-address-read (value-short l) k .0) t))
+alt-answer-by : (rules : Rules) {mail : Bool} {p v line : List ℕ} (ascii : Bool) → ascii ≡ all isAscii p → T (allowsAlternative rules) → Line mail p (some v) line
+    → LineAnswer rules mail line (cond (not ascii && isAltAddress v) Fine BadAlternative)
+alt-answer-by rules true e a l = (valueByte l, LineRefused.beside-ascii l a (rw (← e) tt))
+alt-answer-by rules {mail} {p} {v} {line} false e a l =
+    cond-has (λ f. LineAnswer rules mail line f) (isAltAddress v) Fine BadAlternative
+    (λ t. replaced-for l (rw (← e) tt) (read-alt-address v t) a)
+    (λ t. (valueByte l, LineRefused.no-address l a (λ new k. T-not (isAltAddress v) (alt-address-read (value-short l) k .0) t)))
 
-answer-by : {rules : Rules} {mail : Bool} {p : List ℕ} {v : Option (List ℕ)} {line : List ℕ} (ascii : Bool) → ascii ≡ all isAscii p → Line mail p v line
-    → Answer rules mail line (faultBy rules ascii v)
+answer-by : (rules : Rules) {mail : Bool} {p : List ℕ} {v : Option (List ℕ)} {line : List ℕ} (ascii : Bool) → ascii ≡ all isAscii p → Line mail p v line
+    → LineAnswer rules mail line (faultBy rules ascii v)
 unfolding valueFault
-answer-by {v = none} true e l = Answer.as-it-is l (rw (← e) tt)
-answer-by {v = none} false e l = Answer.no-alternative l (rw (← e) tt)
-answer-by {rules} {mail} {p} {v = some w} {line} ascii e l =
-    cond-has (λ f. Answer rules mail line f) (allowsAlternative rules) (cond (not ascii && isAltAddress w) Fine BadAlternative) RetiredAlternative
-    (λ t. alt-answer-by ascii e t l)
-    (λ t. Answer.retired t l)
+answer-by rules {v = none} true e l = copied-line l (rw (← e) tt)
+answer-by rules {v = none} false e l = (length (l .front), LineRefused.no-alternative l (rw (← e) tt))
+answer-by rules {mail} {p} {v = some w} {line} ascii e l =
+    cond-has (λ f. LineAnswer rules mail line f) (allowsAlternative rules) (cond (not ascii && isAltAddress w) Fine BadAlternative) RetiredAlternative
+    (λ t. alt-answer-by rules ascii e t l)
+    (λ t. (valueByte l, LineRefused.retired l t))
 
-unformed : (rules : Rules) (mail : Bool) (line : List ℕ) → T (not (wellFormed mail line)) → lineFault rules mail line ≡ Malformed
+pub unformed : (rules : Rules) (mail : Bool) (line : List ℕ) → T (not (wellFormed mail line)) → lineFault rules mail line ≡ Malformed
 unfolding lineFault
 unformed rules mail line t = rw (no-false (wellFormed mail line) t)
 
--- every line has its answer,
-pub answers : (rules : Rules) (mail : Bool) (line : List ℕ) → Answer rules mail line (lineFault rules mail line)
-answers rules mail line =
+pub line-answer : (rules : Rules) (mail : Bool) (line : List ℕ) → LineAnswer rules mail line (lineFault rules mail line)
+line-answer rules mail line =
     by-test (wellFormed mail line)
-    (λ t. let l = read-line mail line t in rw (line-fault rules l) (answer-by (all isAscii (path mail line)) refl l))
-    (λ t. rw (unformed rules mail line t) (Answer.malformed (λ p v l. T-not (wellFormed mail line) (line-read l .well) t)))
+    (λ t. let l = read-line mail line t in rw (line-fault l rules) (answer-by rules (all isAscii (path mail line)) refl l))
+    (λ t. rw (unformed rules mail line t) (λ w. T-not (wellFormed mail line) (formed-read w) t))
 
--- and no other
-pub answer-exact : {rules : Rules} {mail : Bool} {line : List ℕ} {f : Fault} → Answer rules mail line f → f ≡ lineFault rules mail line
-unfolding valueFault
-answer-exact {rules} {mail} {line} (Answer.malformed none-makes) =
-    by-test (wellFormed mail line)
-    (λ t. absurd (none-makes (path mail line) (alternativeOf mail line) (read-line mail line t)))
-    (λ t. sym (unformed rules mail line t))
-answer-exact {rules} (Answer.no-alternative {path = p} l h) = sym (line-fault rules l ∙ rw (no-false (all isAscii p) h))
-answer-exact {rules} (Answer.beside-ascii {path = p} a l h) = sym (line-fault rules l ∙ rw (yes-true (allowsAlternative rules) a, yes-true (all isAscii p) h))
-answer-exact {rules} (Answer.no-address {path = p} {v} a l h k) =
-    sym (line-fault rules l ∙ rw (yes-true (allowsAlternative rules) a, no-false (all isAscii p) h, no-false (isAltAddress v) (not-T (isAltAddress v) (λ t. k (decoded v) (read-alt-address v t)))))
-answer-exact {rules} (Answer.retired n l) = sym (line-fault rules l ∙ rw (no-false (allowsAlternative rules) n))
-answer-exact {rules} (Answer.as-it-is {path = p} l h) = sym (line-fault rules l ∙ rw (yes-true (all isAscii p) h))
-answer-exact {rules} (Answer.to-replace {path = p} {v} a l h k) =
-    sym (line-fault rules l ∙ rw (yes-true (allowsAlternative rules) a, no-false (all isAscii p) h, yes-true (isAltAddress v) (alt-address-read (value-short l) k .0)))
+pub line-written : (rules : Rules) (mail : Bool) (line : List ℕ) → lineFault rules mail line ≡ Fine → Written rules mail line (tail mail line) (writtenLine mail line) (replacement mail line)
+line-written rules mail line f = rw f at (line-answer rules mail line)
 
--- ---- what is written
+-- ---- and as nothing else says
 
--- what is written where the path is replaced
-replaced-by : {mail : Bool} {front p before a v after : List ℕ} → Verb mail front → Path mail p → T (not (all isAscii p)) → Others before → Alt v a → Others after
-    → writtenLine mail (front ++ (p ++ (62 ∷ (before ++ (32 ∷ (a ++ after)))))) ≡ front ++ (decoded v ++ (62 ∷ (before ++ after)))
-unfolding writtenLine newPath
-replaced-by {mail} {front} {p} {before} {a} {v} {after} f q h o x y =
-    let t : List ℕ = before ++ (32 ∷ (a ++ after)) in
-    rw (made-path f q t, no-false (all isAscii p) h, made-front f q t, made-tail f q t, alt-value o x y, alt-gone o x y)
+-- a line that is written has no fault, and nothing else is written for it
+pub record WrittenSo (rules : Rules) (mail : Bool) (line t out text : List ℕ) : Type 0 where
+  pub fine : lineFault rules mail line ≡ Fine
+  pub tail-is : t ≡ tail mail line
+  pub out-is : out ≡ writtenLine mail line
+  pub text-is : text ≡ replacement mail line
 
-replaced-line : {rules : Rules} {mail : Bool} {front p v t : List ℕ} → T (allowsAlternative rules) → Verb mail front → Path mail p → T (not (all isAscii p)) → Tail (some v) t
-    → T (isAltAddress v) → Written rules mail (front ++ (p ++ (62 ∷ t))) (writtenLine mail (front ++ (p ++ (62 ∷ t))))
-replaced-line {v = v} a f q h (Tail.with-alt o x y) k = rw (replaced-by f q h o x y) (Written.replaced a f q h o x (read-alt-address v k) y)
+pub written-exact : {rules : Rules} {mail : Bool} {line t out text : List ℕ} → Written rules mail line t out text → WrittenSo rules mail line t out text
+unfolding writtenLine replacement valueFault
+written-exact {rules} (Written.copied {path = p} l h) =
+    let yes = yes-true (all isAscii p) h in
+    record { fine = line-fault l rules ∙ rw yes; tail-is = sym (line-tail l); out-is = rw (line-read l .path-is, yes); text-is = rw (line-read l .path-is, yes) }
+written-exact {rules} (Written.replaced {path = p} {v} l a h k) =
+    record {
+      fine = line-fault l rules ∙ rw (yes-true (allowsAlternative rules) a, no-false (all isAscii p) h, yes-true (isAltAddress v) (alt-address-read (value-short l) k .0));
+      tail-is = sym (line-tail l);
+      out-is = sym (replaced-line l h k);
+      text-is = sym (replaced-text l h k);
+    }
 
-written-by : (rules : Rules) {mail : Bool} {p : List ℕ} {v : Option (List ℕ)} {line : List ℕ} (ascii : Bool) → ascii ≡ all isAscii p → Line mail p v line → faultBy rules ascii v ≡ Fine
-    → Written rules mail line (writtenLine mail line)
-unfolding writtenLine
-written-by rules {v = none} true e l k = rw (line-read l .path-is, ← e) (Written.copied l (rw (← e) tt))
-written-by rules {v = none} false e l k = absurd (let z : _≡_ {A = ℕ} 0 1 = cc in omega arith)
-written-by rules {v = some w} ascii e l k =
-    let t = alt-taken rules ascii w k in
-    rw (l .is) (replaced-line (t .allowed) (l .is-front) (l .is-path) (rw (← e) (t .not-ascii)) (l .is-tail) (t .is-address))
+-- the fault of a line that is refused
+unfoldable pub refusedFault : {rules : Rules} {mail : Bool} {line : List ℕ} {number byte : ℕ} → LineRefused rules mail line number byte → Fault
+refusedFault (LineRefused.no-alternative l h) = NoAlternative
+refusedFault (LineRefused.beside-ascii l a h) = BadAlternative
+refusedFault (LineRefused.no-address l a h) = BadAlternative
+refusedFault (LineRefused.retired l n) = RetiredAlternative
 
--- what is written for a line without fault
-pub line-written : (rules : Rules) (mail : Bool) (line : List ℕ) → lineFault rules mail line ≡ Fine → Written rules mail line (writtenLine mail line)
-line-written rules mail line f =
-    let l = read-line mail line (well-formed rules mail line f) in
-    written-by rules (all isAscii (path mail line)) refl l (sym (line-fault rules l) ∙ f)
-
--- and nothing else
-pub written-exact : {rules : Rules} {mail : Bool} {line out : List ℕ} → Written rules mail line out → out ≡ writtenLine mail line
-unfolding writtenLine
-written-exact (Written.copied {path = p} l h) = rw (line-read l .path-is, yes-true (all isAscii p) h)
-written-exact (Written.replaced {front} {before} {v} {after} u f q h o x a y) =
-    rw (xtext-read (a .xtext) .1) at (sym (replaced-by f q h o x y))
+pub refused-exact : {rules : Rules} {mail : Bool} {line : List ℕ} {number byte : ℕ} (r : LineRefused rules mail line number byte) → lineFault rules mail line ≡ refusedFault r
+unfolding refusedFault valueFault
+refused-exact {rules} (LineRefused.no-alternative {path = p} l h) = line-fault l rules ∙ rw (no-false (all isAscii p) h)
+refused-exact {rules} (LineRefused.beside-ascii {path = p} l a h) = line-fault l rules ∙ rw (yes-true (allowsAlternative rules) a, yes-true (all isAscii p) h)
+refused-exact {rules} (LineRefused.no-address {path = p} {v} l a h) =
+    let no = no-false (isAltAddress v) (not-T (isAltAddress v) (λ t. h (decoded v) (read-alt-address v t))) in
+    line-fault l rules ∙ rw (yes-true (allowsAlternative rules) a, no, and-false (not (all isAscii p)))
+refused-exact {rules} (LineRefused.retired l n) = line-fault l rules ∙ rw (no-false (allowsAlternative rules) n)
 
 -- where an ALT-ADDRESS is refused every line is written as it came
-pub written-kept : {rules : Rules} {mail : Bool} {line out : List ℕ} → T (not (allowsAlternative rules)) → Written rules mail line out → out ≡ line
-written-kept n (Written.copied l h) = refl
-written-kept {rules} n (Written.replaced u f q h o x a y) = absurd (T-not (allowsAlternative rules) u n)
+pub written-kept : {rules : Rules} {mail : Bool} {line t out text : List ℕ} → T (not (allowsAlternative rules)) → Written rules mail line t out text → (out ≡ line) × (text ≡ [])
+written-kept n (Written.copied l h) = (refl, refl)
+written-kept {rules} n (Written.replaced l a h k) = absurd (T-not (allowsAlternative rules) a n)

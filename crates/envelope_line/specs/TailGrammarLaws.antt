@@ -1,5 +1,5 @@
 -- What follows a path is well-formed exactly if the grammar makes it. Assumes nothing.
-use mathlib.Core.Path.{_≡_, refl, sym, subst, _∙_}
+use mathlib.Core.Path.{_≡_, refl, ap, sym, subst, _∙_}
 use mathlib.Core.Bool.{Bool, true, false, not, _&&_, _||_}
 use mathlib.Core.List.{List, [], _∷_, _++_, map, append-assoc, append-nil}
 use mathlib.Core.Option.{Option, none, some}
@@ -10,18 +10,78 @@ use native.Mathlib.Omega.{arith}
 use lib.Dec.{T, eqb, eqb→eq}
 use lib.ListN.{length, take, drop, getD, take-append-drop, length-append}
 use lib.Seq.{drop-cons, take-all, take-append-seam, drop-append-seam, drop-append-add, getD-append-seam}
-use mir.Facts.{and-yes, yes-and, ltb-yes, ltb-no, no-eqb, eqb-no}
+use mir.Facts.{and-yes, yes-and, ltb-yes, ltb-no, no-eqb}
 use borrow.Author.Tests.{not-false, eqb-true, lt-ltb, le-ltb}
-use Rattle.lists.specs.ListsLaws.{by-test, yes-true, no-false, all-append, all-weaken}
+use Rattle.lists.specs.ListsLaws.{by-test, cond-has, yes-true, no-false, all-append, all-weaken}
 use Rattle.lists.specs.Lists.{all, nonempty}
+use Rattle.lists.specs.Byte.{within}
 use Rattle.lists.specs.Run.{run}
 use Rattle.lists.specs.RunLaws.{run-all, run-after, run-past}
 use Rattle.lists.specs.CutBy.{cutBy, cutAfter}
 use Rattle.lists.specs.CutByLaws.{cut-nil, cut-front}
-use Rattle.letter_case.specs.LetterCase.{bytes, sameAnyCase}
+use Rattle.letter_case.specs.LetterCase.{bytes, lower, sameAnyCase}
 use Rattle.parameter.specs.Parameter.{notSpace, spacedLen, params, spaced, isKeywordByte, keywordLen, keyword, hasValue, value, isOrcpt, isAlt, isValueByte, isParam, alts, altsOk, alt, altPlace}
 use Rattle.envelope_line.specs.EnvelopeLine.{withoutAlt}
-use Rattle.envelope_line.specs.LineGrammar.{Keyword, Value, Parameter, Others, Alt, Tail}
+use Rattle.envelope_line.specs.LineGrammar.{isOtherKeyword, isValue, Others, Tail, valuePlace, othersOf}
+
+-- ---- keywords
+
+-- a test of each byte of a text that is the same in any case
+pub same-each : (f g : ℕ → Bool) → ((y : ℕ) → T (f (lower y)) → T (g y)) → (xs ys : List ℕ) → T (sameAnyCase xs ys) → T (all (λ x. f (lower x)) xs) → T (all g ys)
+unfolding sameAnyCase
+same-each f g h [] [] t a = tt
+same-each f g h [] (y ∷ ys) t a = absurd t
+same-each f g h (x ∷ xs) [] t a = absurd t
+same-each f g h (x ∷ xs) (y ∷ ys) t a =
+    let p = and-yes (eqb (lower x) (lower y)) (sameAnyCase xs ys) t in
+    let l = and-yes (f (lower x)) (all (λ x. f (lower x)) xs) a in
+    yes-and (g y) (all g ys) (h y (rw (eqb→eq (lower x) (lower y) (p .0)) at (l .0))) (same-each f g h xs ys (p .1) (l .1))
+
+pub record Keyword (k : List ℕ) : Type 0 where
+  pub some : T (nonempty k)
+  pub each : T (all isKeywordByte k)
+  pub first : T (not (eqb (getD k 0 0) 45))
+
+-- a keyword other than ALT-ADDRESS
+pub record OtherKeyword (k : List ℕ) : Type 0 where
+  pub keyword-is : Keyword k
+  pub other : T (not (sameAnyCase (bytes "ALT-ADDRESS") k))
+
+pub other-keyword : (k : List ℕ) → T (isOtherKeyword k) → OtherKeyword k
+other-keyword k t =
+    let s = nonempty k in
+    let e = all isKeywordByte k in
+    let f = not (eqb (getD k 0 0) 45) in
+    let a = and-yes (s && e && f) (not (sameAnyCase (bytes "ALT-ADDRESS") k)) t in
+    let b = and-yes (s && e) f (a .0) in
+    let c = and-yes s e (b .0) in
+    record { keyword-is = record { some = c .0; each = c .1; first = b .1 }; other = a .1 }
+
+keyword-other : (k : List ℕ) → Keyword k → T (not (sameAnyCase (bytes "ALT-ADDRESS") k)) → T (isOtherKeyword k)
+keyword-other k w n =
+    let s = nonempty k in
+    let e = all isKeywordByte k in
+    let f = not (eqb (getD k 0 0) 45) in
+    yes-and (s && e && f) (not (sameAnyCase (bytes "ALT-ADDRESS") k)) (yes-and (s && e) f (yes-and s e (w .some) (w .each)) (w .first)) n
+
+lower-keyword : (y : ℕ) → T (isKeywordByte (lower y)) → T (isKeywordByte y)
+unfolding lower isKeywordByte
+lower-keyword y =
+    cond-has (λ n. T (isKeywordByte n) → T (isKeywordByte y)) (within 65 90 y) (y + 32) y
+    (λ t h. rw (yes-true (within 65 90 y) t) tt)
+    (λ t h. h)
+
+-- ALT-ADDRESS is a keyword
+pub alt-keyword : (k : List ℕ) → T (sameAnyCase (bytes "ALT-ADDRESS") k) → Keyword k
+unfolding sameAnyCase bytes lower isKeywordByte
+alt-keyword [] a = absurd a
+alt-keyword (y ∷ k) a =
+    let t = and-yes (eqb 97 (lower y)) (sameAnyCase (bytes "LT-ADDRESS") k) a .0 in
+    record {
+      some = tt;
+      each = same-each isKeywordByte isKeywordByte lower-keyword (bytes "ALT-ADDRESS") (y ∷ k) a tt;
+      first = no-eqb {a = y} {b = 45} (λ e. rw e at t);
+    }
 
 -- ---- a parameter, read
 
@@ -45,7 +105,7 @@ read p h =
     let a = and-yes (nonempty (take n p) && not (eqb (getD p 0 0) 45)) _ h in
     let b = and-yes (nonempty (take n p)) (not (eqb (getD p 0 0) 45)) (a .0) in
     record {
-      keyword-is = record { some = b .0; each = run-all isKeywordByte p; first = λ e. eqb-no {a = getD p 0 0} {b = 45} (b .1) (sym (first-of n p (b .0)) ∙ e) };
+      keyword-is = record { some = b .0; each = run-all isKeywordByte p; first = rw (first-of n p (b .0)) (b .1) };
       rest = a .1;
     }
 
@@ -55,7 +115,7 @@ unfolding hasValue keyword
 read-bare p h = take-all (keywordLen p) p (ltb-no {a = keywordLen p} {b = length p} h)
 
 record Valued (p : List ℕ) : Type 0 where
-  value-is : Value (keyword p) (value p)
+  value-is : T (isValue (keyword p) (value p))
   is : keyword p ++ (61 ∷ value p) ≡ p
 
 read-valued : (p : List ℕ) → T (isParam p) → T (hasValue p) → Valued p
@@ -69,23 +129,25 @@ read-valued p h t =
     let b = and-yes e s (a .0) in
     let there : n < length p = ltb-yes {a = n} {b = length p} t in
     let from : drop n p ≡ 61 ∷ drop (n + 1) p = rw (add-one, drop-cons p n 0 there, eqb→eq (getD p n 0) 61 (b .0)) in
-    record { value-is = record { some = b .1; each = a .1 }; is = rw (← from) (split-keyword p) }
+    record { value-is = yes-and s (all (isValueByte (isOrcpt p)) (value p)) (b .1) (a .1); is = rw (← from) (split-keyword p) }
 
-bare-is : {k p : List ℕ} → Keyword k → k ≡ p → Parameter k p
-bare-is {k} {p} w e = subst (λ (x : List ℕ). Parameter k x) e (Parameter.bare w)
+-- a parameter with a value before a tail
+valued-then : (p t : List ℕ) → Valued p → keyword p ++ (61 ∷ (value p ++ t)) ≡ p ++ t
+valued-then p t v = sym (append-assoc (keyword p) (61 ∷ value p) t) ∙ ap (λ (x : List ℕ). x ++ t) (v .is)
 
-valued-is : {k v p : List ℕ} → Keyword k → Value k v → k ++ (61 ∷ v) ≡ p → Parameter k p
-valued-is {k} {v} {p} w x e = subst (λ (x : List ℕ). Parameter k x) e (Parameter.valued w x)
-
-read-parameter : (p : List ℕ) → T (isParam p) → Parameter (keyword p) p
-read-parameter p h =
-    by-test (hasValue p)
-    (λ t. let v = read-valued p h t in valued-is (read p h .keyword-is) (v .value-is) (v .is))
-    (λ t. bare-is (read p h .keyword-is) (read-bare p t))
-
-read-alt : (p : List ℕ) → T (isParam p) → T (isAlt p) → T (hasValue p) → Alt (value p) p
+read-other : (p t : List ℕ) → T (isParam p) → T (not (isAlt p)) → Others t → Others (32 ∷ (p ++ t))
 unfolding isAlt
-read-alt p h a t = let v = read-valued p h t in rw (v .is) at (Alt.alt a (read p h .keyword-is) (v .value-is))
+read-other p t h n o =
+    let w = keyword-other (keyword p) (read p h .keyword-is) n in
+    by-test (hasValue p)
+    (λ u. let v = read-valued p h u in subst (λ (x : List ℕ). Others (32 ∷ x)) (valued-then p t v) (Others.valued (keyword p) (value p) w (v .value-is) o))
+    (λ u. subst (λ (x : List ℕ). Others (32 ∷ (x ++ t))) (read-bare p u) (Others.bare (keyword p) w o))
+
+read-alt : (p t : List ℕ) → T (isParam p) → T (isAlt p) → T (hasValue p) → Others t → Tail (some (value p)) (32 ∷ (p ++ t))
+unfolding isAlt
+read-alt p t h a u o =
+    let v = read-valued p h u in
+    subst (λ (x : List ℕ). Tail (some (value p)) (32 ∷ x)) (valued-then p t v) (Tail.with-alt (keyword p) Others.end a (v .value-is) o)
 
 -- ---- a tail, read
 
@@ -117,17 +179,17 @@ altValue [] = none
 altValue (p ∷ ps) = some (value p)
 
 read-others : (ps : List (List ℕ)) → T (all isParam ps) → alts ps ≡ [] → Others (afterSpaces ps)
-unfolding alts isAlt
+unfolding alts
 read-others [] h e = Others.end
 read-others (p ∷ ps) h e =
     let b = and-yes (isParam p) (all isParam ps) h in
     by-test (isAlt p)
     (λ t. absurd (let q = rw (yes-true (isAlt p) t) at e in let z : _≡_ {A = ℕ} 0 1 = cc in omega arith))
-    (λ t. Others.then (read-parameter p (b .0)) t (read-others ps (b .1) (rw (no-false (isAlt p) t) at e)))
+    (λ t. read-other p (afterSpaces ps) (b .0) t (read-others ps (b .1) (rw (no-false (isAlt p) t) at e)))
 
-tail-then : {k p t : List ℕ} {v : Option (List ℕ)} → Parameter k p → T (not (sameAnyCase (bytes "ALT-ADDRESS") k)) → Tail v t → Tail v (32 ∷ (p ++ t))
-tail-then q n (Tail.plain o) = Tail.plain (Others.then q n o)
-tail-then q n (Tail.with-alt o x y) = rw append-assoc at (Tail.with-alt (Others.then q n o) x y)
+tail-then : {t : List ℕ} {v : Option (List ℕ)} (p : List ℕ) → T (isParam p) → T (not (isAlt p)) → Tail v t → Tail v (32 ∷ (p ++ t))
+tail-then {t} p h n (Tail.plain o) = Tail.plain (read-other p t h n o)
+tail-then p h n (Tail.with-alt {before} {v} k o a x q) = rw append-assoc at (Tail.with-alt {v = v} k (read-other p before h n o) a x q)
 
 -- an only ALT-ADDRESS has a value
 only-alt : (p : List ℕ) (found : List (List ℕ)) → T (altsOk (p ∷ found)) → (found ≡ []) × T (hasValue p)
@@ -136,16 +198,16 @@ only-alt p [] h = (refl, h)
 only-alt p (q ∷ found) h = absurd h
 
 read-params : (ps : List (List ℕ)) → T (all isParam ps) → T (altsOk (alts ps)) → Tail (altValue (alts ps)) (afterSpaces ps)
-unfolding alts isAlt
+unfolding alts
 read-params [] h k = Tail.plain Others.end
 read-params (p ∷ ps) h k =
     let b = and-yes (isParam p) (all isParam ps) h in
     by-test (isAlt p)
     (λ t. let yes = yes-true (isAlt p) t in
     let one = only-alt p (alts ps) (rw yes at k) in
-    rw yes (Tail.with-alt Others.end (read-alt p (b .0) t (one .1)) (read-others ps (b .1) (one .0))))
+    rw yes (read-alt p (afterSpaces ps) (b .0) t (one .1) (read-others ps (b .1) (one .0))))
     (λ t. let no = no-false (isAlt p) t in
-    rw no (tail-then (read-parameter p (b .0)) t (read-params ps (b .1) (rw no at k))))
+    rw no (tail-then p (b .0) t (read-params ps (b .1) (rw no at k))))
 
 pub read-tail : (t : List ℕ) → T (spaced t) → T (all isParam (params t)) → T (altsOk (alts (params t))) → Tail (altValue (alts (params t))) t
 read-tail t s h k = rw (tail-read t s) at (read-params (params t) h k)
@@ -180,8 +242,10 @@ keyword-byte b t = (no-eqb {a = b} {b = 32} (λ e. rw e at t), no-eqb {a = b} {b
 keyword-solid : (k : List ℕ) → Keyword k → T (all notSpace k)
 keyword-solid k w = all-weaken isKeywordByte notSpace (λ b t. keyword-byte b t .0) k (w .each)
 
-value-solid : {k v : List ℕ} → Value k v → T (all notSpace v)
-value-solid {k} {v} x = all-weaken (isValueByte (sameAnyCase (bytes "ORCPT") k)) notSpace (value-byte (sameAnyCase (bytes "ORCPT") k)) v (x .each)
+value-solid : (k v : List ℕ) → T (isValue k v) → T (all notSpace v)
+value-solid k v x =
+    let o = sameAnyCase (bytes "ORCPT") k in
+    all-weaken (isValueByte o) notSpace (value-byte o) v (and-yes (nonempty v) (all (isValueByte o) v) x .1)
 
 first-byte : (k x : List ℕ) → T (nonempty k) → getD (k ++ x) 0 0 ≡ getD k 0 0
 first-byte [] x h = absurd h
@@ -205,11 +269,11 @@ module _ {k : List ℕ} (w : Keyword k) where
       let no : hasValue k ≡ false = rw keyword-all (le-ltb (length k) (length k) (omega arith)) in
       record {
         keyword-of = of;
-        is-param = rw (of, no) (yes-and (nonempty k && not (eqb (getD k 0 0) 45)) true (yes-and (nonempty k) (not (eqb (getD k 0 0) 45)) (w .some) (no-eqb {a = getD k 0 0} {b = 45} (w .first))) tt);
+        is-param = rw (of, no) (yes-and (nonempty k && not (eqb (getD k 0 0) 45)) true (yes-and (nonempty k) (not (eqb (getD k 0 0) 45)) (w .some) (w .first)) tt);
         solid = keyword-solid k w;
       }
 
-  module _ {v : List ℕ} (x : Value k v) where
+  module _ (v : List ℕ) (x : T (isValue k v)) where
     abbrev p : List ℕ
     p = k ++ (61 ∷ v)
 
@@ -233,19 +297,14 @@ module _ {k : List ℕ} (w : Keyword k) where
     unfolding isParam isOrcpt
     reads-valued =
         let o = sameAnyCase (bytes "ORCPT") k in
-        let front = yes-and (nonempty k) (not (eqb (getD k 0 0) 45)) (w .some) (no-eqb {a = getD k 0 0} {b = 45} (w .first)) in
-        let back = yes-and (nonempty v) (all (isValueByte o) v) (x .some) (x .each) in
+        let front = yes-and (nonempty k) (not (eqb (getD k 0 0) 45)) (w .some) (w .first) in
         record {
           keyword-of = keyword-before;
           is-param =
               rw (keyword-before, first-byte k (61 ∷ v) (w .some), has-value, keyword-front, getD-append-seam k 61 v 0, value-of)
-              (yes-and (nonempty k && not (eqb (getD k 0 0) 45)) (nonempty v && all (isValueByte o) v) front back);
-          solid = all-append notSpace k (61 ∷ v) (keyword-solid k w) (value-solid x);
+              (yes-and (nonempty k && not (eqb (getD k 0 0) 45)) (nonempty v && all (isValueByte o) v) front x);
+          solid = all-append notSpace k (61 ∷ v) (keyword-solid k w) (value-solid k v x);
         }
-
-reads : {k p : List ℕ} → Parameter k p → Reads k p
-reads (Parameter.bare w) = reads-bare w
-reads (Parameter.valued w x) = reads-valued w x
 
 -- parameters other than ALT-ADDRESS before a tail
 record Front (before rest : List ℕ) : Type 0 where
@@ -254,12 +313,9 @@ record Front (before rest : List ℕ) : Type 0 where
   alts-of : alts (params (before ++ rest)) ≡ alts (params rest)
   place-of : altPlace (params (before ++ rest)) ≡ length before + altPlace (params rest)
 
-others-front : {before : List ℕ} → Others before → (rest : List ℕ) → T (spaced rest) → Front before rest
+front-then : {k p more rest : List ℕ} → Reads k p → T (not (sameAnyCase (bytes "ALT-ADDRESS") k)) → Front more rest → Front (32 ∷ (p ++ more)) rest
 unfolding alts altPlace spaced isAlt
-others-front Others.end rest s = record { is-spaced = s; each = λ h. h; alts-of = refl; place-of = omega arith }
-others-front (Others.then {k} {p} {more} q n o) rest s =
-    let f = others-front o rest s in
-    let r = reads q in
+front-then {k} {p} {more} {rest} r n f =
     let e : params ((32 ∷ (p ++ more)) ++ rest) ≡ p ∷ params (more ++ rest) = rw append-assoc (params-cons p (more ++ rest) (r .solid) (f .is-spaced)) in
     let no : isAlt p ≡ false = rw (r .keyword-of) (no-false (sameAnyCase (bytes "ALT-ADDRESS") k) n) in
     record {
@@ -268,6 +324,15 @@ others-front (Others.then {k} {p} {more} q n o) rest s =
       alts-of = rw (e, no) (f .alts-of);
       place-of = rw (e, no) (omega (arith, f .place-of, length-append p more));
     }
+
+others-front : {before : List ℕ} → Others before → (rest : List ℕ) → T (spaced rest) → Front before rest
+others-front Others.end rest s = record { is-spaced = s; each = λ h. h; alts-of = refl; place-of = omega arith }
+others-front (Others.bare k t o) rest s =
+    let w = other-keyword k t in
+    front-then (reads-bare (w .keyword-is)) (w .other) (others-front o rest s)
+others-front (Others.valued {more} k v t x o) rest s =
+    let w = other-keyword k t in
+    subst (λ (l : List ℕ). Front (32 ∷ l) rest) (append-assoc k (61 ∷ v) more) (front-then (reads-valued (w .keyword-is) v x) (w .other) (others-front o rest s))
 
 -- what a tail is read as
 pub record ReadsTail (v : Option (List ℕ)) (t : List ℕ) : Type 0 where
@@ -290,75 +355,88 @@ others-read {t} o =
     }
 
 -- the only ALT-ADDRESS
-record ReadsAlt (v p : List ℕ) : Type 0 where
-  is-param : T (isParam p)
-  solid : T (all notSpace p)
-  is-alt : isAlt p ≡ true
-  has-a-value : hasValue p ≡ true
-  value-is : value p ≡ v
+module _ (k v : List ℕ) (a : T (sameAnyCase (bytes "ALT-ADDRESS") k)) (x : T (isValue k v)) where
+  abbrev param : List ℕ
+  param = k ++ (61 ∷ v)
 
-alt-read : {v p : List ℕ} → Alt v p → ReadsAlt v p
-unfolding isAlt
-alt-read (Alt.alt {k} a w x) =
-    let r = reads-valued w x in
-    record {
-      is-param = r .is-param;
-      solid = r .solid;
-      is-alt = rw (r .keyword-of) (yes-true (sameAnyCase (bytes "ALT-ADDRESS") k) a);
-      has-a-value = has-value w x;
-      value-is = value-of w x;
+  alt-read : Reads k param
+  alt-read = reads-valued (alt-keyword k a) v x
+
+  is-alt : isAlt param ≡ true
+  unfolding isAlt
+  is-alt = rw (alt-read .keyword-of) (yes-true (sameAnyCase (bytes "ALT-ADDRESS") k) a)
+
+  module _ {before after : List ℕ} (o : Others before) (q : Others after) where
+    abbrev rest : List ℕ
+    rest = 32 ∷ (k ++ (61 ∷ (v ++ after)))
+
+    rest-params : params rest ≡ param ∷ params after
+    rest-params = rw (append-assoc k (61 ∷ v) after) at (params-cons param after (alt-read .solid) (others-read q .is-spaced))
+
+    front : Front before rest
+    unfolding spaced
+    front = others-front o rest tt
+
+    after-none : alts (params after) ≡ []
+    after-none = go (alts (params after)) (others-read q .alternative)
+      where
+        go : (found : List (List ℕ)) → altValue found ≡ none → found ≡ []
+        go [] e = refl
+        go (x ∷ found) e = absurd (let z : _≡_ {A = ℕ} 0 1 = cc in omega arith)
+
+    alts-one : alts (params (before ++ rest)) ≡ param ∷ []
+    unfolding alts
+    alts-one = front .alts-of ∙ rw (rest-params, is-alt, after-none)
+
+    alt-value : value (alt (params (before ++ rest))) ≡ v
+    unfolding alt
+    alt-value = rw alts-one (value-of (alt-keyword k a) v x)
+
+    alt-reads : ReadsTail (some v) (before ++ rest)
+    unfolding altsOk
+    alt-reads = record {
+      is-spaced = front .is-spaced;
+      each = front .each (rw rest-params (yes-and (isParam param) (all isParam (params after)) (alt-read .is-param) (others-read q .each)));
+      alts-ok = rw (alts-one, has-value (alt-keyword k a) v x) tt;
+      alternative = rw (alts-one, value-of (alt-keyword k a) v x);
     }
 
-module _ {before p v after : List ℕ} (o : Others before) (a : Alt v p) (q : Others after) where
-  abbrev rest : List ℕ
-  rest = 32 ∷ (p ++ after)
+    place : altPlace (params (before ++ rest)) ≡ length before
+    unfolding altPlace
+    place = front .place-of ∙ rw (rest-params, is-alt) (add-zero (length before))
 
-  rest-params : params rest ≡ p ∷ params after
-  rest-params = params-cons p after (alt-read a .solid) (others-read q .is-spaced)
+    value-start : altPlace (params (before ++ rest)) + (keywordLen (alt (params (before ++ rest))) + 2) ≡ length before + (length k + 2)
+    unfolding alt
+    value-start = rw (place, alts-one, keyword-front (alt-keyword k a) v x)
 
-  front : Front before rest
-  unfolding spaced
-  front = others-front o rest tt
-
-  after-none : alts (params after) ≡ []
-  after-none = go (alts (params after)) (others-read q .alternative)
-    where
-      go : (found : List (List ℕ)) → altValue found ≡ none → found ≡ []
-      go [] e = refl
-      go (x ∷ found) e = absurd (let z : _≡_ {A = ℕ} 0 1 = cc in omega arith)
-
-  alts-one : alts (params (before ++ rest)) ≡ p ∷ []
-  unfolding alts
-  alts-one = front .alts-of ∙ rw (rest-params, alt-read a .is-alt, after-none)
-
-  alt-reads : ReadsTail (some v) (before ++ rest)
-  unfolding altsOk
-  alt-reads = record {
-    is-spaced = front .is-spaced;
-    each = front .each (rw rest-params (yes-and (isParam p) (all isParam (params after)) (alt-read a .is-param) (others-read q .each)));
-    alts-ok = rw (alts-one, alt-read a .has-a-value) tt;
-    alternative = rw (alts-one, alt-read a .value-is);
-  }
-
-  pub alt-value : value (alt (params (before ++ rest))) ≡ v
-  unfolding alt
-  alt-value = rw alts-one (alt-read a .value-is)
-
-  place : altPlace (params (before ++ rest)) ≡ length before
-  unfolding altPlace
-  place = front .place-of ∙ rw (rest-params, alt-read a .is-alt) (add-zero (length before))
-
-  -- "that parameter goes with the space before it"
-  pub alt-gone : withoutAlt (before ++ rest) ≡ before ++ after
-  unfolding withoutAlt alt
-  alt-gone =
-      rw (place, alts-one, take-append-seam before rest, drop-append-add before rest (suc (length p)), drop-append-seam p after)
+    -- "that parameter goes with the space before it"
+    alt-gone : withoutAlt (before ++ rest) ≡ before ++ after
+    unfolding withoutAlt alt
+    alt-gone =
+        let gone : drop (length param) (k ++ (61 ∷ (v ++ after))) ≡ after = rw (append-assoc k (61 ∷ v) after) at (drop-append-seam param after) in
+        rw (place, alts-one, take-append-seam before rest, drop-append-add before rest (suc (length param)), gone)
 
 pub tail-reads : {v : Option (List ℕ)} {t : List ℕ} → Tail v t → ReadsTail v t
 tail-reads (Tail.plain o) = others-read o
-tail-reads (Tail.with-alt o a q) = alt-reads o a q
+tail-reads (Tail.with-alt {v} k o a x q) = alt-reads k v a x o q
 
 -- a value is no longer than the tail that holds it
 pub value-le : {v t : List ℕ} → Tail (some v) t → length v ≤ length t
-value-le (Tail.with-alt {before} {p} {v} {after} o (Alt.alt {k} a w x) q) =
-    simp length-append (omega arith)
+value-le (Tail.with-alt k o a x q) = simp length-append (omega arith)
+
+-- ---- what a tail with ALT-ADDRESS is read as
+
+pub tail-value : {v t : List ℕ} → Tail (some v) t → value (alt (params t)) ≡ v
+tail-value (Tail.with-alt {v} k o a x q) = alt-value k v a x o q
+
+pub tail-others : {v t : List ℕ} (x : Tail (some v) t) → withoutAlt t ≡ othersOf x
+unfolding othersOf
+tail-others (Tail.with-alt {v} k o a x q) = alt-gone k v a x o q
+
+pub value-place : {v t : List ℕ} (x : Tail (some v) t) → valuePlace x ≡ altPlace (params t) + (keywordLen (alt (params t)) + 2)
+unfolding valuePlace
+value-place (Tail.with-alt {v} k o a x q) = sym (value-start k v a x o q)
+
+pub value-within : {v t : List ℕ} (x : Tail (some v) t) → valuePlace x ≤ length t
+unfolding valuePlace
+value-within (Tail.with-alt k o a x q) = simp length-append (omega arith)

@@ -3,7 +3,7 @@
 use mathlib.Core.Bool.{Bool, false, cond, _&&_}
 use mathlib.Core.List.{List}
 use Prim.Native.Nat.{ℕ, suc, _+_, _-_}
-use lib.Dec.{leb, ltb, eqb}
+use lib.Dec.{T, leb, ltb, eqb}
 use Rattle.envelope_line.specs.EnvelopeLine.{verb, verbLen, wellFormed}
 use Rattle.line_stop.specs.declared.Begun.{Begun}
 use Rattle.line_stop.specs.FirstBad.{FirstBad, WithCrlf}
@@ -25,7 +25,7 @@ wellFormedAt n line = leb n 100 && wellFormed (eqb n 0) line
 -- "the first byte at which .. the line, its CRLF with it, stops being a beginning of any well-formed line at that number. If no byte
 -- does that, it is the line's end." The line at the number n; s is the envelope from the line on.
 abbrev pub LineStop : ℕ → List ℕ → ℕ → Type 0
-LineStop n s m = FirstBad (WithCrlf (wellFormedAt n)) s m
+LineStop n s m = FirstBad (WithCrlf (λ line. T (wellFormedAt n line))) s m
 
 -- ---- the form of a line
 

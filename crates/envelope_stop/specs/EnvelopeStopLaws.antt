@@ -314,9 +314,9 @@ unfolding wellFormedAt
 formed-at n t l = rw (yes-true (leb n 100) t) (formed (eqb n 0) l)
 
 -- no line stands past the last RCPT
-none-after : (n : ℕ) → T (not (leb n 100)) → (l : List ℕ) → WithCrlf (wellFormedAt n) l → ⊥
+none-after : (n : ℕ) → T (not (leb n 100)) → (l : List ℕ) → WithCrlf (λ line. T (wellFormedAt n line)) l → ⊥
 unfolding wellFormedAt
-none-after n t l w = T-not (leb n 100) t (and-yes (leb n 100) (wellFormed (eqb n 0) (w .text)) (w .passes) .0)
+none-after n t l w = T-not (leb n 100) t (and-yes (leb n 100) (wellFormed (eqb n 0) (w .text)) (w .formed) .0)
 
 -- it finds the byte that is asked for
 pub line-stop : (n : ℕ) (s : List ℕ) → LineStop n s (lineStop n s)

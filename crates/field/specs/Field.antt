@@ -1,4 +1,4 @@
--- A field whose text is written in encoded words. Assumes nothing.
+-- A written field: the encoded words of its text after a label, or its name and what its value becomes. Assumes nothing.
 use mathlib.Core.Bool.{Bool, true, false}
 use mathlib.Core.List.{List, [], _∷_, _++_}
 use Prim.Native.Nat.{ℕ}
@@ -18,3 +18,7 @@ prefix false = []
 -- "name, colon, encoded words of the text", the name as it came, with or without `Downgraded-` before it; a colon is 58
 unfoldable pub encodedField : Bool → List ℕ → List ℕ → List Segment
 encodedField downgraded name text = labelledField (prefix downgraded ++ (name ++ (58 ∷ []))) text
+
+-- the name as it came, colon, what becomes of the value, CRLF
+unfoldable pub named : List ℕ → List Segment → List Segment
+named name segments = raw (name ++ (58 ∷ [])) ∷ (segments ++ (raw (13 ∷ 10 ∷ []) ∷ []))

@@ -1,7 +1,7 @@
--- Laws of fields in encoded words: their length, their soundness, and their writing part by part. Assumes nothing.
-use mathlib.Core.Path.{_≡_, refl, sym, ap, _∙_}
+-- Laws of written fields: their length, their soundness, and their writing part by part. Assumes nothing.
+use mathlib.Core.Path.{_≡_, sym, ap, _∙_}
 use mathlib.Core.Bool.{Bool, true, false}
-use mathlib.Core.List.{List, [], _∷_, _++_, append-assoc, append-nil}
+use mathlib.Core.List.{List, [], _∷_, _++_, append-assoc}
 use Prim.Native.Nat.{ℕ, _+_, _*_, _≤_, _<_, min}
 use native.Mathlib.Omega.{arith}
 use lib.Dec.{T, leb, lit≤}
@@ -17,8 +17,9 @@ use Rattle.row.specs.Row.{rowAfter}
 use Rattle.row.specs.RowLaws.{row-after-none, length-row-after-le}
 use Rattle.encoded_word.specs.Segments.{Segment, rendered, sound}
 use Rattle.encoded_word.specs.Segments.Segment.{raw}
+use Rattle.encoded_word.specs.SegmentsLaws.{rendered-append}
 use Rattle.letter_case.specs.LetterCase.{bytes}
-use Rattle.field.specs.Field.{labelledField, prefix, encodedField}
+use Rattle.field.specs.Field.{labelledField, prefix, encodedField, named}
 
 -- ---- length
 
@@ -36,6 +37,11 @@ unfolding encodedField
 length-encoded downgraded name text =
     let label = prefix downgraded ++ (name ++ (58 ∷ [])) in
     omega (arith, length-labelled label text, length-append (prefix downgraded) (name ++ (58 ∷ [])), length-append name (58 ∷ []), length-prefix downgraded)
+
+pub length-named : (name : List ℕ) (segments : List Segment) → length (rendered (named name segments)) ≡ 3 + length name + length (rendered segments)
+unfolding named rendered
+length-named name segments =
+    rw (length-append, rendered-append segments (raw (13 ∷ 10 ∷ []) ∷ []), length-append (rendered segments)) (omega (arith, length-append name (58 ∷ [])))
 
 -- ---- soundness
 
@@ -55,20 +61,26 @@ encoded-sound downgraded name text a u =
     (all-append isAscii (prefix downgraded) (name ++ (58 ∷ [])) (prefix-ascii downgraded) (all-append isAscii name (58 ∷ []) a tt))
     u
 
+pub named-sound : (name : List ℕ) (segments : List Segment) → T (all isAscii name) → T (all sound segments) → T (all sound (named name segments))
+unfolding named
+named-sound name segments a h =
+    yes-and (all isAscii (name ++ (58 ∷ []))) (all sound (segments ++ (raw (13 ∷ 10 ∷ []) ∷ []))) (all-append isAscii name (58 ∷ []) a tt)
+    (all-append sound segments (raw (13 ∷ 10 ∷ []) ∷ []) h tt)
+
 -- ---- the writing, part by part
 
 module _ {before : List ℕ} (h : length before ≤ greatest) where
   -- the encoded words of a text and CRLF, after its label
-  pub labelled-added : (label text : List ℕ) {named after : List ℕ} {at n r : ℕ} → AppendedCapped label at before named n
-      → AppendedCapped (rowAfter (length label) text ++ (13 ∷ 10 ∷ [])) n named after r → AppendedCapped (rendered (labelledField label text)) at before after r
+  pub labelled-added : (label text : List ℕ) {mid after : List ℕ} {at n r : ℕ} → AppendedCapped label at before mid n
+      → AppendedCapped (rowAfter (length label) text ++ (13 ∷ 10 ∷ [])) n mid after r → AppendedCapped (rendered (labelledField label text)) at before after r
   unfolding labelledField rendered
   labelled-added label text a b = capped-same (regroup label (rowAfter (length label) text)) (capped-then a b h)
     where
       regroup : (a b : List ℕ) → a ++ (b ++ (13 ∷ 10 ∷ [])) ≡ (a ++ b) ++ (13 ∷ 10 ∷ [])
       regroup a b = rw append-assoc
 
-  pub label-added : (downgraded : Bool) (name : List ℕ) {first named after : List ℕ} {at n m r : ℕ} → AppendedCapped (prefix downgraded) at before first n
-      → AppendedCapped name n first named m → AppendedCapped (58 ∷ []) m named after r
+  pub label-added : (downgraded : Bool) (name : List ℕ) {first mid after : List ℕ} {at n m r : ℕ} → AppendedCapped (prefix downgraded) at before first n
+      → AppendedCapped name n first mid m → AppendedCapped (58 ∷ []) m mid after r
       → AppendedCapped (prefix downgraded ++ (name ++ (58 ∷ []))) at before after r
   label-added downgraded name a b c = capped-then a (capped-then b c (omega (arith, h, length-added a))) h
 
@@ -77,14 +89,27 @@ pub column-label : (downgraded : Bool) (name text : List ℕ) {column : ℕ} →
     → rowAfter column text ≡ rowAfter (length (prefix downgraded ++ (name ++ (58 ∷ [])))) text
 column-label downgraded name text {column} e =
     let whole = length-append (prefix downgraded) (name ++ (58 ∷ [])) in
-    let named = length-append name (58 ∷ []) in
+    let part = length-append name (58 ∷ []) in
     let label = prefix downgraded ++ (name ++ (58 ∷ [])) in
     by-test (leb (length name) 63)
-    (λ t. let same : column ≡ length label = omega (arith, e, whole, named, leb-yes {a = length name} {b = 63} t) in ap (λ (n : ℕ). rowAfter n text) same)
-    (λ t. let long : 63 < length name = leb-no t in row-after-none column text (omega (arith, e)) ∙ sym (row-after-none (length label) text (omega (arith, whole, named))))
+    (λ t. let same : column ≡ length label = omega (arith, e, whole, part, leb-yes {a = length name} {b = 63} t) in ap (λ (n : ℕ). rowAfter n text) same)
+    (λ t. let long : 63 < length name = leb-no t in row-after-none column text (omega (arith, e)) ∙ sym (row-after-none (length label) text (omega (arith, whole, part))))
 
 pub encoded-added : (downgraded : Bool) (name text : List ℕ) {before after : List ℕ} {at r : ℕ}
     → AppendedCapped (rendered (labelledField (prefix downgraded ++ (name ++ (58 ∷ []))) text)) at before after r
     → AppendedCapped (rendered (encodedField downgraded name text)) at before after r
 unfolding encodedField
 encoded-added downgraded name text a = a
+
+module _ (name : List ℕ) (segments : List Segment) where
+  pub named-bytes : rendered (named name segments) ≡ (name ++ (58 ∷ [])) ++ (rendered segments ++ (13 ∷ 10 ∷ []))
+  unfolding named rendered
+  named-bytes = rw (rendered-append segments)
+
+  pub named-added : {before labelled marked valued after : List ℕ} {at n c v r : ℕ} → length before ≤ greatest
+      → AppendedCapped name at before labelled n → AppendedCapped (58 ∷ []) n labelled marked c → AppendedCapped (rendered segments) c marked valued v
+      → AppendedCapped (13 ∷ 10 ∷ []) v valued after r → AppendedCapped (rendered (named name segments)) at before after r
+  named-added k a b d f =
+      let label = capped-then a b k in
+      let rest = capped-then d f (omega (arith, k, length-added a, length-added b)) in
+      capped-same (sym named-bytes) (capped-then label rest k)

@@ -2,12 +2,13 @@
 use mathlib.Core.Bool.{cond}
 use mathlib.Core.List.{List, [], _∷_, _++_, map}
 use Prim.Native.Nat.{ℕ, _+_}
+use Prim.Native.String.{String}
 use lib.Dec.{eqb}
 use lib.ListN.{length}
 use Rattle.lists.specs.Lists.{joined}
 use Rattle.header_name.specs.declared.Kind.{Kind}
 use Rattle.header_name.specs.declared.Kind.the-variants.{Address, PlainText, Received, Commented, Parameterized, Held, Other}
-use Rattle.header_name.specs.Names.{six, addressNames, groups}
+use Rattle.header_name.specs.Names.{groups}
 use Rattle.letter_case.specs.LetterCase.{bytes, sameAnyCase}
 
 -- the letter that stands for a kind: A address, P plain text, R received, C commented, Q parameterized, H held, O other
@@ -35,10 +36,10 @@ pub record Entry : Type 0 where
   pub name : List ℕ
   pub kind : ℕ
 
-abbrev pub entry : ℕ → List ℕ → Entry
-entry kind name = record { name = name; kind = kind }
+abbrev pub entry : ℕ → String → Entry
+entry kind name = record { name = bytes name; kind = kind }
 
-unfoldable pub entriesOf : List (Kind × List (List ℕ)) → List Entry
+unfoldable pub entriesOf : List (Kind × List String) → List Entry
 entriesOf [] = []
 entriesOf ((kind, names) ∷ more) = map (entry (letter kind)) names ++ entriesOf more
 
@@ -56,13 +57,13 @@ startsFrom at [] = at ∷ []
 startsFrom at (e ∷ es) = at ∷ startsFrom (at + length (e .name)) es
 
 unfoldable pub starts : List ℕ
-unfolding startsFrom entries entriesOf letter six addressNames groups bytes
+unfolding startsFrom entries entriesOf letter groups bytes
 starts = startsFrom 0 entries
 
 unfoldable pub names : List ℕ
-unfolding entries entriesOf letter six addressNames groups bytes
+unfolding entries entriesOf letter groups bytes
 names = joined (map (λ (e : Entry). e .name) entries)
 
 unfoldable pub kinds : List ℕ
-unfolding entries entriesOf letter six addressNames groups bytes
+unfolding entries entriesOf letter groups bytes
 kinds = map (λ (e : Entry). e .kind) entries

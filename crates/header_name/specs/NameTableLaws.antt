@@ -3,6 +3,7 @@ use mathlib.Core.Path.{_≡_, refl, sym, _∙_}
 use mathlib.Core.Bool.{Bool, true, false, cond, _&&_}
 use mathlib.Core.List.{List, [], _∷_, _++_, map}
 use Prim.Native.Nat.{ℕ, _+_, _-_, _≤_, _<_}
+use Prim.Native.String.{String}
 use native.Mathlib.Numerals.{add-one}
 use native.Mathlib.Omega.{arith}
 use lib.Dec.{T, leb, eqb, leb→le, eqb→eq}
@@ -13,18 +14,18 @@ use Rattle.lists.specs.ListsLaws.{by-test, yes-true, no-false}
 use Rattle.lists.specs.ByteLaws.{below}
 use Rattle.header_name.specs.declared.Kind.{Kind}
 use Rattle.header_name.specs.declared.Kind.the-variants.{Address, PlainText, Received, Commented, Parameterized, Held, Other}
-use Rattle.header_name.specs.Names.{six, addressNames, groups, among, kindAmong, kindOf}
+use Rattle.header_name.specs.Names.{groups, among, kindAmong, kindOf}
 use Rattle.letter_case.specs.LetterCase.{bytes, sameAnyCase}
 use Rattle.header_name.specs.NameTable.{Entry, entry, letter, lettered, entriesOf, entries, kindIn, startsFrom, starts, names, kinds}
 
 -- ---- the table gives the kind of each name
 
-kind-part : (k : ℕ) (group : List (List ℕ)) (es : List Entry) (name : List ℕ)
+kind-part : (k : ℕ) (group : List String) (es : List Entry) (name : List ℕ)
     → kindIn (map (entry k) group ++ es) name ≡ cond (among group name) (lettered k) (kindIn es name)
 unfolding kindIn among
 kind-part k [] es name = refl
 kind-part k (n ∷ group) es name =
-    by-test (sameAnyCase n name) (λ t. rw (yes-true (sameAnyCase n name) t)) (λ t. rw (no-false (sameAnyCase n name) t) (kind-part k group es name))
+    by-test (sameAnyCase (bytes n) name) (λ t. rw (yes-true (sameAnyCase (bytes n) name) t)) (λ t. rw (no-false (sameAnyCase (bytes n) name) t) (kind-part k group es name))
 
 letter-back : (k : Kind) → lettered (letter k) ≡ k
 unfolding lettered letter
@@ -36,7 +37,7 @@ letter-back Parameterized = refl
 letter-back Held = refl
 letter-back Other = refl
 
-kind-groups : (gs : List (Kind × List (List ℕ))) (name : List ℕ) → kindAmong gs name ≡ kindIn (entriesOf gs) name
+kind-groups : (gs : List (Kind × List String)) (name : List ℕ) → kindAmong gs name ≡ kindIn (entriesOf gs) name
 unfolding kindAmong entriesOf kindIn
 kind-groups [] name = refl
 kind-groups ((kind, names) ∷ more) name = sym (kind-part (letter kind) names (entriesOf more) name ∙ rw (letter-back kind, kind-groups more name))
@@ -62,7 +63,7 @@ same-list (x ∷ xs) (y ∷ ys) t =
     rw (eqb→eq x y (both .0), same-list xs ys (both .1))
 
 abbrev none : Entry
-none = entry 0 []
+none = entry 0 ""
 
 -- what code finds at entry k of its three lists
 pub record Row (ns ss ks : List ℕ) (k : ℕ) : Type 0 where
@@ -74,7 +75,7 @@ pub record Row (ns ss ks : List ℕ) (k : ℕ) : Type 0 where
   pub kind : getD ks k 0 ≡ getD entries k none .kind
 
 rowTest : ℕ → Bool
-unfolding startsFrom starts names kinds entries entriesOf letter six addressNames groups bytes
+unfolding startsFrom starts names kinds entries entriesOf letter groups bytes
 rowTest k =
     leb (k + 2) (length starts)
     && leb (k + 1) (length kinds)
@@ -117,7 +118,7 @@ row ns ss ks k n s t h = rw (n, s, t) (row-of k h)
 -- ---- the search
 
 count : length entries ≡ 32
-unfolding entries entriesOf six addressNames groups
+unfolding entries entriesOf groups
 count = refl
 
 -- what is left to search from entry k on

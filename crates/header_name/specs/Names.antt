@@ -1,42 +1,35 @@
 -- The named fields and their kinds. Assumes nothing.
 use mathlib.Core.Bool.{Bool, false, cond, _||_}
-use mathlib.Core.List.{List, [], _∷_, _++_, map}
+use mathlib.Core.List.{List, [], _∷_}
 use Prim.Native.Nat.{ℕ}
 use Prim.Native.String.{String}
 use Rattle.letter_case.specs.LetterCase.{bytes, sameAnyCase}
 use Rattle.header_name.specs.declared.Kind.{Kind}
 use Rattle.header_name.specs.declared.Kind.the-variants.{Address, PlainText, Received, Commented, Parameterized, Held, Other}
 
--- "From, Sender, Reply-To, To, Cc, Bcc"
-unfoldable pub six : List String
-six = "From" ∷ "Sender" ∷ "Reply-To" ∷ "To" ∷ "Cc" ∷ "Bcc" ∷ []
-
--- "From, Sender, Reply-To, To, Cc, Bcc, the same six after `Resent-`, Return-Path, Disposition-Notification-To."
-unfoldable pub addressNames : List (List ℕ)
-addressNames =
-    map bytes six
-    ++ (map (λ name. bytes "Resent-" ++ bytes name) six ++ map bytes ("Return-Path" ∷ "Disposition-Notification-To" ∷ []))
-
--- The kinds, each with its names. "Plain text: Subject, Comments, Content-Description. Held: Received, Date, Resent-Date, Message-ID,
+-- Groups of names, each with its kind. "Address: From, Sender, Reply-To, To, Cc, Bcc, the same six after `Resent-`, Return-Path,
+-- Disposition-Notification-To. Plain text: Subject, Comments, Content-Description. Held: Received, Date, Resent-Date, Message-ID,
 -- Resent-Message-ID, In-Reply-To, References, MIME-Version, Content-Type, Content-ID, Content-Disposition, Content-Transfer-Encoding,
 -- Original-Recipient, Final-Recipient, Keywords.", the held ones by the grammar of their values: trace, comments, parameters, any other
-unfoldable pub groups : List (Kind × List (List ℕ))
+unfoldable pub groups : List (Kind × List String)
 groups =
-    (Address, addressNames)
-    ∷ (PlainText, map bytes ("Subject" ∷ "Comments" ∷ "Content-Description" ∷ []))
-    ∷ (Received, map bytes ("Received" ∷ []))
-    ∷ (Commented, map bytes ("Date" ∷ "Resent-Date" ∷ "Message-ID" ∷ "Resent-Message-ID" ∷ "In-Reply-To" ∷ "References" ∷ "MIME-Version" ∷ "Content-ID" ∷ "Content-Transfer-Encoding" ∷ []))
-    ∷ (Parameterized, map bytes ("Content-Type" ∷ "Content-Disposition" ∷ []))
-    ∷ (Held, map bytes ("Original-Recipient" ∷ "Final-Recipient" ∷ "Keywords" ∷ []))
+    (Address, "From" ∷ "Sender" ∷ "Reply-To" ∷ "To" ∷ "Cc" ∷ "Bcc" ∷ [])
+    ∷ (Address, "Resent-From" ∷ "Resent-Sender" ∷ "Resent-Reply-To" ∷ "Resent-To" ∷ "Resent-Cc" ∷ "Resent-Bcc" ∷ [])
+    ∷ (Address, "Return-Path" ∷ "Disposition-Notification-To" ∷ [])
+    ∷ (PlainText, "Subject" ∷ "Comments" ∷ "Content-Description" ∷ [])
+    ∷ (Received, "Received" ∷ [])
+    ∷ (Commented, "Date" ∷ "Resent-Date" ∷ "Message-ID" ∷ "Resent-Message-ID" ∷ "In-Reply-To" ∷ "References" ∷ "MIME-Version" ∷ "Content-ID" ∷ "Content-Transfer-Encoding" ∷ [])
+    ∷ (Parameterized, "Content-Type" ∷ "Content-Disposition" ∷ [])
+    ∷ (Held, "Original-Recipient" ∷ "Final-Recipient" ∷ "Keywords" ∷ [])
     ∷ []
 
 -- whether a name is one of these: "Names compare without regard to letter case"
-unfoldable pub among : List (List ℕ) → List ℕ → Bool
+unfoldable pub among : List String → List ℕ → Bool
 among [] name = false
-among (n ∷ names) name = sameAnyCase n name || among names name
+among (n ∷ names) name = sameAnyCase (bytes n) name || among names name
 
 -- the kind of the group that a name is in; "Every other name"
-unfoldable pub kindAmong : List (Kind × List (List ℕ)) → List ℕ → Kind
+unfoldable pub kindAmong : List (Kind × List String) → List ℕ → Kind
 kindAmong [] name = Other
 kindAmong ((kind, names) ∷ more) name = cond (among names name) kind (kindAmong more name)
 

@@ -3,7 +3,7 @@
 use mathlib.Core.Bool.{Bool, true, false, not, cond, _&&_}
 use mathlib.Core.List.{List}
 use Prim.Native.Nat.{ℕ, zero, suc}
-use lib.Dec.{eqb}
+use lib.Dec.{T, eqb}
 use Rattle.line.specs.Line.{blank}
 use Rattle.header_line.specs.Lines.{lineByte, nameByte, wellFormed}
 use Rattle.line_stop.specs.declared.Begun.{Begun}
@@ -17,7 +17,7 @@ use Rattle.header_stop.specs.declared.Form.the-variants.{Start, Name, Bo
 -- "the first byte at which .. the line, its CRLF with it, stops being a beginning of any well-formed line at that number. If no byte
 -- does that, it is the line's end." `first`: at the number 0. s is the header from the line on.
 abbrev pub LineStop : Bool → List ℕ → ℕ → Type 0
-LineStop first s n = FirstBad (WithCrlf (wellFormed first)) s n
+LineStop first s n = FirstBad (WithCrlf (λ line. T (wellFormed first line))) s n
 
 -- ---- the form of a line
 

@@ -14,7 +14,7 @@ use Rattle.lists.specs.Lists.{all}
 use Rattle.lists.specs.ListsLaws.{by-test, cond-has, yes-true, true-yes, no-false}
 use Rattle.lists.specs.Byte.{within, isAscii}
 use Rattle.lists.specs.ByteLaws.{below, implies, within-low, within-high}
-use Rattle.utf8.specs.Utf8.{charLen, leadingOnes, continues, secondLow, secondHigh, isChar, utf8}
+use Rattle.utf8.specs.Utf8.{charLen, continues, secondLow, secondHigh, isChar, utf8}
 use Rattle.utf8.specs.Utf8Laws.{char-len-some, chars-nil, chars-cons, utf8-right, utf8-char, second-low}
 use Rattle.line_stop.specs.declared.Begun.{Begun}
 use Rattle.line_stop.specs.CharScan.{begun, between, nowhere, lead, tailCount, stepBy, charStep, isZero, liveBy, charLive}
@@ -70,7 +70,7 @@ nowhere-rest (b ∷ l) =
     by-test (leb 255 b) (λ t. rw (lt-leb b 0 (omega (arith, leb-yes {a = 255} {b = b} t)), and-false (leb 255 b))) (λ t. rw (no-false (leb 255 b) t))
 
 lead-two : (b : ℕ) → T (within 194 244 b) → 2 ≤ charLen b
-unfolding charLen leadingOnes leadingZeros
+unfolding charLen leadingZeros
 lead-two b t =
     let test : ℕ → Bool = λ k. not (within 194 244 k) || leb 2 (charLen k) in
     leb-yes (implies (within 194 244 b) (leb 2 (charLen b)) (below test 245 tt b (omega (arith, within-high 194 244 b t))) t)
@@ -81,7 +81,7 @@ bad-first b [] t u = no-false (isAscii b) t
 bad-first b (c ∷ x) t u = rw (no-false (within 194 244 b) u)
 
 pub tail-count : (b : ℕ) → T (within 194 244 b) → tailCount b ≡ pred (charLen b)
-unfolding charLen leadingOnes leadingZeros tailCount
+unfolding charLen leadingZeros tailCount
 tail-count b t =
     let test : ℕ → Bool = λ k. not (within 194 244 k) || eqb (tailCount k) (pred (charLen k)) in
     eqb→eq (tailCount b) (pred (charLen b))

@@ -60,6 +60,15 @@ module _ {L : List ℕ → Type 0} where
     bad = λ k p. f .bad (omega (arith, length-append a b)) (rw (take-append-le (suc n) a b h) p);
   }
 
+-- it is the same for two forms that the same lines have
+pub first-formed : {Formed Other : List ℕ → Type 0} {s : List ℕ} {n : ℕ} → ((l : List ℕ) → Formed l → Other l) → ((l : List ℕ) → Other l → Formed l)
+    → FirstBad (WithCrlf Formed) s n → FirstBad (WithCrlf Other) s n
+first-formed there back f =
+    first-same
+    (λ l w. record { text = w .text; ends = w .ends; formed = back (w .text) (w .formed) })
+    (λ l w. record { text = w .text; ends = w .ends; formed = there (w .text) (w .formed) })
+    f
+
 -- ---- a malformed line has the byte in itself, its CRLF with it, whatever follows it
 
 -- a text without CR is cut from its CRLF in one way only
@@ -81,14 +90,14 @@ take-line (b ∷ text) more = ap (λ (l : List ℕ). b ∷ l) (take-line text mo
 
 -- where every byte of a text that passes has f, which a CR has not
 pub stop-inside : (formed : List ℕ → Bool) (f : ℕ → Bool) → (T (f 13) → ⊥) → ((l : List ℕ) → T (formed l) → T (all f l))
-    → (text more : List ℕ) (n : ℕ) → T (not (formed text)) → FirstBad (WithCrlf formed) (text ++ (13 ∷ 10 ∷ more)) n → n < suc (suc (length text))
+    → (text more : List ℕ) (n : ℕ) → T (not (formed text)) → FirstBad (WithCrlf (λ t. T (formed t))) (text ++ (13 ∷ 10 ∷ more)) n → n < suc (suc (length text))
 stop-inside formed f z each text more n t first =
     by-test (ltb n (suc (suc (length text))))
     (λ u. ltb-yes u)
     (λ u.
     let far : suc (suc (length text)) ≤ n = ltb-no {a = n} {b = suc (suc (length text))} u in
     let b = first .good (suc (length text)) (omega arith) in
-    let p : WithCrlf formed ((text ++ (13 ∷ 10 ∷ [])) ++ b .0) = rw (take-line text more) at (b .1) in
+    let p : WithCrlf (λ t. T (formed t)) ((text ++ (13 ∷ 10 ∷ [])) ++ b .0) = rw (take-line text more) at (b .1) in
     let e : text ++ (13 ∷ 10 ∷ b .0) ≡ p .text ++ (13 ∷ 10 ∷ []) = sym (append-assoc text (13 ∷ 10 ∷ []) (b .0)) ∙ p .ends in
-    let same = same-text text (p .text) (b .0) f z (each (p .text) (p .passes)) e in
-    absurd (T-not (formed text) t (rw same (p .passes))))
+    let same = same-text text (p .text) (b .0) f z (each (p .text) (p .formed)) e in
+    absurd (T-not (formed text) t (rw same (p .formed))))

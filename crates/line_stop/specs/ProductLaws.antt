@@ -157,7 +157,7 @@ module _ {F : Type 0} {a : Scanner F} {rest : F → List ℕ → Bool} (x : Tell
       rw (is l) (yes-and (short && utf8 l) (rest f l) (yes-and short (utf8 l) (yes-leb {a = length l} {b = limit} h) (p .0)) (p .1))
 
   -- the scan finds the first byte at which what has come is no beginning of any
-  pub line-stops : (s : List ℕ) → FirstBad (WithCrlf formed) s (stopFrom (both a) limit 0 (between, f) s)
+  pub line-stops : (s : List ℕ) → FirstBad (WithCrlf (λ t. T (formed t))) s (stopFrom (both a) limit 0 (between, f) s)
   line-stops s = scan-stops (both a) (exact a x) limit formed (between, f) (start a x f) there back s
 
   module _ (text more : List ℕ) (t : T (not (formed text))) where

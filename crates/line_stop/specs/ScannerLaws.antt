@@ -164,12 +164,12 @@ module _ {S : Type 0} (a : Scanner S) (x : Exact a) where
     -- and so of lines whose texts are just those that the scanner takes within the limit
     module _ (formed : List ℕ → Bool) (s : S) (v : x .Valid s) (there : (l : List ℕ) → T (formed l) → (length l ≤ limit) × T (a .done (after a s l)))
         (back : (l : List ℕ) → length l ≤ limit → T (a .done (after a s l)) → T (formed l)) where
-      pub scan-stops : (l : List ℕ) → FirstBad (WithCrlf formed) l (stopFrom a limit 0 s l)
+      pub scan-stops : (l : List ℕ) → FirstBad (WithCrlf (λ t. T (formed t))) l (stopFrom a limit 0 s l)
       unfolding Ends
       scan-stops l =
           first-same
-          (λ m e. let d = there (e .text) (e .passes) in (e .text, e .ends, omega (arith, d .0), d .1))
-          (λ m e. record { text = e .0; ends = e .1; passes = back (e .0) (omega (arith, e .2)) (e .3) })
+          (λ m e. let d = there (e .text) (e .formed) in (e .text, e .ends, omega (arith, d .0), d .1))
+          (λ m e. record { text = e .0; ends = e .1; formed = back (e .0) (omega (arith, e .2)) (e .3) })
           (stops l 0 s v (omega arith))
 
       -- a malformed line has the byte in itself, its CRLF with it, whatever follows it
@@ -184,5 +184,5 @@ module _ {S : Type 0} (a : Scanner S) (x : Exact a) where
           let line = text ++ (13 ∷ 10 ∷ []) in
           let whole : line ++ more ≡ text ++ (13 ∷ 10 ∷ more) = append-assoc text (13 ∷ 10 ∷ []) more in
           let n = stopFrom a limit 0 s (text ++ (13 ∷ 10 ∷ more)) in
-          let found : FirstBad (WithCrlf formed) (line ++ more) n = rw whole (scan-stops (text ++ (13 ∷ 10 ∷ more))) in
+          let found : FirstBad (WithCrlf (λ t. T (formed t))) (line ++ more) n = rw whole (scan-stops (text ++ (13 ∷ 10 ∷ more))) in
           first-once (first-front line more n (omega (arith, scan-inside text more t, length-append text (13 ∷ 10 ∷ []))) found) (scan-stops line)

@@ -1,4 +1,5 @@
 pub mod Received
+pub mod Grammar
 pub mod LinesLaws
 pub mod RowLinesLaws
 pub mod CommentLinesLaws
@@ -6,3 +7,5 @@ pub mod TokenLaws
 pub mod PassesLaws
 pub mod WritingLaws
 pub mod ReceivedLaws
+pub mod TokenGrammarLaws
+pub mod GrammarLaws

@@ -1,6 +1,6 @@
 -- Laws of the lines of what is written. Assumes nothing.
 use borrow.Author.Tests.{ne-eqb, eq-eqb, le-leb, lt-leb}
-use mathlib.Core.Path.{_≡_, refl, _∙_}
+use mathlib.Core.Path.{_≡_, refl, ap, _∙_}
 use mathlib.Core.Bool.{Bool, not}
 use mathlib.Core.List.{List, [], _∷_, _++_}
 use Prim.Native.Nat.{ℕ, _+_, _-_, _≤_, _<_}
@@ -9,10 +9,11 @@ use lib.Dec.{T, eqb, leb}
 use lib.ListN.{length, drop, getD, drop-of-length-le}
 use lib.Seq.{drop-cons}
 use native.Mathlib.Numerals.{add-one}
-use mir.Facts.{and-yes, leb-yes, leb-no}
+use mir.Facts.{and-yes, yes-and, leb-yes, leb-no}
 use Rattle.lists.specs.Lists.{all}
-use Rattle.lists.specs.ListsLaws.{by-test, no-false}
-use Rattle.received.specs.Received.{columnNext, columnAfter}
+use Rattle.lists.specs.ListsLaws.{by-test, yes-true, true-yes, no-false}
+use Rattle.received.specs.Received.{columnNext, columnAfter, linesFit}
+use Rattle.received.specs.Grammar.{LinesFit}
 
 -- ---- columns
 
@@ -36,6 +37,49 @@ column-run column [] h k = omega arith
 column-run column (b ∷ s) h k =
     let both = and-yes (inLine b) (all inLine s) h in
     rw (le-leb column 999 (omega arith), no-false (eqb b 10) (both .0)) (column-run (column + 1) s (both .1) (omega arith) ∙ omega arith)
+
+-- ---- lines that fit
+
+column-fits : (column : ℕ) (s : List ℕ) → columnAfter column s ≤ 999 → column ≤ 999
+column-fits column s h = by-test (leb column 999) (λ t. leb-yes t) (λ t. rw (column-past column s (leb-no t)) at h)
+
+-- a line that fits, from a column on
+line-fits : (column : ℕ) (s : List ℕ) → T (all inLine s) → columnAfter column s ≤ 999 → column + length s ≤ 999
+unfolding columnAfter columnNext
+line-fits column [] h k = omega arith
+line-fits column (b ∷ s) h k =
+    let both = and-yes (inLine b) (all inLine s) h in
+    let low = le-leb column 999 (column-fits column (b ∷ s) k) in
+    omega (arith, line-fits (column + 1) s (both .1) (rw (low, no-false (eqb b 10) (both .0)) at k))
+
+pub lines-fit : (s : List ℕ) → T (linesFit s) → LinesFit s
+unfolding linesFit
+lines-fit s h before line after e i =
+    let start = columnAfter 0 before in
+    let fits : columnAfter 0 s ≤ 999 = leb-yes h in
+    let end : columnAfter 0 s ≡ columnAfter (columnAfter start line) after = ap (columnAfter 0) e ∙ (column-append 0 before (line ++ after) ∙ column-append start line after) in
+    omega (arith, line-fits start line i (column-fits (columnAfter start line) after (rw end at fits)))
+
+-- every line at the front fits, from a column on
+abbrev FrontFits : ℕ → List ℕ → Type 0
+FrontFits column s = (line after : List ℕ) → s ≡ line ++ after → T (all inLine line) → column + length line ≤ 999
+
+fit-from : (column : ℕ) (s : List ℕ) → FrontFits column s → LinesFit s → columnAfter column s ≤ 999
+unfolding columnAfter columnNext
+fit-from column [] first all-lines = omega (arith, first [] [] refl tt)
+fit-from column (b ∷ s) first all-lines =
+    let low = le-leb column 999 (omega (arith, first [] (b ∷ s) refl tt)) in
+    let later : LinesFit s = λ before line after e i. all-lines (b ∷ before) line after (ap (λ (l : List ℕ). b ∷ l) e) i in
+    by-test (eqb b 10)
+    (λ t. rw (low, yes-true (eqb b 10) t) (fit-from 0 s (λ line after e i. omega (arith, all-lines (b ∷ []) line after (ap (λ (l : List ℕ). b ∷ l) e) i)) later))
+    (λ t. rw (low, no-false (eqb b 10) t)
+    (fit-from (column + 1) s
+    (λ line after e i. omega (arith, first (b ∷ line) after (ap (λ (l : List ℕ). b ∷ l) e) (yes-and (inLine b) (all inLine line) t i)))
+    later))
+
+pub fit-lines : (s : List ℕ) → LinesFit s → T (linesFit s)
+unfolding linesFit
+fit-lines s h = true-yes (leb (columnAfter 0 s) 999) (le-leb (columnAfter 0 s) 999 (fit-from 0 s (λ line after e i. omega (arith, h [] line after e i)) h))
 
 abbrev pub newLine : List ℕ
 newLine = 13 ∷ 10 ∷ 32 ∷ []

@@ -8,11 +8,9 @@ use lib.ListN.{length, take, drop, drop-of-length-le}
 use Rattle.lists.specs.CutByLaws.{cut-nil, cut-next}
 use Rattle.lists.specs.Lists.{all, joined}
 use Rattle.encoded_word.specs.Segments.{rendered}
-use Rattle.encoded_word.specs.Segments.Segment.{raw}
-use Rattle.encoded_word.specs.SegmentsLaws.{rendered-append}
 use Rattle.encoded_word.specs.MappedLaws.{mapped-next}
+use Rattle.field.specs.FieldLaws.{named-bytes}
 use Rattle.received_token.specs.Clause.{forLen}
-use Rattle.structured_field.specs.StructuredField.{named}
 use Rattle.received_token.specs.ClauseLaws.{rest}
 use Rattle.received_token.specs.Tokens.{unclosedLen, leftLen, tokensFrom, tokens}
 use Rattle.received_token.specs.TokensLaws.{Next}
@@ -65,13 +63,12 @@ module _ (name value : List ℕ) (n : ℕ) (qn : n ≡ forLen value) (k : ℕ) (
 
   pub received-bytes : rendered (receivedField name value)
       ≡ (name ++ (58 ∷ [])) ++ (rendered (tokenSegments (take n value)) ++ (rendered (leftSegments k left) ++ (13 ∷ 10 ∷ [])))
-  unfolding receivedField named valueSegments leftSegments rendered
+  unfolding receivedField valueSegments leftSegments
   received-bytes =
-      let segments = joined (map tokenSegments (tokens value)) in
-      ap (λ (l : List ℕ). (name ++ (58 ∷ [])) ++ l)
-      (rendered-append segments (raw (13 ∷ 10 ∷ []) ∷ [])
-      ∙ (ap (λ (l : List ℕ). l ++ (13 ∷ 10 ∷ [])) (mapped-next tokenSegments tokens-are)
-      ∙ append-assoc (rendered (tokenSegments (take n value))) (rendered (joined (map tokenSegments (tokensFrom k left)))) (13 ∷ 10 ∷ [])))
+      named-bytes name (joined (map tokenSegments (tokens value)))
+      ∙ ap (λ (l : List ℕ). (name ++ (58 ∷ [])) ++ l)
+      (ap (λ (l : List ℕ). l ++ (13 ∷ 10 ∷ [])) (mapped-next tokenSegments tokens-are)
+      ∙ append-assoc (rendered (tokenSegments (take n value))) (rendered (joined (map tokenSegments (tokensFrom k left)))) (13 ∷ 10 ∷ []))
 
   module _ {clear : Bool} (q : clear ≡ isClear (take n value)) where
     pub passes-not : clear ≡ false → false ≡ passes name value

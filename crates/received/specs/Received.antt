@@ -1,23 +1,24 @@
 -- What a Received field becomes, and when it is held. Assumes nothing.
-use mathlib.Core.Bool.{Bool, cond, _&&_, _||_}
+use mathlib.Core.Bool.{Bool, cond, not, _&&_, _||_}
 use mathlib.Core.List.{List, [], _∷_, map}
 use Prim.Native.Nat.{ℕ, _+_}
 use lib.Dec.{eqb, leb, ltb}
 use Rattle.lists.specs.Byte.{isAscii}
-use Rattle.lists.specs.Lists.{all, joined}
+use Rattle.lists.specs.Lists.{all, joined, nonempty}
 use Rattle.encoded_word.specs.Segments.{Segment, rendered}
 use Rattle.encoded_word.specs.Segments.Segment.{raw}
+use Rattle.field.specs.Field.{named}
 use Rattle.comment.specs.Parts.{parts}
 use Rattle.structured_field.specs.Tokens.{isComment}
-use Rattle.structured_field.specs.StructuredField.{partSegments, named}
+use Rattle.structured_field.specs.StructuredField.{partSegments}
 use Rattle.received_token.specs.Clause.{forLen, isClause, isRemoved}
 use Rattle.received_token.specs.Tokens.{tokensFrom, tokens}
 
 -- ---- what it becomes
 
--- "Comments follow [1]." A clause that is removed leaves nothing, all else stays as it came.
+-- "Comments follow [1]." A clause that is removed leaves nothing, all else stays as it came. The first token may be empty.
 unfoldable pub tokenSegments : List ℕ → List Segment
-tokenSegments token = cond (isComment token) (joined (map partSegments (parts token))) (cond (isRemoved token) [] (raw token ∷ []))
+tokenSegments token = cond (isComment token) (joined (map partSegments (parts token))) (cond (isRemoved token || not (nonempty token)) [] (raw token ∷ []))
 
 -- what becomes of what is left of the value
 unfoldable pub leftSegments : ℕ → List ℕ → List Segment
@@ -44,7 +45,7 @@ unfoldable pub columnAfter : ℕ → List ℕ → ℕ
 columnAfter column [] = column
 columnAfter column (b ∷ s) = columnAfter (columnNext column b) s
 
--- no "line grown past 998 bytes"
+-- no "line grown past 998 bytes": LinesLaws.antt proves that it tests `LinesFit` of Grammar.antt
 unfoldable pub linesFit : List ℕ → Bool
 linesFit s = leb (columnAfter 0 s) 999
 

@@ -7,10 +7,10 @@ use native.Mathlib.Omega.{arith}
 use lib.Dec.{T, ltb, eqb→eq, lt→ltb}
 use lib.ListN.{length, take, drop, getD, length-append, drop-of-length-le, take-append-drop}
 use lib.Seq.{split-at}
-use mir.Facts.{and-yes, yes-and, ltb-yes}
+use mir.Facts.{and-yes, yes-and, or-no, ltb-yes}
 use Rattle.lists.specs.Byte.{isAscii}
 use Rattle.lists.specs.CutByLaws.{cut-joined, cut-some}
-use Rattle.lists.specs.Lists.{all, joined}
+use Rattle.lists.specs.Lists.{all, joined, nonempty}
 use Rattle.lists.specs.ListsLaws.{by-test, cond-has, yes-true, true-yes, no-false}
 use Rattle.utf8.specs.Utf8.{utf8}
 use Rattle.utf8.specs.Utf8Laws.{utf8-ascii, utf8-right, utf8-append, utf8-cut}
@@ -18,12 +18,13 @@ use Rattle.encoded_word.specs.Segments.{Segment, rendered, sound}
 use Rattle.encoded_word.specs.Segments.Segment.{raw}
 use Rattle.encoded_word.specs.SegmentsLaws.{rendered-append}
 use Rattle.encoded_word.specs.MappedLaws.{mapped-le, mapped-sound}
+use Rattle.field.specs.FieldLaws.{named-sound, length-named}
 use Rattle.comment.specs.Comment.{commentLen}
 use Rattle.comment.specs.Parts.{parts}
 use Rattle.comment.specs.BoundaryLaws.{Cut, comment-cut, parts-pass}
 use Rattle.structured_field.specs.Tokens.{isComment}
 use Rattle.structured_field.specs.StructuredField.{partSegments}
-use Rattle.structured_field.specs.StructuredFieldLaws.{comment-sound, comment-le, all-both, named-sound, length-named}
+use Rattle.structured_field.specs.StructuredFieldLaws.{comment-sound, comment-le, all-both}
 use Rattle.received_token.specs.Clause.{clauseLen, forLen, isClause, isRemoved}
 use Rattle.received_token.specs.ClauseLaws.{clause-last, for-le}
 use Rattle.received_token.specs.Tokens.{unclosedLen, leftLen, tokensFrom, tokens}
@@ -104,11 +105,11 @@ token-sound : (token : List ℕ) → T (fair token) → T (all sound (tokenSegme
 unfolding tokenSegments
 token-sound token h =
     let both = and-yes (utf8 token) (isClear token) h in
-    cond-has (λ (ss : List Segment). T (all sound ss)) (isComment token) (joined (map partSegments (parts token))) (cond (isRemoved token) [] (raw token ∷ []))
+    cond-has (λ (ss : List Segment). T (all sound ss)) (isComment token) (joined (map partSegments (parts token))) (cond (isRemoved token || not (nonempty token)) [] (raw token ∷ []))
     (λ t. comment-sound token (both .0))
-    (λ t. cond-has (λ (ss : List Segment). T (all sound ss)) (isRemoved token) [] (raw token ∷ [])
+    (λ t. cond-has (λ (ss : List Segment). T (all sound ss)) (isRemoved token || not (nonempty token)) [] (raw token ∷ [])
     (λ g. tt)
-    (λ g. yes-and (all isAscii token) true (clear-ascii token (both .1) t g) tt))
+    (λ g. yes-and (all isAscii token) true (clear-ascii token (both .1) t (or-no (isRemoved token) (not (nonempty token)) g .0)) tt))
 
 -- what is written for a field that passes is sound
 pub received-sound : (name value : List ℕ) → T (all isAscii name) → T (utf8 value) → T (passes name value) → T (all sound (receivedField name value))
@@ -123,9 +124,9 @@ received-sound name value a u p =
 token-le : (token : List ℕ) → length (rendered (tokenSegments token)) ≤ 23 * length token
 unfolding tokenSegments rendered
 token-le token =
-    cond-has (λ (ss : List Segment). length (rendered ss) ≤ 23 * length token) (isComment token) (joined (map partSegments (parts token))) (cond (isRemoved token) [] (raw token ∷ []))
+    cond-has (λ (ss : List Segment). length (rendered ss) ≤ 23 * length token) (isComment token) (joined (map partSegments (parts token))) (cond (isRemoved token || not (nonempty token)) [] (raw token ∷ []))
     (λ t. comment-le token)
-    (λ t. cond-has (λ (ss : List Segment). length (rendered ss) ≤ 23 * length token) (isRemoved token) [] (raw token ∷ [])
+    (λ t. cond-has (λ (ss : List Segment). length (rendered ss) ≤ 23 * length token) (isRemoved token || not (nonempty token)) [] (raw token ∷ [])
     (λ g. omega arith)
     (λ g. rw append-nil (omega arith)))
 

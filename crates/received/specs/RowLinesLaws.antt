@@ -17,7 +17,8 @@ use Rattle.utf8.specs.Utf8Laws.{char-len-le}
 use Rattle.cut.specs.CutLaws.{AllFit, cut-fits}
 use Rattle.hex.specs.Hex.{hexDigit}
 use Rattle.word_spelling.specs.Spelling.{closing, bare, escape, spellByte, spell}
-use Rattle.base64.specs.Base64.{isDigit64, inBase64}
+use Rattle.base64.specs.Base64.{inBase64}
+use Rattle.base64.specs.Reading.{isDigit64}
 use Rattle.base64.specs.Base64Laws.{isBase64, all-base64}
 use Rattle.row.specs.declared.Encoding.{Encoding}
 use Rattle.row.specs.declared.Encoding.the-variants.{Q, B}
@@ -96,7 +97,7 @@ lines-column k column (r ∷ rs) f =
     ap (λ (l : List ℕ). columnAfter column l) (append-assoc first more newLine)
     ∙ (column-append column first (more ++ newLine)
     ∙ (lines-column (suc k) (columnAfter column first) rs (f .1)
-    ∙ word-column column e (joined r) (chosen-holds encodings 63 (joined r) (f .0) .small)))
+    ∙ word-column column e (joined r) (chosen-holds encodings 63 0 r (f .0) .small)))
 
 abbrev short : List ℕ → Bool
 short c = leb (length c) 8

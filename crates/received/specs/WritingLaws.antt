@@ -11,12 +11,12 @@ use Rattle.buffer.specs.Buffer.{AppendedCapped, greatest}
 use Rattle.buffer.specs.BufferLaws.{capped-none, capped-then, capped-same}
 use Rattle.encoded_word.specs.Segments.{rendered}
 use Rattle.encoded_word.specs.MappedLaws.{mapped-none, mapped-next}
+use Rattle.field.specs.FieldLaws.{named-added}
 use Rattle.comment.specs.Parts.{parts}
 use Rattle.piece.specs.Piece.{fitting}
 use Rattle.piece.specs.PieceLaws.{fitting-short}
 use Rattle.structured_field.specs.Tokens.{isComment}
 use Rattle.structured_field.specs.StructuredField.{partSegments}
-use Rattle.structured_field.specs.WritingLaws.{named-added}
 use Rattle.received_token.specs.Clause.{forLen, isRemoved}
 use Rattle.received_token.specs.Tokens.{unclosedLen, leftLen, tokensFrom}
 use Rattle.received.specs.Received.{tokenSegments, leftSegments, valueSegments, receivedField}

@@ -10,7 +10,7 @@ use native.Mathlib.Omega.{arith}
 use lib.Dec.{T, eqb, ltb, eqb→eq}
 use mir.Facts.{and-yes, eqb-no}
 use lib.ListN.{length, take, drop, getD, length-append, length-drop}
-use lib.Seq.{take-add, take-suc, take-at, length-take-le, drop-cons, drop-at, getD-take, getD-drop, getD-append-seam, getD-append-add}
+use lib.Seq.{take-add, take-take, take-suc, take-at, length-take-le, drop-cons, drop-at, getD-take, getD-drop, getD-append-seam, getD-append-add}
 use Rattle.lists.specs.Lists.{all}
 use Rattle.lists.specs.ListsLaws.{by-test, cond-has, yes-true, true-yes, no-false}
 use Rattle.lists.specs.Run.{run}
@@ -22,7 +22,7 @@ use Rattle.address.specs.GrammarLaws.{Closed, address-sound, address-complete}
 use Rattle.address.specs.declared.Scan.{Scan}
 use Rattle.address.specs.declared.Scan.the-variants.{To, Stop}
 use Rattle.received_token.specs.Clause.{isWhite, whiteLen, isFor, closedLen, angledLen, clauseLen, forLen, isClause}
-use Rattle.received_token.specs.ClauseLaws.{angled-closed, clause-last, for-long}
+use Rattle.received_token.specs.ClauseLaws.{white-le, clause-le, angled-closed, clause-last, for-long}
 use Rattle.received_token.specs.Grammar.{Angled, Clause}
 
 -- ---- an address in angle brackets
@@ -71,7 +71,7 @@ taken-angled s h =
 
 -- ---- the word
 
-white-low : (b : ℕ) → T (isWhite b) → b < 33
+pub white-low : (b : ℕ) → T (isWhite b) → b < 33
 white-low b h =
     by-test (eqb b 32)
     (λ t. omega (arith, eqb→eq b 32 t))
@@ -217,3 +217,74 @@ for-token s h =
     (λ u k. let none : clauseLen s ≡ 0 = eqb→eq c 0 u in rw none (bare-for s (yes-true (isFor (drop w s)) t)))
     (λ u k. whole-clause s k ∙ sym (lt-ltb 0 c k)))
     (λ t k. absurd (not-suc-le-zero k)) h
+
+-- ---- a for at the front
+
+module _ (s : List ℕ) where
+  pub for-some : isFor (drop (whiteLen s) s) ≡ true → 0 < forLen s
+  unfolding forLen
+  for-some e =
+      rw e
+      (cond-has (λ n. 0 < n) (eqb (clauseLen s) 0) (whiteLen s + 4) (clauseLen s)
+      (λ t. omega arith)
+      (λ t. let some = eqb-no {a = clauseLen s} {b = 0} t in omega arith))
+
+  clause-word : 0 < clauseLen s → isFor (drop (whiteLen s) s) ≡ true
+  unfolding clauseLen
+  clause-word h =
+      by-test (isFor (drop (whiteLen s) s))
+      (λ t. yes-true (isFor (drop (whiteLen s) s)) t)
+      (λ t. let z : 0 < 0 = rw (no-false (isFor (drop (whiteLen s) s)) t) at h in absurd (not-suc-le-zero z))
+
+  pub clause-for : 0 < clauseLen s → forLen s ≡ clauseLen s
+  unfolding forLen
+  clause-for h = rw (clause-word h, ne-eqb (clauseLen s) 0 (λ z. not-suc-le-zero {n = 0} (omega arith)))
+
+  bare-word : 0 < forLen s → clauseLen s ≡ 0 → (isFor (drop (whiteLen s) s) ≡ true) × (forLen s ≡ whiteLen s + 4)
+  unfolding forLen
+  bare-word h z =
+      by-test (isFor (drop (whiteLen s) s))
+      (λ t. let e = yes-true (isFor (drop (whiteLen s) s)) t in (e, rw (e, z)))
+      (λ t. let k : 0 < 0 = rw (no-false (isFor (drop (whiteLen s) s)) t) at h in absurd (not-suc-le-zero k))
+
+-- a for is told by four bytes
+word-cut : (s : List ℕ) → isFor s ≡ true → (isFor (take 4 s) ≡ true) × (run isWhite (take 4 s) ≡ 0)
+unfolding isFor
+word-cut s e =
+    let same = and-yes (sameAnyCase (take 3 s) (bytes "for")) (isWhite (getD s 3 0) || eqb (getD s 3 0) 60) (true-yes (sameAnyCase (take 3 s) (bytes "for") && (isWhite (getD s 3 0) || eqb (getD s 3 0) 60)) e) .0 in
+    let text : take 4 s ≡ take 3 s ++ take 1 (drop 3 s) = take-add 3 1 s in
+    (rw (take-take 3 4 s (omega arith), getD-take 4 s 3 0 (omega arith)) e, rw text (word-front (take 3 s) (take 1 (drop 3 s)) same .1))
+
+-- a for without an address, cut off, still has the for
+bare-again : (s : List ℕ) → isFor (drop (whiteLen s) s) ≡ true → 0 < forLen (take (whiteLen s + 4) s)
+unfolding whiteLen
+bare-again s e =
+    let w = whiteLen s in
+    let x = drop w s in
+    let token = take (w + 4) s in
+    let word = word-cut x e in
+    let text : token ≡ take w s ++ take 4 x = take-add w 4 s in
+    let size : length (take w s) ≡ w = length-take-le w s (white-le s) in
+    let white : whiteLen token ≡ w =
+    ap (λ (l : List ℕ). run isWhite l) text ∙ (run-past isWhite (take w s) (take 4 x) (run-all isWhite s) ∙ omega (arith, word .1)) in
+    let there : drop (whiteLen token) token ≡ take 4 x = rw (white, text) (drop-at (take w s) (take 4 x) w size) in
+    for-some token (rw there (word .0))
+
+-- A token with a for, cut off, still has it.
+pub for-again : (s : List ℕ) → 0 < forLen s → 0 < forLen (take (forLen s) s)
+for-again s h =
+    by-test (eqb (clauseLen s) 0)
+    (λ t. let b = bare-word s h (eqb→eq (clauseLen s) 0 t) in rw (b .1) (bare-again s (b .0)))
+    (λ t.
+    let none = eqb-no {a = clauseLen s} {b = 0} t in
+    let some : 0 < clauseLen s = omega arith in
+    let token = take (clauseLen s) s in
+    let e : clauseLen token ≡ length token = rw append-nil at (clause-taken (taken-clause s some) []) in
+    let size : length token ≡ clauseLen s = length-take-le (clauseLen s) s (clause-le s) in
+    let more : 0 < clauseLen token = omega arith in
+    rw (clause-for s some) (rw (clause-for token more) more))
+
+pub clause-some : {c : List ℕ} → Clause c → 0 < length c
+clause-some (Clause.clause before word after {address} b w a g) =
+    omega
+    (arith, length-append before (word ++ (after ++ address)), length-append word (after ++ address), length-append after address, angled-front g [] .1 .1)

@@ -131,11 +131,11 @@ unclosed-none s i h = rw (drop-of-length-le s {i = i} h, cut-nil commentedLen)
 
 -- ---- tokens that are comments
 
-lone-paren : isComment (40 ∷ []) ≡ false
+pub lone-paren : isComment (40 ∷ []) ≡ false
 unfolding isComment commentLen closing depthAfter past
 lone-paren = refl
 
-no-token : isComment [] ≡ false
+pub no-token : isComment [] ≡ false
 unfolding isComment commentLen
 no-token = refl
 
@@ -160,7 +160,7 @@ left-comment k b s =
     (λ t. rw (eqb→eq b 40 t) (open-comment k s))
     (λ t e. absurd (true-yes false (sym (other-kind b (suc (pred (leftLen k (b ∷ s)))) s (eqb-no {a = b} {b = 40} t)) ∙ e)))
 
-open-not-for : (s : List ℕ) → forLen (40 ∷ s) ≡ 0
+pub open-not-for : (s : List ℕ) → forLen (40 ∷ s) ≡ 0
 unfolding forLen whiteLen run isFor sameAnyCase bytes lower
 open-not-for s = refl
 

@@ -2,14 +2,12 @@
 -- speaks of the fewest lines of the field, among rows set as ours are: the first word after the colon and one space or on the next
 -- line, every later word on its own line after one space, no line that holds a word over 76 characters." FieldCounterexampleLaws.antt has
 -- rows of which it does not hold. Assumes nothing.
-use mathlib.Core.Path.{_≡_}
 use mathlib.Core.List.{List, [], _∷_, _++_}
 use Prim.Native.Nat.{ℕ, suc, _+_, _≤_}
 use lib.ListN.{length}
-use Rattle.row.specs.declared.Encoding.{Encoding}
 use Rattle.row.specs.Row.{encodings}
-use Rattle.row.specs.Layout.{Word, wordBytes, Reads, addedText}
-use Rattle.row.specs.Demand3.{AllProper}
+use Rattle.row.specs.Layout.{Word, wordBytes, Reads}
+use Rattle.row.specs.Demand3.{Demand3In}
 
 -- "every later word on its own line after one space". 13 10 is CRLF, 32 is the space.
 pub data OwnLines : List ℕ → List Word → Type 0 where
@@ -25,19 +23,7 @@ pub data SetAfter (limit column : ℕ) : List ℕ → List Word → ℕ → Type
   -- "or on the next line"
   below : {row : List ℕ} {ws : List Word} → OwnLines row ws → SetAfter limit column row ws (suc (length ws))
 
--- such a row, which reads back as the text, and whose words are proper: a word of at most `limit` characters fits a line after one space
-pub record FieldRowOf (es : List Encoding) (limit column : ℕ) (text row : List ℕ) (words : List Word) (lines : ℕ) : Type 0 where
-  pub set : SetAfter limit column row words lines
-  pub reads : addedText words ≡ text
-  pub proper : AllProper es limit words
-
--- Demand 3 for a field, for words in these encodings of at most `limit` characters, and one more in a line
-pub record FieldDemand3In (es : List Encoding) (limit column : ℕ) (text row : List ℕ) : Type 0 where
-  pub words : List Word
-  pub lines : ℕ
-  pub ours : FieldRowOf es limit column text row words lines
-  pub fewest : (other : List ℕ) (ws : List Word) (n : ℕ) → FieldRowOf es limit column text other ws n → lines ≤ n
-
--- Demand 3 for a field whose name and colon have `column` characters: "No row of Q and B words [..] one to a line of at most 76 characters"
+-- Demand 3 for a field whose name and colon have `column` characters: "No row of Q and B words [..] one to a line of at most 76 characters".
+-- A word of at most 75 characters fits a line after one space.
 abbrev pub FieldDemand3 : ℕ → List ℕ → List ℕ → Type 0
-FieldDemand3 column text row = FieldDemand3In encodings 75 column text row
+FieldDemand3 column text row = Demand3In encodings 75 (SetAfter 75 column) text row

@@ -16,14 +16,14 @@ use Rattle.utf8.specs.Utf8Laws.{chars-joined, utf8-bytes}
 use Rattle.cut.specs.CutLaws.{AllFit, cut-joined, cut-fits, cut-first, fewest}
 use Rattle.row.specs.declared.Encoding.{Encoding}
 use Rattle.row.specs.Word.{word}
-use Rattle.row.specs.Row.{encodings, fitsRoom, chosen, lines, roomsAfter, fitsAfter, runsAfter, linesAfter, rowAfterIn, rowAfter}
-use Rattle.row.specs.Layout.{Word, LaidAfter, Laid, addedText}
+use Rattle.row.specs.Row.{encodings, fitsRoom, chosen, lines, fitsAfter, runsAfter, linesAfter, rowAfterIn, rowAfter}
+use Rattle.row.specs.Layout.{Word, LaidAfter, addedText}
 use Rattle.row.specs.Layout.LaidAfter.{empty, space, crlf}
-use Rattle.row.specs.LayoutLaws.{oursIn, ours-reads}
-use Rattle.row.specs.FitsLaws.{spell-in-some, fits-part, none-fits, char-fits, chosen-holds}
-use Rattle.row.specs.Demand3.{Proper, AllProper}
-use Rattle.row.specs.Demand3Laws.{length-word, word-fits, runsOf, runs-of-fit, runs-of-whole, length-runs-of, ours-text, our-proper, ours-proper}
-use Rattle.row.specs.FieldRow.{OwnLines, SetAfter, FieldRowOf, FieldDemand3In, FieldDemand3}
+use Rattle.row.specs.LayoutLaws.{Laid, oursIn, ours-reads}
+use Rattle.row.specs.FitsLaws.{spell-in-some, fits-after-part, none-fits, char-fits, chosen-holds}
+use Rattle.row.specs.Demand3.{Proper, RowOf, Demand3In}
+use Rattle.row.specs.Demand3Laws.{AllProper, cons-proper, first-proper, rest-proper, length-word, word-fits, runsOf, runs-of-fit, runs-of-whole, length-runs-of, ours-text, our-proper, ours-proper}
+use Rattle.row.specs.FieldRow.{OwnLines, SetAfter, FieldDemand3}
 use Rattle.row.specs.FieldRow.SetAfter.{here, below}
 
 -- ---- such a row is laid out as its words, so that it reads back as what they add
@@ -47,14 +47,14 @@ module _ (es : List Encoding) (some : T (nonempty es)) (room column : ℕ) where
   lines-fewest : (cs h : List (List ℕ)) (hs : List (List (List ℕ))) → AllFit (fitsAfter es room column) 0 (h ∷ hs) → h ++ joined hs ≡ cs
       → length (runsAfter es room column cs) ≤ suc (length hs)
   unfolding runsAfter
-  lines-fewest cs h hs f e = fewest (fitsAfter es room column) (λ k d m e. fits-part es (roomsAfter room column k) k d m e) 0 [] [] cs h hs f e
+  lines-fewest cs h hs f e = fewest (fitsAfter es room column) (fits-after-part es room column) 0 [] [] cs h hs f e
 
   set-fewest : {row : List ℕ} {ws : List Word} {n : ℕ} → SetAfter (room + 12) column row ws n → AllProper es (room + 12) ws
       → length (runsAfter es room column (chars (addedText ws))) ≤ n
   set-fewest (here {w = w} {ws = ws} a s o) p =
       rw (runs-of-whole es room (w ∷ ws) p, ← length-runs-of ws)
       (lines-fewest (joined (runsOf (w ∷ ws))) (chars (w .added)) (runsOf ws)
-      (word-fits (room - column) 0 (p .0) (omega (arith, length-word w, s)), later-fit 0 (runsOf ws) (runs-of-fit es room 1 ws (p .1))) refl)
+      (word-fits (room - column) 0 (first-proper p) (omega (arith, length-word w, s)), later-fit 0 (runsOf ws) (runs-of-fit es room 1 ws (rest-proper p))) refl)
   set-fewest (below {ws = ws} o) p =
       rw (runs-of-whole es room ws p, ← length-runs-of ws)
       (lines-fewest (joined (runsOf ws)) [] (runsOf ws) (none-fits es some (room - column) 0, later-fit 0 (runsOf ws) (runs-of-fit es room 1 ws p)) refl)
@@ -78,7 +78,7 @@ module _ (es : List Encoding) (room column : ℕ) where
   set-ours : (k : ℕ) (r : List (List ℕ)) (ls : List (List ℕ)) → T (all (all isByte) (joined r ∷ ls)) → T (fitsRoom es (room - column) k r)
       → SetAfter (room + 12) column (linesAfter es room column (joined r ∷ ls)) (afterWords (joined r ∷ ls)) (suc (length ls))
   unfolding linesAfter word afterWords
-  set-ours k r ls h f = go (joined r) h (chosen-holds es (room - column) (joined r) f .small)
+  set-ours k r ls h f = go (joined r) h (chosen-holds es (room - column) k r f .small)
     where
       go : (l : List ℕ) → T (all (all isByte) (l ∷ ls)) → length (oursIn es (room - column) l .standing) ≤ room - column
           → SetAfter (room + 12) column (linesAfter es room column (l ∷ ls)) (afterWords (l ∷ ls)) (suc (length ls))
@@ -110,7 +110,7 @@ module _ (es : List Encoding) (room column : ℕ) where
       go : (l : List ℕ) → Proper es (room + 12) (oursIn es (room - column) l) → AllProper es (room + 12) (map (oursIn es room) (map joined rs))
           → AllProper es (room + 12) (afterWords (l ∷ map joined rs))
       go [] p q = q
-      go (b ∷ bytes) p q = (p, q)
+      go (b ∷ bytes) p q = cons-proper p q
 
   runs-after-fit : T (nonempty es) → 12 ≤ room → (cs : List (List ℕ)) → T (all isChar cs) → AllFit (fitsAfter es room column) 0 (runsAfter es room column cs)
   unfolding runsAfter
@@ -127,24 +127,25 @@ module _ (es : List Encoding) (room column : ℕ) where
 
   -- lines of characters that fit, set after a name
   field-row : (text : List ℕ) (rs : List (List (List ℕ))) → T (utf8 text) → joined rs ≡ chars text → AllFit (fitsAfter es room column) 0 rs → T (nonempty rs)
-      → FieldRowOf es (room + 12) column text (linesAfter es room column (map joined rs)) (afterWords (map joined rs)) (length rs)
+      → RowOf es (room + 12) (SetAfter (room + 12) column) text (linesAfter es room column (map joined rs)) (length rs)
   unfolding utf8
   field-row text [] u e f n = absurd n
   field-row text (r ∷ rs) u e f n =
       let bytes = all-joined isByte (map joined (r ∷ rs)) (rw (joined-map (r ∷ rs), e, chars-joined text) (utf8-bytes text u)) in record {
-        set = rw (← length-map rs joined) (set-ours 0 r (map joined rs) bytes (f .0));
+        words = afterWords (map joined (r ∷ rs));
+        laid = rw (← length-map rs joined) (set-ours 0 r (map joined rs) bytes (f .0));
         reads = after-text (map joined (r ∷ rs)) ∙ joined-map (r ∷ rs) ∙ ap joined e ∙ chars-joined text;
         proper = after-proper r rs f (all-joined isChar (r ∷ rs) (rw e u));
       }
 
   -- Demand 3 for a field, over the encodings, the room and the column. A room of 12 holds every character.
-  pub field-demand-3-in : (text : List ℕ) → T (nonempty es) → 12 ≤ room → T (utf8 text) → FieldDemand3In es (room + 12) column text (rowAfterIn es room column text)
+  pub field-demand-3-in : (text : List ℕ) → T (nonempty es) → 12 ≤ room → T (utf8 text)
+      → Demand3In es (room + 12) (SetAfter (room + 12) column) text (rowAfterIn es room column text)
   unfolding rowAfterIn utf8
   field-demand-3-in text n h u = record {
-    words = afterWords (map joined (runsAfter es room column (chars text)));
-    lines = length (runsAfter es room column (chars text));
+    count = length (runsAfter es room column (chars text));
     ours = field-row text (runsAfter es room column (chars text)) u (runs-after-joined (chars text)) (runs-after-fit n h (chars text) u) (runs-after-first (chars text));
-    fewest = λ other ws n′ r. rw (r .reads) at (set-fewest es n room column (r .set) (r .proper));
+    fewest = λ other n′ r. rw (r .reads) at (set-fewest es n room column (r .laid) (r .proper));
   }
 
 -- Demand 3 for a field.

@@ -1,10 +1,10 @@
 -- What fits a word, over any encodings and any room: a part of what fits does, every character does, and the encoding chosen holds it.
 -- Assumes nothing.
-use mathlib.Core.Path.{_≡_, refl}
+use mathlib.Core.Path.{_≡_, refl, ap}
 use mathlib.Core.Bool.{Bool, true, false, not, _||_}
 use mathlib.Core.Logic.{⊎-elim}
 use mathlib.Core.List.{List, [], _∷_, _++_, append-nil, List·Memᴰ, List·Memᴰ·head, List·Memᴰ·tail}
-use Prim.Native.Nat.{ℕ, _+_, _≤_, _<_}
+use Prim.Native.Nat.{ℕ, zero, suc, _+_, _-_, _≤_, _<_}
 use native.Mathlib.Omega.{arith}
 use lib.Dec.{T, leb→le, le→leb}
 use lib.ListN.{length, length-append}
@@ -20,7 +20,7 @@ use Rattle.word_spelling.specs.SpellingLaws.{length-spell, length-spell-append,
 use Rattle.row.specs.declared.Encoding.{Encoding}
 use Rattle.row.specs.declared.Encoding.the-variants.{Q, B}
 use Rattle.row.specs.Word.{openingIn, spellIn, word}
-use Rattle.row.specs.Row.{encodings, holds, someHolds, fitsRoom, chosen}
+use Rattle.row.specs.Row.{encodings, holds, fitsRoom, chosen, fitsAfter}
 
 pub or-left : (a b : Bool) → T a → T (a || b)
 or-left true b t = tt
@@ -56,39 +56,49 @@ pub length-word-in : (e : Encoding) (bytes : List ℕ) → length (word e bytes)
 unfolding word
 length-word-in e bytes = omega (arith, length-append (openingIn e) (spellIn e bytes ++ closing), length-append (spellIn e bytes) closing, length-opening-in e)
 
+-- ---- what fits one line fits another with the same room
+
+pub fits-any-line : (es : List Encoding) (room k j : ℕ) (run : List (List ℕ)) → fitsRoom es room k run ≡ fitsRoom es room j run
+fits-any-line [] room k j run = refl
+fits-any-line (e ∷ es) room k j run = ap (λ (b : Bool). holds room (joined run) e || b) (fits-any-line es room k j run)
+
 -- ---- a part of what fits
 
 pub holds-part : (e : Encoding) (room : ℕ) (a m b : List ℕ) → T (holds room (a ++ (m ++ b)) e) → T (holds room m e)
 holds-part e room a m b t = le→leb (length (spellIn e m)) room (omega (arith, leb→le (length (spellIn e (a ++ (m ++ b)))) room t, spell-in-part e a m b))
 
-some-part : (room : ℕ) (a m b : List ℕ) (es : List Encoding) → T (someHolds room (a ++ (m ++ b)) es) → T (someHolds room m es)
-some-part room a m b [] t = t
-some-part room a m b (e ∷ es) t =
-    ⊎-elim
-    (λ u. or-left (holds room m e) (someHolds room m es) (holds-part e room a m b u))
-    (λ u. or-right (holds room m e) (someHolds room m es) (some-part room a m b es u))
-    (or-yes (holds room (a ++ (m ++ b)) e) (someHolds room (a ++ (m ++ b)) es) t)
-
 pub fits-part : (es : List Encoding) (room k : ℕ) (d m e : List (List ℕ)) → T (fitsRoom es room k (d ++ (m ++ e))) → T (fitsRoom es room k m)
-fits-part es room k d m e t = some-part room (joined d) (joined m) (joined e) es (rw (joined-append d (m ++ e), joined-append m e) at t)
+fits-part [] room k d m e t = t
+fits-part (x ∷ es) room k d m e t =
+    ⊎-elim
+    (λ u. or-left (holds room (joined m) x) (fitsRoom es room k m)
+    (holds-part x room (joined d) (joined m) (joined e) (rw (joined-append d (m ++ e), joined-append m e) at u)))
+    (λ u. or-right (holds room (joined m) x) (fitsRoom es room k m) (fits-part es room k d m e u))
+    (or-yes (holds room (joined (d ++ (m ++ e))) x) (fitsRoom es room k (d ++ (m ++ e))) t)
+
+pub fits-after-part : (es : List Encoding) (room column k : ℕ) (d m e : List (List ℕ)) → T (fitsAfter es room column k (d ++ (m ++ e)))
+    → T (fitsAfter es room column k m)
+fits-after-part es room column zero d m e t = fits-part es (room - column) zero d m e t
+fits-after-part es room column (suc k) d m e t = fits-part es room (suc k) d m e t
 
 -- ---- what an encoding holds
 
-pub some-of : (room : ℕ) (bytes : List ℕ) {e : Encoding} {es : List Encoding} → List·Memᴰ e es → T (holds room bytes e) → T (someHolds room bytes es)
-some-of room bytes (List·Memᴰ·head {x} {xs} p) t = or-left (holds room bytes x) (someHolds room bytes xs) (rw p at t)
-some-of room bytes (List·Memᴰ·tail {x} {xs} m) t = or-right (holds room bytes x) (someHolds room bytes xs) (some-of room bytes m t)
+module _ (room k : ℕ) (run : List (List ℕ)) where
+  pub some-of : {e : Encoding} {es : List Encoding} → List·Memᴰ e es → T (holds room (joined run) e) → T (fitsRoom es room k run)
+  some-of (List·Memᴰ·head {x} {xs} p) t = or-left (holds room (joined run) x) (fitsRoom xs room k run) (rw p at t)
+  some-of (List·Memᴰ·tail {x} {xs} m) t = or-right (holds room (joined run) x) (fitsRoom xs room k run) (some-of m t)
 
--- where each encoding holds it
-each-holds : (es : List Encoding) (room : ℕ) (bytes : List ℕ) → T (nonempty es) → ((e : Encoding) → length (spellIn e bytes) ≤ room) → T (someHolds room bytes es)
-each-holds [] room bytes n h = absurd n
-each-holds (e ∷ es) room bytes n h = or-left (holds room bytes e) (someHolds room bytes es) (le→leb (length (spellIn e bytes)) room (h e))
+  -- where each encoding holds it
+  each-holds : (es : List Encoding) → T (nonempty es) → ((e : Encoding) → length (spellIn e (joined run)) ≤ room) → T (fitsRoom es room k run)
+  each-holds [] n h = absurd n
+  each-holds (e ∷ es) n h = or-left (holds room (joined run) e) (fitsRoom es room k run) (le→leb (length (spellIn e (joined run))) room (h e))
 
 pub none-fits : (es : List Encoding) → T (nonempty es) → (room k : ℕ) → T (fitsRoom es room k [])
-none-fits es n room k = each-holds es room [] n (λ e. omega (arith, spell-in-nil e))
+none-fits es n room k = each-holds room k [] es n (λ e. omega (arith, spell-in-nil e))
 
 -- a room of 12 holds every character, 4 bytes of 3 characters each in Q, and of 8 in B
 pub char-fits : (es : List Encoding) → T (nonempty es) → (room : ℕ) → 12 ≤ room → (k : ℕ) (c : List ℕ) → T (isChar c) → T (fitsRoom es room k (c ∷ []))
-char-fits es n room h k c t = rw append-nil (each-holds es room c n (λ e. go e))
+char-fits es n room h k c t = each-holds room k (c ∷ []) es n (λ e. rw append-nil (go e))
   where
     go : (e : Encoding) → length (spellIn e c) ≤ room
     go Q = omega (arith, length-spell c, char-length c t)
@@ -105,14 +115,15 @@ pub record Chosen (es : List Encoding) (room : ℕ) (bytes : List ℕ) (e : Enco
   pub allowed : List·Memᴰ e es
   pub small : length (spellIn e bytes) ≤ room
 
-pub chosen-holds : (es : List Encoding) (room : ℕ) (bytes : List ℕ) → T (someHolds room bytes es) → Chosen es room bytes (chosen es room bytes)
+pub chosen-holds : (es : List Encoding) (room k : ℕ) (run : List (List ℕ)) → T (fitsRoom es room k run) → Chosen es room (joined run) (chosen es room (joined run))
 unfolding chosen
-chosen-holds [] room bytes t = absurd t
-chosen-holds (e ∷ es) room bytes t =
+chosen-holds [] room k run t = absurd t
+chosen-holds (e ∷ es) room k run t =
+    let bytes = joined run in
     by-test (holds room bytes e)
     (λ u. rw (cond-yes (holds room bytes e) e (chosen es room bytes) u) (record { allowed = List·Memᴰ·head refl; small = leb→le (length (spellIn e bytes)) room u }))
     (λ u.
-    let c = chosen-holds es room bytes (other (holds room bytes e) (someHolds room bytes es) t u) in
+    let c = chosen-holds es room k run (other (holds room bytes e) (fitsRoom es room k run) t u) in
     rw (cond-no (holds room bytes e) e (chosen es room bytes) u) (record { allowed = List·Memᴰ·tail (c .allowed); small = c .small }))
   where
     other : (a b : Bool) → T (a || b) → T (not a) → T b

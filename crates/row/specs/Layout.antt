@@ -4,11 +4,12 @@
 use mathlib.Core.Path.{_≡_}
 use mathlib.Core.Logic.{_≢_}
 use mathlib.Core.Bool.{Bool, true, false, cond}
-use mathlib.Core.List.{List, [], _∷_, _++_}
+use mathlib.Core.List.{List, [], _∷_, _++_, map}
 use mathlib.Core.Option.{Option, none, some}
 use Prim.Native.Nat.{ℕ, _+_, _-_, _*_, _≤_}
 use Rattle.lists.specs.Byte.{within}
-use Rattle.base64.specs.Base64.{fromBase64}
+use Rattle.lists.specs.Lists.{joined}
+use Rattle.base64.specs.Grammar.{FromBase64}
 use Rattle.word_spelling.specs.Spelling.{closing}
 use Rattle.row.specs.declared.Encoding.{Encoding}
 use Rattle.row.specs.declared.Encoding.the-variants.{Q, B}
@@ -32,7 +33,7 @@ pub data Adds : List ℕ → List ℕ → Type 0 where
 -- what stands in a word, and the bytes that it adds: "document 01's reading then takes `=?UTF-8?B?` words too, by base64"
 abbrev pub AddsIn : Encoding → List ℕ → List ℕ → Type 0
 AddsIn Q standing added = Adds standing added
-AddsIn B standing added = fromBase64 standing ≡ some added
+AddsIn B standing added = FromBase64 standing added
 
 -- a word: its encoding, what stands between its `=?UTF-8?Q?` or `=?UTF-8?B?` and its `?=`, and the bytes that it adds
 pub record Word : Type 0 where
@@ -57,11 +58,6 @@ pub data LaidAfter : Bool → List ℕ → List Word → Type 0 where
   -- "`=?UTF-8?Q?` opens a word; straight after the `?=` of another it is a fault. [..] `?=` closes the word.": `=?UTF-8?B?` too
   word : {row : List ℕ} {w : Word} {ws : List Word} → Reads w → LaidAfter true row ws → LaidAfter false (wordBytes w ++ row) (w ∷ ws)
 
--- A whole row and its words: "The reading starts between words, with nothing added." "Its words are counted where they open."
-abbrev pub Laid : List ℕ → List Word → Type 0
-Laid row ws = LaidAfter false row ws
-
 -- what a row of these words reads back as: "the bytes added, in order"
 abbrev pub addedText : List Word → List ℕ
-addedText [] = []
-addedText (w ∷ ws) = w .added ++ addedText ws
+addedText ws = joined (map (λ (w : Word). w .added) ws)

@@ -7,7 +7,7 @@ use Prim.Native.Nat.{ℕ, _+_, _*_}
 use lib.Dec.{eqb}
 use lib.ListN.{drop}
 use Rattle.lists.specs.Byte.{within}
-use Rattle.base64.specs.Base64.{fromBase64}
+use Rattle.base64.specs.Reading.{fromBase64}
 use Rattle.row.specs.declared.Encoding.{Encoding}
 use Rattle.row.specs.declared.Encoding.the-variants.{Q, B}
 use Rattle.row.specs.Layout.{anyCaseValue, Word, addedText}

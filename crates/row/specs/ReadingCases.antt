@@ -6,11 +6,12 @@ use Prim.Native.Nat.{ℕ}
 use lib.Count.{leadingZeros}
 use lib.ListN.{take, replicate}
 use Rattle.lists.specs.Lists.{joined}
-use Rattle.utf8.specs.Utf8.{leadingOnes, charLen, chars}
+use Rattle.utf8.specs.Utf8.{charLen, chars}
 use Rattle.lists.specs.CutBy.{cutAfter, cutBy}
 use Rattle.cut.specs.Cut.{cut}
 use Rattle.hex.specs.Hex.{hexDigit}
-use Rattle.base64.specs.Base64.{digit64, inBase64, isDigit64, value64, fromQuad, fromThree, fromTwo, fromLast, fromBase64}
+use Rattle.base64.specs.Base64.{digit64, inBase64}
+use Rattle.base64.specs.Reading.{isDigit64, value64, fromQuad, fromThree, fromTwo, fromLast, fromBase64}
 use Rattle.word_spelling.specs.Spelling.{opening, closing, bare, spellByte, spell}
 use Rattle.row.specs.declared.Encoding.the-variants.{B}
 use Rattle.row.specs.Word.{openingIn, word}
@@ -156,5 +157,5 @@ cases =
     ∷ []
 
 pub cases-right : map (λ (c : Case). readsAs (c .given)) cases ≡ map (λ (c : Case). c .answer) cases
-unfolding readsAs wordsRead reading step role anyCaseValue rowIn runs chosen cut lines word digit64 inBase64 isDigit64 value64 fromQuad fromThree fromTwo fromLast fromBase64 spell spellByte bare hexDigit chars cutBy cutAfter charLen leadingOnes leadingZeros
+unfolding readsAs wordsRead reading step role anyCaseValue rowIn runs chosen cut lines word digit64 inBase64 isDigit64 value64 fromQuad fromThree fromTwo fromLast fromBase64 spell spellByte bare hexDigit chars cutBy cutAfter charLen leadingZeros
 cases-right = refl

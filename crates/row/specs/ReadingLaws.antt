@@ -13,14 +13,17 @@ use Rattle.lists.specs.Lists.{all}
 use Rattle.lists.specs.ListsLaws.{by-test, cond-yes, cond-no}
 use Rattle.lists.specs.Byte.{within}
 use Rattle.lists.specs.ByteLaws.{within-low, within-high, to-within}
-use Rattle.base64.specs.Base64.{isDigit64, fromBase64}
-use Rattle.base64.specs.Base64Laws.{isBase64, all-base64, base64-only}
+use Rattle.base64.specs.Base64Laws.{isBase64, all-base64}
+use Rattle.base64.specs.Grammar.{FromBase64}
+use Rattle.base64.specs.Reading.{isDigit64, fromBase64}
+use Rattle.base64.specs.GrammarLaws.{base64-only, grammar-read, read-grammar}
 use Rattle.word_spelling.specs.Spelling.{closing}
 use Rattle.row.specs.declared.Encoding.{Encoding}
 use Rattle.row.specs.declared.Encoding.the-variants.{Q, B}
 use Rattle.row.specs.Word.{openingIn}
-use Rattle.row.specs.Layout.{anyCaseValue, Adds, AddsIn, Word, wordBytes, Reads, LaidAfter, Laid, addedText}
+use Rattle.row.specs.Layout.{anyCaseValue, Adds, AddsIn, Word, wordBytes, Reads, LaidAfter, addedText}
 use Rattle.row.specs.Layout.LaidAfter.{empty, space, crlf, word}
+use Rattle.row.specs.LayoutLaws.{Laid}
 use Rattle.row.specs.Reading.{State, opened, extended, role, charset, letterOf, stepBetween, stepOpens, stepLetter, openIn, stepInWord, stepDigit, stepSecond, closedB, step, reading, finish, wordsRead, readsAs}
 use Rattle.row.specs.Reading.State.{fault, between, afterCr, opens, letter, afterLetter, inWord, afterEquals, afterDigit, closes, inWordB, closesB}
 use Rattle.row.specs.Reading.Role.{itself}
@@ -75,8 +78,8 @@ unfolding reading step role
 read-in Q ws standing added row h =
     rw (append-assoc standing closing row, reading-append (inWord ws opened) standing (closing ++ row), read-adds ws opened h) refl
 read-in B ws standing added row h =
-    let digits : T (all isBase64 standing) = rw (base64-only standing added h) at (all-base64 added) in
-    rw (append-assoc standing closing row, reading-append (inWordB ws []) standing (closing ++ row), read-base64 ws [] standing digits, h) refl
+    let digits : T (all isBase64 standing) = rw (base64-only h) at (all-base64 added) in
+    rw (append-assoc standing closing row, reading-append (inWordB ws []) standing (closing ++ row), read-base64 ws [] standing digits, grammar-read h) refl
 
 read-word : (ws : List Word) (w : Word) (row : List ℕ) → Reads w → reading (between false ws) (wordBytes w ++ row) ≡ reading (between true (ws ++ (w ∷ []))) row
 read-word ws w row h = read-in (w .encoding) ws (w .standing) (w .added) row h
@@ -121,7 +124,7 @@ record LeftIn (vs : List Word) (w : Word) (row : List ℕ) (ws : List Word) : Ty
 record LeftBase64 (vs : List Word) (begun row : List ℕ) (ws : List Word) : Type 0 where
   standing : List ℕ
   added : List ℕ
-  adds : fromBase64 (begun ++ standing) ≡ some added
+  adds : FromBase64 (begun ++ standing) added
   rest : List ℕ
   left : Left true (vs ++ (record { encoding = B; standing = begun ++ standing; added = added } ∷ [])) rest ws
   is : row ≡ standing ++ (closing ++ rest)
@@ -237,7 +240,7 @@ module _ (row : List ℕ) (ws : List Word) where
       → LeftBase64 vs begun (63 ∷ 61 ∷ row) ws
   back-close none vs begun e r = absurd r
   back-close (some added) vs begun e r =
-      record { standing = []; added = added; adds = rw append-nil e; rest = row; left = rw append-nil r; is = refl }
+      record { standing = []; added = added; adds = rw append-nil (read-grammar begun added e); rest = row; left = rw append-nil r; is = refl }
 
   back-in-word : (vs : List Word) (w : Word) (b : ℕ) → Rest (stepInWord (role b) vs w b) row ws → LeftIn vs w (b ∷ row) ws
   unfolding role

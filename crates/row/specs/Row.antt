@@ -19,14 +19,10 @@ encodings = Q ∷ B ∷ []
 abbrev pub holds : ℕ → List ℕ → Encoding → Bool
 holds room bytes encoding = leb (length (spellIn encoding bytes)) room
 
--- a word in one of these encodings does
-abbrev pub someHolds : ℕ → List ℕ → List Encoding → Bool
-someHolds room bytes [] = false
-someHolds room bytes (e ∷ es) = holds room bytes e || someHolds room bytes es
-
--- whether a word with this room holds these characters, on whichever line k it stands
+-- whether a word with this room, in one of these encodings, holds these characters, on whichever line k it stands
 abbrev pub fitsRoom : List Encoding → ℕ → ℕ → List (List ℕ) → Bool
-fitsRoom es room k run = someHolds room (joined run) es
+fitsRoom [] room k run = false
+fitsRoom (e ∷ es) room k run = holds room (joined run) e || fitsRoom es room k run
 
 -- "A word takes as many whole characters as fit." No character, no word.
 unfoldable pub runs : List Encoding → ℕ → List (List ℕ) → List (List (List ℕ))
@@ -46,8 +42,7 @@ wordIn es room bytes = word (chosen es room bytes) bytes
 
 -- "Every word has a line of its own: CRLF and one space come before it". 13 is CR, 10 is LF, 32 is the space.
 unfoldable pub lines : List Encoding → ℕ → List (List ℕ) → List ℕ
-lines es room [] = []
-lines es room (bytes ∷ more) = (13 ∷ 10 ∷ 32 ∷ wordIn es room bytes) ++ lines es room more
+lines es room words = joined (map (λ (bytes : List ℕ). 13 ∷ 10 ∷ 32 ∷ wordIn es room bytes) words)
 
 -- the row of a text in words of 1 to so many characters, each in one of these encodings
 unfoldable pub rowIn : List Encoding → ℕ → List ℕ → List ℕ
@@ -59,14 +54,11 @@ row text = rowIn encodings 63 text
 
 -- ---- the row set after a name and its colon, which have `column` characters
 
--- The room of a word on each line of the field. On line 0, the name's, "put the first word after the colon and one space, as far as 76
+-- Whether line k of the field holds these characters. On line 0, the name's, "put the first word after the colon and one space, as far as 76
 -- characters allow": a name of n characters leaves 62 - n, which is 63 less the name and its colon.
-abbrev pub roomsAfter : ℕ → ℕ → ℕ → ℕ
-roomsAfter room column zero = room - column
-roomsAfter room column (suc k) = room
-
 abbrev pub fitsAfter : List Encoding → ℕ → ℕ → ℕ → List (List ℕ) → Bool
-fitsAfter es room column k run = fitsRoom es (roomsAfter room column k) k run
+fitsAfter es room column zero run = fitsRoom es (room - column) zero run
+fitsAfter es room column (suc k) run = fitsRoom es room (suc k) run
 
 -- the characters on each line of the field; on line 0 there may be none
 unfoldable pub runsAfter : List Encoding → ℕ → ℕ → List (List ℕ) → List (List (List ℕ))

@@ -91,7 +91,7 @@ word-thrice room bytes =
 
 -- what fits a word of 63 characters makes one of 75 at most
 word-short : (k : ℕ) (run : List (List ℕ)) → T (fitsRoom encodings 63 k run) → length (wordIn encodings 63 (joined run)) ≤ 75
-word-short k run t = omega (arith, length-word-in (chosen encodings 63 (joined run)) (joined run), chosen-holds encodings 63 (joined run) t .small)
+word-short k run t = omega (arith, length-word-in (chosen encodings 63 (joined run)) (joined run), chosen-holds encodings 63 k run t .small)
 
 -- a run that does not fit has more than the 45 bytes that B holds
 over-45 : (k : ℕ) (run : List (List ℕ)) (c : List ℕ) → T (not (fitsRoom encodings 63 k (run ++ (c ∷ [])))) → 45 < length (joined run) + length c

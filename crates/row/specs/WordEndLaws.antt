@@ -23,7 +23,7 @@ use Rattle.row.specs.declared.Encoding.{Encoding}
 use Rattle.row.specs.declared.Encoding.the-variants.{Q, B}
 use Rattle.row.specs.Word.{spellIn, word}
 use Rattle.row.specs.Row.{encodings, holds, fitsRoom, runs, chosen, lines, rowIn, row, fitsAfter, runsAfter, linesAfter, rowAfterIn, rowAfter}
-use Rattle.row.specs.FitsLaws.{or-left, or-right, fits-part, short-fits, chosen-holds}
+use Rattle.row.specs.FitsLaws.{or-left, or-right, fits-any-line, fits-part, fits-after-part, short-fits, chosen-holds}
 use Rattle.row.specs.WordEnd.{Span, WordEnd}
 
 -- ---- the lines of a row, one after another
@@ -33,7 +33,7 @@ module _ (es : List Encoding) (room : ℕ) where
   cut-same : (k j : ℕ) (run cs : List (List ℕ)) → cut (fitsRoom es room) k run cs ≡ cut (fitsRoom es room) j run cs
   unfolding cut
   cut-same k j run [] = refl
-  cut-same k j run (c ∷ cs) = rw (cut-same k j (run ++ (c ∷ [])) cs, cut-same (suc k) (suc j) (c ∷ []) cs) refl
+  cut-same k j run (c ∷ cs) = rw (cut-same k j (run ++ (c ∷ [])) cs, cut-same (suc k) (suc j) (c ∷ []) cs, fits-any-line es room k j (run ++ (c ∷ []))) refl
 
   below-runs : (k : ℕ) (cs : List (List ℕ)) → linesBelow (fitsRoom es room) k cs ≡ runs es room cs
   unfolding linesBelow runs
@@ -53,7 +53,7 @@ module _ (es : List Encoding) (room : ℕ) where
     pub cut-later : (k j : ℕ) (run cs : List (List ℕ)) → cut (fitsAfter es room column) (suc k) run cs ≡ cut (fitsRoom es room) j run cs
     unfolding cut
     cut-later k j run [] = refl
-    cut-later k j run (c ∷ cs) = rw (cut-later k j (run ++ (c ∷ [])) cs, cut-later (suc k) (suc j) (c ∷ []) cs) refl
+    cut-later k j run (c ∷ cs) = rw (cut-later k j (run ++ (c ∷ [])) cs, cut-later (suc k) (suc j) (c ∷ []) cs, fits-any-line es room (suc k) j (run ++ (c ∷ []))) refl
 
     below-after : (cs : List (List ℕ)) → linesBelow (fitsAfter es room column) 0 cs ≡ runs es room cs
     unfolding linesBelow runs
@@ -65,7 +65,7 @@ module _ (es : List Encoding) (room : ℕ) where
         → runsAfter es room column (run ++ rest) ≡ run ∷ runs es room rest
     unfolding runsAfter
     runs-after-step run rest t full =
-        cut-run (fitsAfter es room column) (λ k d m e. fits-part es _ k d m e) 0 [] run rest t
+        cut-run (fitsAfter es room column) (fits-after-part es room column) 0 [] run rest t
         ∙ cut-full (fitsAfter es room column) 0 run rest full ∙ ap (λ (l : List (List (List ℕ))). run ∷ l) (below-after rest)
 
 -- ---- whole characters from place to place
@@ -171,7 +171,7 @@ row-end s i h = rw (chars-end s i h) refl
 module _ {room : ℕ} {s : List ℕ} {i e : ℕ} {k : Encoding} (w : WordEnd room s i e k) where
   -- what stands between the brackets is no longer than the room
   pub word-small : length (spellIn k (between s i e)) ≤ room
-  word-small = rw (w .kind) (chosen-holds encodings room (between s i e) (rw (w .span .bytes) at (w .fits)) .small)
+  word-small = rw (w .kind) (rw (w .span .bytes) at (chosen-holds encodings room 0 (w .span .run) (w .fits) .small))
 
 one-fits : (text c : List ℕ) (cs : List (List ℕ)) → chars text ≡ c ∷ cs → T (fitsRoom encodings 63 0 (c ∷ []))
 one-fits text c cs e =

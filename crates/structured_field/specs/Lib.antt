@@ -3,3 +3,5 @@ pub mod TokensLaws
 pub mod StructuredField
 pub mod StructuredFieldLaws
 pub mod WritingLaws
+pub mod Grammar
+pub mod GrammarLaws

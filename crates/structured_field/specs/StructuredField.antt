@@ -1,11 +1,12 @@
 -- What a structured field becomes. Assumes nothing.
 use mathlib.Core.Bool.{cond}
-use mathlib.Core.List.{List, [], _∷_, _++_, map}
+use mathlib.Core.List.{List, [], _∷_, map}
 use Prim.Native.Nat.{ℕ}
 use Rattle.lists.specs.Byte.{isAscii}
 use Rattle.lists.specs.Lists.{all, joined}
 use Rattle.encoded_word.specs.Segments.{Segment}
 use Rattle.encoded_word.specs.Segments.Segment.{raw, words}
+use Rattle.field.specs.Field.{named}
 use Rattle.comment.specs.Parts.{parts, runText}
 use Rattle.structured_field.specs.Tokens.{tokens, isComment}
 
@@ -20,10 +21,6 @@ tokenSegments token = cond (isComment token) (joined (map partSegments (parts to
 
 unfoldable pub valueSegments : List ℕ → List Segment
 valueSegments value = joined (map tokenSegments (tokens value))
-
--- the name as it came, colon (58), what becomes of the value, CRLF
-unfoldable pub named : List ℕ → List Segment → List Segment
-named name segments = raw (name ++ (58 ∷ [])) ∷ (segments ++ (raw (13 ∷ 10 ∷ []) ∷ []))
 
 unfoldable pub structuredField : List ℕ → List ℕ → List Segment
 structuredField name value = named name (valueSegments value)

@@ -1,7 +1,6 @@
 -- Laws of what a structured field becomes: it is sound, how long it can be, and its writing part by part. Assumes nothing.
-use mathlib.Core.Path.{_≡_}
 use mathlib.Core.Bool.{Bool, true, _&&_, _||_}
-use mathlib.Core.List.{List, [], _∷_, _++_, append-nil, map}
+use mathlib.Core.List.{List, [], _∷_, append-nil, map}
 use Prim.Native.Nat.{ℕ, _+_, _-_, _*_, _≤_, _<_}
 use native.Mathlib.Omega.{arith}
 use lib.Dec.{T}
@@ -10,19 +9,19 @@ use mir.Facts.{and-yes, yes-and}
 use Rattle.lists.specs.Byte.{isAscii}
 use Rattle.lists.specs.CutByLaws.{cut-some}
 use Rattle.lists.specs.Lists.{all, joined}
-use Rattle.lists.specs.ListsLaws.{cond-has, no-false, all-append}
+use Rattle.lists.specs.ListsLaws.{cond-has, no-false}
 use Rattle.utf8.specs.Utf8.{utf8}
 use Rattle.row.specs.RowLaws.{length-row-le}
 use Rattle.encoded_word.specs.Segments.{Segment, rendered, sound}
 use Rattle.encoded_word.specs.Segments.Segment.{raw, words}
-use Rattle.encoded_word.specs.SegmentsLaws.{rendered-append}
+use Rattle.field.specs.FieldLaws.{named-sound, length-named}
 use Rattle.comment.specs.Parts.{partLen, parts, runText}
 use Rattle.comment.specs.PartsLaws.{parts-joined}
 use Rattle.comment.specs.BoundaryLaws.{parts-utf8, run-text-utf8, length-run-text}
 use Rattle.encoded_word.specs.MappedLaws.{mapped-le, mapped-sound}
 use Rattle.structured_field.specs.Tokens.{tokenLen, tokens, isComment, commentOrAscii, asciiOutsideComments}
 use Rattle.structured_field.specs.TokensLaws.{tokens-joined, tokens-utf8}
-use Rattle.structured_field.specs.StructuredField.{partSegments, tokenSegments, valueSegments, named, structuredField}
+use Rattle.structured_field.specs.StructuredField.{partSegments, tokenSegments, valueSegments, structuredField}
 
 -- ---- soundness
 
@@ -56,12 +55,6 @@ all-both f g (t ∷ ts) h q =
     let b = and-yes (g t) (all g ts) q in
     yes-and (f t && g t) (all (λ t. f t && g t) ts) (yes-and (f t) (g t) (a .0) (b .0)) (all-both f g ts (a .1) (b .1))
 
-pub named-sound : (name : List ℕ) (segments : List Segment) → T (all isAscii name) → T (all sound segments) → T (all sound (named name segments))
-unfolding named
-named-sound name segments a h =
-    yes-and (all isAscii (name ++ (58 ∷ []))) (all sound (segments ++ (raw (13 ∷ 10 ∷ []) ∷ []))) (all-append isAscii name (58 ∷ []) a tt)
-    (all-append sound segments (raw (13 ∷ 10 ∷ []) ∷ []) h tt)
-
 -- what is written where no non-ASCII stands outside comments is sound
 pub structured-sound : (name value : List ℕ) → T (all isAscii name) → T (utf8 value) → T (asciiOutsideComments value) → T (all sound (structuredField name value))
 unfolding structuredField valueSegments asciiOutsideComments
@@ -88,11 +81,6 @@ token-le token h =
     cond-has (λ (ss : List Segment). length (rendered ss) ≤ 23 * length token) (isComment token) (joined (map partSegments (parts token))) (raw token ∷ [])
     (λ t. comment-le token)
     (λ t. rw append-nil (omega arith))
-
-pub length-named : (name : List ℕ) (segments : List Segment) → length (rendered (named name segments)) ≡ 3 + length name + length (rendered segments)
-unfolding named rendered
-length-named name segments =
-    rw (length-append, rendered-append segments (raw (13 ∷ 10 ∷ []) ∷ []), length-append (rendered segments)) (omega (arith, length-append name (58 ∷ [])))
 
 pub length-structured : (name value : List ℕ) → length (rendered (structuredField name value)) ≤ 3 + length name + 23 * length value
 unfolding structuredField valueSegments tokens

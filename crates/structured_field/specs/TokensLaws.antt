@@ -30,20 +30,20 @@ tokens-joined value = cut-joined tokenLen value
 -- ---- the token at the front, as code finds it
 
 module _ (b : ℕ) (s : List ℕ) where
-  token-quote : eqb b 34 ≡ true → tokenLen (b ∷ s) ≡ stringLen (b ∷ s)
+  pub token-quote : eqb b 34 ≡ true → tokenLen (b ∷ s) ≡ stringLen (b ∷ s)
   unfolding tokenLen
   token-quote e = rw e
 
-  token-byte : (b ≡ 34 → ⊥) → (b ≡ 40 → ⊥) → tokenLen (b ∷ s) ≡ 1
+  pub token-byte : (b ≡ 34 → ⊥) → (b ≡ 40 → ⊥) → tokenLen (b ∷ s) ≡ 1
   unfolding tokenLen
   token-byte q p = rw (ne-eqb b 34 q, ne-eqb b 40 p)
 
   module _ (p : b ≡ 40) where
-    token-unclosed : commentLen (b ∷ s) ≡ 0 → tokenLen (b ∷ s) ≡ length (b ∷ s)
+    pub token-unclosed : commentLen (b ∷ s) ≡ 0 → tokenLen (b ∷ s) ≡ length (b ∷ s)
     unfolding tokenLen
     token-unclosed n = rw (ne-eqb b 34 (λ e. not-suc-le-zero {n = 0} (omega arith)), eq-eqb b 40 p, n)
 
-    token-comment : (commentLen (b ∷ s) ≡ 0 → ⊥) → tokenLen (b ∷ s) ≡ commentLen (b ∷ s)
+    pub token-comment : (commentLen (b ∷ s) ≡ 0 → ⊥) → tokenLen (b ∷ s) ≡ commentLen (b ∷ s)
     unfolding tokenLen
     token-comment n = rw (ne-eqb b 34 (λ e. not-suc-le-zero {n = 0} (omega arith)), eq-eqb b 40 p, ne-eqb (commentLen (b ∷ s)) 0 n)
 

@@ -8,11 +8,11 @@ use lib.ListN.{length, take, drop, length-take, length-drop}
 use Rattle.lists.specs.Byte.{isAscii}
 use Rattle.lists.specs.Lists.{all, joined}
 use Rattle.buffer.specs.Buffer.{AppendedCapped, greatest}
-use Rattle.buffer.specs.BufferLaws.{capped-then, capped-same, length-added}
+use Rattle.buffer.specs.BufferLaws.{capped-then}
 use Rattle.row.specs.Row.{row, bounded}
 use Rattle.row.specs.RowLaws.{bounded-short}
-use Rattle.encoded_word.specs.Segments.{Segment, rendered}
-use Rattle.encoded_word.specs.SegmentsLaws.{rendered-append}
+use Rattle.encoded_word.specs.Segments.{rendered}
+use Rattle.field.specs.FieldLaws.{named-added}
 use Rattle.comment.specs.Parts.{partLen, parts, runText}
 use Rattle.comment.specs.PartsLaws.{parts-next, parts-over}
 use Rattle.comment.specs.BoundaryLaws.{length-run-text}
@@ -20,7 +20,7 @@ use Rattle.piece.specs.PieceLaws.{MadeIn}
 use Rattle.encoded_word.specs.MappedLaws.{mapped-next, mapped-none}
 use Rattle.structured_field.specs.Tokens.{isComment, commentOrAscii, asciiOutsideComments, TookToken}
 use Rattle.structured_field.specs.TokensLaws.{tokens-next, tokens-over}
-use Rattle.structured_field.specs.StructuredField.{partSegments, tokenSegments, valueSegments, named, structuredField}
+use Rattle.structured_field.specs.StructuredField.{partSegments, tokenSegments, valueSegments, structuredField}
 
 -- a part is no longer than the whole
 pub part-served : (s : List ℕ) (i e room : ℕ) → length s ≤ 32768 → length s ≤ room
@@ -92,19 +92,6 @@ module _ (s : List ℕ) (i : ℕ) (h : length s ≤ i) where
   outside-none = rw (tokens-over s i h)
 
 -- ---- the field
-
-module _ (name : List ℕ) (segments : List Segment) where
-  named-bytes : rendered (named name segments) ≡ (name ++ (58 ∷ [])) ++ (rendered segments ++ (13 ∷ 10 ∷ []))
-  unfolding named rendered
-  named-bytes = rw (rendered-append segments)
-
-  pub named-added : {before labelled marked valued after : List ℕ} {at n c v r : ℕ} → length before ≤ greatest
-      → AppendedCapped name at before labelled n → AppendedCapped (58 ∷ []) n labelled marked c → AppendedCapped (rendered segments) c marked valued v
-      → AppendedCapped (13 ∷ 10 ∷ []) v valued after r → AppendedCapped (rendered (named name segments)) at before after r
-  named-added k a b d f =
-      let label = capped-then a b k in
-      let rest = capped-then d f (omega (arith, k, length-added a, length-added b)) in
-      capped-same (sym named-bytes) (capped-then label rest k)
 
 pub field-added : (name value : List ℕ) {before labelled marked valued after : List ℕ} {at n c v r : ℕ} → length before ≤ greatest
     → AppendedCapped name at before labelled n → AppendedCapped (58 ∷ []) n labelled marked c → AppendedCapped (rendered (valueSegments value)) c marked valued v

@@ -1,16 +1,14 @@
 -- Laws of an envelope by its first line: what the header needs of an envelope with several RCPT lines is told by the MAIL line alone.
 -- Lines are any bytes here. Assumes nothing.
 use mathlib.Core.Path.{_≡_, refl, ap, sym, _∙_}
-use mathlib.Core.Bool.{cond}
 use mathlib.Core.List.{List, [], _∷_, _++_, append-assoc}
 use Prim.Native.Nat.{ℕ, suc, _+_, _≤_, _<_}
 use native.Mathlib.Omega.{arith}
-use lib.ListN.{length, take, drop, length-append}
+use lib.ListN.{length, drop, length-append}
 use lib.Seq.{take-append-le, drop-append-le}
 use Rattle.lists.specs.ListsLaws.{cond-has}
 use Rattle.line.specs.Line.{crlf, lineLen}
 use Rattle.envelope.specs.Envelope.{lineText, texts, mailOf, mailReplacement, onlyRcptOf, rcptReplacement}
-use Rattle.envelope.specs.EnvelopeDemand.{eachEnded}
 use Rattle.envelope.specs.LinesLaws.{texts-at}
 
 -- what follows a CRLF does not tell where the first line ends

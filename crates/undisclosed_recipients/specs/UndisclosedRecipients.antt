@@ -1,13 +1,16 @@
 -- "No recipient learns of another": what the header that goes out tells of the recipients. Assumes nothing.
 use mathlib.Core.Path.{_≡_}
-use mathlib.Core.List.{List, _∷_}
+use mathlib.Core.List.{List, [], _∷_, _++_}
 use Prim.Native.Nat.{ℕ, _/_, _≤_, _<_}
 use lib.ListN.{length, take, drop, getD}
-use Rattle.envelope.specs.EnvelopeDemand.{eachEnded}
 use Rattle.call.specs.Outcome.{Outcome}
 use Rattle.batch.specs.Batch.{Batch}
-use Rattle.batch.specs.BatchRecords.{fromRecord, used₂}
-use Rattle.demands.specs.BatchDemands.{envelopeOf, headerOf}
+use Rattle.batch.specs.BatchRecords.{fromRecord, envelopeOf, headerOf, used₂}
+
+-- lines, "each ended by CRLF"
+abbrev pub eachEnded : List (List ℕ) → List ℕ
+eachEnded [] = []
+eachEnded (line ∷ more) = line ++ (13 ∷ 10 ∷ eachEnded more)
 
 -- "two envelopes with the same MAIL line, each with any two or more RCPT lines"
 pub record SameSender (e f : List ℕ) : Type 0 where

@@ -7,17 +7,15 @@ use native.Mathlib.Omega.{arith}
 use lib.ListN.{length, take, drop, getD}
 use Rattle.lists.specs.ListsLaws.{cond-has}
 use Rattle.rules.specs.declared.Rules.{Rules}
-use Rattle.envelope.specs.Envelope.{mailReplacement, rcptReplacement}
-use Rattle.envelope.specs.EnvelopeDemand.{eachEnded}
+use Rattle.envelope.specs.Envelope.{rcptReplacement}
 use Rattle.undisclosed_recipients.specs.FirstLineLaws.{same-mail, several-rcpts}
 use Rattle.call.specs.OutgoingHeader.{newFields, outgoingSegments, outgoingHeader}
 use Rattle.call.specs.Outcome.{Outcome, outcome}
 use Rattle.batch.specs.Batch.{Batch, pastEnd, rangeRefused, rangeOutcome, recordOutcome, batch}
-use Rattle.batch.specs.BatchRecords.{fromRecord, used₁, used₂}
+use Rattle.batch.specs.BatchRecords.{fromRecord, envelopeOf, headerOf, used₁, used₂}
 use Rattle.batch.specs.BatchRecordsLaws.{batch-done}
-use Rattle.demands.specs.BatchDemands.{envelopeOf, headerOf}
-use Rattle.demands.specs.DemandsLaws.{demands}
-use Rattle.undisclosed_recipients.specs.UndisclosedRecipients.{SameSender, Undisclosed, numberAt, headerLenAt, headerBytesAt, UndisclosedRecords}
+use Rattle.demands.specs.DemandsLaws.{header-left}
+use Rattle.undisclosed_recipients.specs.UndisclosedRecipients.{eachEnded, SameSender, Undisclosed, numberAt, headerLenAt, headerBytesAt, UndisclosedRecords}
 
 none-replaced : (mail : List ℕ) (rcpts : List (List ℕ)) → 2 ≤ length rcpts → rcptReplacement (eachEnded (mail ∷ rcpts)) ≡ []
 none-replaced mail [] k = absurd (omega arith)
@@ -37,11 +35,11 @@ same-outgoing rules e f h s = rw (same-new-fields e f s)
 pub undisclosed : (rules : Rules) (e f h b c b′ c′ : List ℕ) → Undisclosed e f (outcome rules e h b c) (outcome rules f h b′ c′)
 undisclosed rules e f h b c b′ c′ = record {
   same = λ s z z′.
-      let o = demands rules e h b c .demand-2 z in
-      let p = demands rules f h b′ c′ .demand-2 z′ in
+      let o = header-left rules e h b c z in
+      let p = header-left rules f h b′ c′ z′ in
       record {
-        len = o .header-len ∙ ap length (same-outgoing rules e f h s) ∙ sym (p .header-len);
-        bytes = o .header ∙ same-outgoing rules e f h s ∙ sym (p .header);
+        len = o .0 ∙ ap length (same-outgoing rules e f h s) ∙ sym (p .0);
+        bytes = o .1 ∙ same-outgoing rules e f h s ∙ sym (p .1);
       };
 }
 
@@ -73,14 +71,14 @@ called rules input records b c k there z =
     let d = batch-done rules input records b c .each k there in
     let b′ : List ℕ = drop (used₁ k o) b in
     let c′ : List ℕ = drop (used₂ k o) c in
-    let is = record-call rules input records b′ c′ k (rw (← d .is-single) (sym (d .number) ∙ z)) in
-    let single = d .is-single ∙ is in
+    let zero = sym (d .number) ∙ z in
+    let is = record-call rules input records b′ c′ k zero in
     record {
       b = b′;
       c = c′;
-      number = rw (← single) (sym (d .number) ∙ z);
-      len = rw (← single) (d .header-len);
-      bytes = rw (← single, d .header-len) (d .header);
+      number = rw (← is) zero;
+      len = rw (← is) (d .header-len);
+      bytes = rw (← is, d .header-len) (d .header);
     }
 
 pub undisclosed-records : (rules : Rules) (input records b c input′ records′ b′ c′ : List ℕ)

@@ -8,13 +8,10 @@ use lib.Dec.{eqb}
 abbrev pub escapes : Bool → ℕ → Bool
 escapes escaped b = not escaped && eqb b 92
 
-unfoldable pub kept : Bool → ℕ → List ℕ
-kept stays b = cond stays (b ∷ []) []
-
 -- the bytes of a text that stay, by a test of each byte and whether it is escaped
 unfoldable pub keptFrom : (Bool → ℕ → Bool) → Bool → List ℕ → List ℕ
 keptFrom stays escaped [] = []
-keptFrom stays escaped (b ∷ text) = kept (stays escaped b) b ++ keptFrom stays (escapes escaped b) text
+keptFrom stays escaped (b ∷ text) = cond (stays escaped b) (b ∷ []) [] ++ keptFrom stays (escapes escaped b) text
 
 -- a quote (34) or a backslash goes, unless it is escaped
 abbrev pub staysUnquoted : Bool → ℕ → Bool

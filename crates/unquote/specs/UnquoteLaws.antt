@@ -1,7 +1,7 @@
 -- Laws of the bytes of a text that stay: their writing byte by byte, their number, and that they are UTF-8 where the text is.
 -- Assumes nothing.
 use mathlib.Core.Path.{_≡_, refl, ap, _∙_}
-use mathlib.Core.Bool.{Bool, true, false, not, and-false, or-true}
+use mathlib.Core.Bool.{Bool, true, false, cond, not, and-false, or-true}
 use mathlib.Core.List.{List, [], _∷_, _++_}
 use Prim.Native.Nat.{ℕ, _+_, _≤_, _<_, zero-le}
 use native.Mathlib.Nat.{not-suc-le-zero}
@@ -16,24 +16,20 @@ use Rattle.lists.specs.ListsLaws.{cond-has}
 use Rattle.lists.specs.Lists.{all, joined}
 use Rattle.utf8.specs.Utf8.{utf8, chars, isChar}
 use Rattle.utf8.specs.Utf8Laws.{chars-joined, char-some, char-high, utf8-append, utf8-char, utf8-ascii}
-use Rattle.unquote.specs.Unquote.{escapes, kept, keptFrom, staysUnquoted, unquoted}
+use Rattle.unquote.specs.Unquote.{escapes, keptFrom, staysUnquoted, unquoted}
 
 module _ (stays : Bool) (b : ℕ) where
-  pub kept-goes : stays ≡ false → [] ≡ kept stays b
-  unfolding kept
+  pub kept-goes : stays ≡ false → [] ≡ cond stays (b ∷ []) []
   kept-goes h = rw h
 
-  pub kept-stays : stays ≡ true → b ∷ [] ≡ kept stays b
-  unfolding kept
+  pub kept-stays : stays ≡ true → b ∷ [] ≡ cond stays (b ∷ []) []
   kept-stays h = rw h
 
-length-kept : (stays : Bool) (b : ℕ) → length (kept stays b) ≤ 1
-unfolding kept
+length-kept : (stays : Bool) (b : ℕ) → length (cond stays (b ∷ []) []) ≤ 1
 length-kept true b = lit≤ tt
 length-kept false b = lit≤ tt
 
-kept-utf8 : (stays : Bool) (b : ℕ) → T (isChar (b ∷ [])) → T (utf8 (kept stays b))
-unfolding kept
+kept-utf8 : (stays : Bool) (b : ℕ) → T (isChar (b ∷ [])) → T (utf8 (cond stays (b ∷ []) []))
 kept-utf8 stays b t = cond-has (λ (l : List ℕ). T (utf8 l)) stays (b ∷ []) [] (λ e. utf8-char (b ∷ []) t) (λ e. utf8-ascii [] tt)
 
 module _ (stays : Bool → ℕ → Bool) where
@@ -41,7 +37,7 @@ module _ (stays : Bool → ℕ → Bool) where
 
   module _ (w : List ℕ) (i : ℕ) (escaped : Bool) where
     pub kept-step : i < length w
-        → keptFrom stays escaped (drop i w) ≡ kept (stays escaped (getD w i 0)) (getD w i 0) ++ keptFrom stays (escapes escaped (getD w i 0)) (drop (i + 1) w)
+        → keptFrom stays escaped (drop i w) ≡ cond (stays escaped (getD w i 0)) (getD w i 0 ∷ []) [] ++ keptFrom stays (escapes escaped (getD w i 0)) (drop (i + 1) w)
     unfolding keptFrom
     kept-step h = rw (add-one, drop-cons w i 0 h)
 
@@ -59,7 +55,7 @@ module _ (stays : Bool → ℕ → Bool) where
   module _ (high : (escaped : Bool) (b : ℕ) → 128 ≤ b → stays escaped b ≡ true) where
     -- none of them escapes the next
     high-kept : (escaped : Bool) (b : ℕ) (rest : List ℕ) → T (leb 128 b) → keptFrom stays escaped (b ∷ rest) ≡ b ∷ keptFrom stays false rest
-    unfolding keptFrom kept
+    unfolding keptFrom
     high-kept escaped b rest h =
         let k : 128 ≤ b = leb-yes h in
         rw (high escaped b k, ne-eqb b 92 (λ e. not-suc-le-zero {n = 0} (omega arith)), and-false (not escaped))
@@ -75,7 +71,7 @@ module _ (stays : Bool → ℕ → Bool) where
     unfolding keptFrom
     char-kept escaped [] rest t more = absurd (not-suc-le-zero (char-some [] t))
     char-kept escaped (b ∷ []) rest t more =
-        utf8-append (kept (stays escaped b) b) (keptFrom stays (escapes escaped b) rest) (kept-utf8 (stays escaped b) b t) (more (escapes escaped b))
+        utf8-append (cond (stays escaped b) (b ∷ []) []) (keptFrom stays (escapes escaped b) rest) (kept-utf8 (stays escaped b) b t) (more (escapes escaped b))
     char-kept escaped (b ∷ d ∷ c) rest t more =
         let char : List ℕ = b ∷ d ∷ c in
         let both = and-yes (leb 128 b) (all (leb 128) (d ∷ c)) (char-high char t (omega arith)) in

@@ -1,7 +1,9 @@
 // Text without quoting and escapes.
 ghost use mathlib.Core.Path.{_≡_};
+ghost use mathlib.Core.Bool.{cond};
+ghost use mathlib.Core.List.{[], _∷_};
 ghost use Rattle.buffer.specs.Buffer.{AppendedCapped};
-ghost use Rattle.unquote.specs.Unquote.{escapes, kept, unquoted};
+ghost use Rattle.unquote.specs.Unquote.{escapes, unquoted};
 
 // Whether a byte escapes the next.
 pub fn escapes(escaped: bool, b: u8) -> bool
@@ -12,7 +14,7 @@ pub fn escapes(escaped: bool, b: u8) -> bool
 
 // Writes a byte at a place where it stays.
 pub fn add_kept(out: &mut [u8], at: usize, stays: bool, b: u8) -> usize
-    ensures { λ r. ⌜ AppendedCapped (kept stays b) at (now (out .entry)) (now (out .exit)) r ⌝ }
+    ensures { λ r. ⌜ AppendedCapped (cond stays (b ∷ []) []) at (now (out .entry)) (now (out .exit)) r ⌝ }
 {
     if !stays {
         return at;

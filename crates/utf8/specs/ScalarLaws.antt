@@ -13,7 +13,7 @@ use borrow.Author.Tests.{lt-ltb, le-ltb}
 use Rattle.lists.specs.ListsLaws.{by-test, cond-has, yes-true}
 use Rattle.lists.specs.Byte.{within}
 use Rattle.lists.specs.ByteLaws.{within-low, within-high, to-within, allBelow, sameTest, agree}
-use Rattle.utf8.specs.Utf8.{leadingOnes, charLen, continues, secondLow, secondHigh, isChar}
+use Rattle.utf8.specs.Utf8.{charLen, continues, secondLow, secondHigh, isChar}
 use Rattle.utf8.specs.Utf8Laws.{Multibyte, multibyte, to-multibyte, second-low, second-high, char-length}
 use Rattle.utf8.specs.Scalar.{scalar, two, three, four, encode}
 
@@ -97,7 +97,7 @@ tail-byte : (v : ℕ) → T (continues (128 + v % 64))
 tail-byte v = to-within 128 191 (128 + v % 64) (omega arith) (omega arith)
 
 two-char : (v : ℕ) → 128 ≤ v → v < 2048 → T (isChar (two v))
-unfolding charLen leadingOnes leadingZeros
+unfolding charLen leadingZeros
 two-char v h k =
     let a = 192 + v / 64 in
     let b = 128 + v % 64 in
@@ -111,7 +111,7 @@ two-char v h k =
     })
 
 three-char : (v : ℕ) → T (scalar v) → 2048 ≤ v → v < 65536 → T (isChar (three v))
-unfolding charLen leadingOnes leadingZeros
+unfolding charLen leadingZeros
 three-char v s h k =
     let a = 224 + v / 4096 in
     let b = 128 + v / 64 % 64 in
@@ -127,7 +127,7 @@ three-char v s h k =
     })
 
 four-char : (v : ℕ) → 65536 ≤ v → v ≤ 1114111 → T (isChar (four v))
-unfolding charLen leadingOnes leadingZeros
+unfolding charLen leadingZeros
 four-char v h k =
     let a = 240 + v / 262144 in
     let b = 128 + v / 4096 % 64 in
@@ -154,7 +154,7 @@ encode-char v s =
 
 -- a character's number: the bits that its first byte adds to its mark, and six bits of each other byte
 two-value : (a b : ℕ) → Multibyte a b [] → (v : ℕ) × T (scalar v) × (encode v ≡ a ∷ b ∷ [])
-unfolding charLen leadingOnes leadingZeros
+unfolding charLen leadingZeros
 two-value a b m =
     let s = of-second a b (m .second) in
     let lead = range-of 194 223 2 tt a (omega arith) (m .low) (m .high) (m .size) in
@@ -164,7 +164,7 @@ two-value a b m =
     (v, to-scalar v (omega arith) (λ h. omega arith), encode-two v (omega arith) (omega arith) ∙ rw (first, last))
 
 three-value : (a b c : ℕ) → Multibyte a b (c ∷ []) → (v : ℕ) × T (scalar v) × (encode v ≡ a ∷ b ∷ c ∷ [])
-unfolding charLen leadingOnes leadingZeros
+unfolding charLen leadingZeros
 three-value a b c m =
     let s = of-second a b (m .second) in
     let lead = range-of 224 239 3 tt a (omega arith) (m .low) (m .high) (m .size) in
@@ -180,7 +180,7 @@ three-value a b c m =
     (v, to-scalar v (omega arith) whole, encode-three v least (omega arith) ∙ rw (first, second, last))
 
 four-value : (a b c d : ℕ) → Multibyte a b (c ∷ d ∷ []) → (v : ℕ) × T (scalar v) × (encode v ≡ a ∷ b ∷ c ∷ d ∷ [])
-unfolding charLen leadingOnes leadingZeros
+unfolding charLen leadingZeros
 four-value a b c d m =
     let s = of-second a b (m .second) in
     let lead = range-of 240 244 4 tt a (omega arith) (m .low) (m .high) (m .size) in

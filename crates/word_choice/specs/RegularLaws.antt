@@ -13,7 +13,7 @@ use mir.Facts.{or-yes, leb-no, ltb-no, eqb-no}
 use Rattle.lists.specs.Byte.{within}
 use Rattle.lists.specs.ListsLaws.{by-test, cond-yes, cond-no, cond-has}
 use Rattle.lists.specs.ByteLaws.{within-low, within-high, to-within, below, implies}
-use Rattle.utf8.specs.Utf8.{leadingOnes, charLen, continues, chars}
+use Rattle.utf8.specs.Utf8.{charLen, continues, chars}
 use Rattle.utf8.specs.Utf8Laws.{chars-at}
 use Rattle.row.specs.declared.Encoding.the-variants.{B}
 use Rattle.row.specs.WordEnd.{Span, WordEnd}
@@ -66,7 +66,7 @@ data Lead (b : ℕ) : Type 0 where
   three : 224 ≤ b → charLen b ≡ 3 → Lead b
 
 lead : (b : ℕ) → b < 240 → T (not (continues b)) → Lead b
-unfolding charLen leadingOnes leadingZeros
+unfolding charLen leadingZeros
 lead b h t =
     by-test (ltb b 128) (λ u. one (ltb→lt b 128 u) (cond-yes (ltb b 128) 1 _ u))
     (λ u. by-test (leb 192 b)

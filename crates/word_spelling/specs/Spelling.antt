@@ -1,10 +1,11 @@
 -- How encoded words are written: "A word is `=?UTF-8?Q?`, 1 to 63 characters, `?=`. Letters, digits and `!*+-/` stand for themselves,
 -- space is `_`, each other byte is `=` and two uppercase hex digits." Assumes nothing.
 use mathlib.Core.Bool.{Bool, cond, _||_}
-use mathlib.Core.List.{List, [], _∷_, _++_}
+use mathlib.Core.List.{List, [], _∷_, map}
 use Prim.Native.Nat.{ℕ, _/_, _%_}
 use lib.Dec.{eqb}
 use Rattle.lists.specs.Byte.{within}
+use Rattle.lists.specs.Lists.{joined}
 use Rattle.hex.specs.Hex.{hexDigit}
 
 -- `=?UTF-8?Q?`, which opens a word
@@ -29,5 +30,4 @@ spellByte b = cond (bare b) (b ∷ []) (cond (eqb b 32) (95 ∷ []) (escape b))
 
 -- how bytes are written, one after another
 unfoldable pub spell : List ℕ → List ℕ
-spell [] = []
-spell (b ∷ bytes) = spellByte b ++ spell bytes
+spell bytes = joined (map spellByte bytes)

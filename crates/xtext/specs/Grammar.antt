@@ -17,7 +17,5 @@ pub data Xtext : List ℕ → List ℕ → Type 0 where
       → Xtext (43 ∷ high ∷ low ∷ more) ((hexValue high * 16 + hexValue low) ∷ bytes)
 
 -- "xtext of an ASCII address": the text, and the address that it stands for
-pub record AltAddress (v address : List ℕ) : Type 0 where
-  pub xtext : Xtext v address
-  pub is-address : Address address
-  pub ascii : T (all isAscii address)
+abbrev pub AltAddress : List ℕ → List ℕ → Type 0
+AltAddress v address = Xtext v address × Address address × T (all isAscii address)

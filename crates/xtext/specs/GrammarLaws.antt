@@ -76,15 +76,11 @@ read-alt-address v t =
     let d = decoded v in
     let a = and-yes (leb (length v) 998 && isXtext v) (isAsciiAddress d) t in
     let b = and-yes (isAddress d) (all isAscii d) (a .1) in
-    record {
-      xtext = read-xtext v (and-yes (leb (length v) 998) (isXtext v) (a .0) .1);
-      is-address = whole-address d (and-yes (utf8 d) (takesAll (addressScan d) d) (b .0) .1);
-      ascii = b .1;
-    }
+    (read-xtext v (and-yes (leb (length v) 998) (isXtext v) (a .0) .1), whole-address d (and-yes (utf8 d) (takesAll (addressScan d) d) (b .0) .1), b .1)
 
 pub alt-address-read : {v address : List ℕ} → length v ≤ 998 → AltAddress v address → T (isAltAddress v) × (decoded v ≡ address)
 unfolding isAltAddress isAsciiAddress isAddress
 alt-address-read {v} {address} k a =
-    let r = xtext-read (a .xtext) in
-    let whole = yes-and (utf8 address) (takesAll (addressScan address) address) (utf8-ascii address (a .ascii)) (address-whole address (a .is-address)) in
-    (rw (r .0, r .1) (yes-and (leb (length v) 998 && true) (isAsciiAddress address) (yes-and (leb (length v) 998) true (yes-leb {a = length v} {b = 998} k) tt) (yes-and (isAddress address) (all isAscii address) whole (a .ascii))), r .1)
+    let r = xtext-read (a .0) in
+    let whole = yes-and (utf8 address) (takesAll (addressScan address) address) (utf8-ascii address (a .2)) (address-whole address (a .1)) in
+    (rw (r .0, r .1) (yes-and (leb (length v) 998 && true) (isAsciiAddress address) (yes-and (leb (length v) 998) true (yes-leb {a = length v} {b = 998} k) tt) (yes-and (isAddress address) (all isAscii address) whole (a .2))), r .1)

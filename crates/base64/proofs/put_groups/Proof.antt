@@ -63,6 +63,7 @@ loop-less c = omega arith
 
 -- src/lib.rt:86:5
 loop-again : tie.Need-loop-again Inv-loop μ-loop
+unfolding inBase64
 loop-again c = (omega arith, omega (arith, c .before .before .put-quad .ensures .place), reached-then _ _ (c .before .before .before .before .before .before .before .before .loop .inv .2) (base64-quad (c .before .before .before .before .before .before .before .before .before .before .before .args .bytes .now) (c .before .before .before .before .before .before .before .before .loop .i) (omega arith)) (c .before .before .put-quad .ensures))
 
 -- src/lib.rt:92:8

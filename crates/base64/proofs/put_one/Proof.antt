@@ -2,7 +2,7 @@ use native.Mathlib.Omega.{arith}
 use mathlib.Core.Path.{ap, _∙_}
 use mathlib.Core.List.{[], _∷_}
 use lib.ListN.{length-set}
-use Rattle.base64.specs.Base64.{digit64}
+use Rattle.base64.specs.Base64.{digit64, inBase64}
 use Rattle.base64.specs.WritingLaws.{sixes-of-one}
 use Rattle.buffer.specs.BufferLaws.{stores, appended-stores}
 use borrow.Author.Needs.{needs}
@@ -63,7 +63,7 @@ same-length c = search needs
 
 -- src/lib.rt:73:1
 returns : tie.Need-returns
-unfolding stores
+unfolding stores inBase64
 returns c = let six = sixes-of-one (c .before .before .before .before .args .a) (search needs) (c .before .before .bits-of .ensures) in
     rw (← (c .before .digit .ensures ∙ ap digit64 (six .0)), ← (c .digit2 .ensures ∙ ap digit64 (six .1)))
     (appended-stores (c .before .digit .result ∷ c .digit2 .result ∷ 61 ∷ 61 ∷ []) _ _ _ (omega arith))

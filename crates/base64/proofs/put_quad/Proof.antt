@@ -2,7 +2,7 @@ use native.Mathlib.Omega.{arith}
 use mathlib.Core.Path.{ap, _∙_}
 use mathlib.Core.List.{[], _∷_}
 use lib.ListN.{length-set}
-use Rattle.base64.specs.Base64.{digit64}
+use Rattle.base64.specs.Base64.{digit64, inBase64}
 use Rattle.base64.specs.WritingLaws.{sixes}
 use Rattle.buffer.specs.BufferLaws.{stores, appended-stores}
 use borrow.Author.Needs.{needs}
@@ -71,7 +71,7 @@ same-length c = search needs
 
 -- src/lib.rt:41:1
 returns : tie.Need-returns
-unfolding stores
+unfolding stores inBase64
 returns c = let six = sixes (c .before .before .before .before .before .before .args .a) (c .before .before .before .before .before .before .args .b) (c .before .before .before .before .before .before .args .c) (search needs) (search needs) (search needs) (c .before .before .before .before .bits-of .ensures) in
     rw (← (c .before .before .before .digit .ensures ∙ ap digit64 (six .0)), ← (c .before .before .digit2 .ensures ∙ ap digit64 (six .1)), ← (c .before .digit3 .ensures ∙ ap digit64 (six .2)), ← (c .digit4 .ensures ∙ ap digit64 (six .3)))
     (appended-stores (c .before .before .before .digit .result ∷ c .before .before .digit2 .result ∷ c .before .digit3 .result ∷ c .digit4 .result ∷ []) _ _ _ (omega arith))

@@ -1,3 +1,4 @@
+use Rattle.base64.specs.Base64.{inBase64}
 use Rattle.base64.specs.WritingLaws.{five-quads}
 use Rattle.buffer.specs.BufferLaws.{length-appended}
 use native.Mathlib.Omega.{arith}
@@ -38,6 +39,7 @@ shared-slice-read-put-quad-6 c = search needs
 
 -- src/lib.rt:84:9
 put-quad-requires-2 : tie.Need-put-quad-requires-2
+unfolding inBase64
 put-quad-requires-2 c κs = search needs
 
 -- src/lib.rt:85:47
@@ -54,6 +56,7 @@ shared-slice-read-put-quad-9 c = search needs
 
 -- src/lib.rt:85:9
 put-quad-requires-3 : tie.Need-put-quad-requires-3
+unfolding inBase64
 put-quad-requires-3 c κs = search needs
 
 -- src/lib.rt:86:47
@@ -70,6 +73,7 @@ shared-slice-read-put-quad-12 c = search needs
 
 -- src/lib.rt:86:9
 put-quad-requires-4 : tie.Need-put-quad-requires-4
+unfolding inBase64
 put-quad-requires-4 c κs = search needs
 
 -- src/lib.rt:87:34
@@ -86,6 +90,7 @@ shared-slice-read-put-quad-15 c = omega (arith, c .before .before .before .befor
 
 -- src/lib.rt:87:5
 put-quad-requires-5 : tie.Need-put-quad-requires-5
+unfolding inBase64
 put-quad-requires-5 c κs = (c .before .before .before .before .before .before .before .before .before .before .before .before .before .before .before .before .before .before .before .before .before .before .before .before .before .before .before .before .before .before .before .before .before .before .pre .0, omega (arith, c .before .before .before .before .before .before .before .before .before .before .before .before .before .before .before .before .before .before .before .before .before .before .before .before .before .before .before .before .before .before .before .before .before .before .pre .2, c .before .before .before .before .before .before .put-quad4 .ensures .place, c .before .before .before .before .before .before .before .before .before .before .before .before .before .put-quad3 .ensures .place, c .before .before .before .before .before .before .before .before .before .before .before .before .before .before .before .before .before .before .before .before .put-quad2 .ensures .place, c .before .before .before .before .before .before .before .before .before .before .before .before .before .before .before .before .before .before .before .before .before .before .before .before .before .before .before .put-quad .ensures .place, length-appended (c .before .before .before .before .before .before .put-quad4 .ensures), length-appended (c .before .before .before .before .before .before .before .before .before .before .before .before .before .put-quad3 .ensures), length-appended (c .before .before .before .before .before .before .before .before .before .before .before .before .before .before .before .before .before .before .before .before .put-quad2 .ensures), length-appended (c .before .before .before .before .before .before .before .before .before .before .before .before .before .before .before .before .before .before .before .before .before .before .before .before .before .before .before .put-quad .ensures)))
 
 -- src/lib.rt:79:1

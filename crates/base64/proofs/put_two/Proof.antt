@@ -2,7 +2,7 @@ use native.Mathlib.Omega.{arith}
 use mathlib.Core.Path.{ap, _∙_}
 use mathlib.Core.List.{[], _∷_}
 use lib.ListN.{length-set}
-use Rattle.base64.specs.Base64.{digit64}
+use Rattle.base64.specs.Base64.{digit64, inBase64}
 use Rattle.base64.specs.WritingLaws.{sixes-of-two}
 use Rattle.buffer.specs.BufferLaws.{stores, appended-stores}
 use borrow.Author.Needs.{needs}
@@ -67,7 +67,7 @@ same-length c = search needs
 
 -- src/lib.rt:57:1
 returns : tie.Need-returns
-unfolding stores
+unfolding stores inBase64
 returns c = let six = sixes-of-two (c .before .before .before .before .before .args .a) (c .before .before .before .before .before .args .b) (search needs) (search needs) (c .before .before .before .bits-of .ensures) in
     rw (← (c .before .before .digit .ensures ∙ ap digit64 (six .0)), ← (c .before .digit2 .ensures ∙ ap digit64 (six .1)), ← (c .digit3 .ensures ∙ ap digit64 (six .2)))
     (appended-stores (c .before .before .digit .result ∷ c .before .digit2 .result ∷ c .digit3 .result ∷ 61 ∷ []) _ _ _ (omega arith))

@@ -1,7 +1,5 @@
 use mathlib.Core.Path.{refl}
-use Rattle.header_name.specs.NameTable.{startsFrom, starts, names, kinds, entries}
-use Rattle.header_name.specs.Names.{six, addressNames}
-use Rattle.letter_case.specs.LetterCase.{bytes}
+use Rattle.header_name.specs.NameTable.{startsFrom, starts, names, kinds}
 use borrow.Author.Needs.{needs}
 use Rattle.header_name.proofs.kind_of.Statement.{statement}
 use Rattle.header_name.proofs.kind_of.Tie as tie

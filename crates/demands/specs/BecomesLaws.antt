@@ -1,0 +1,243 @@
+-- What becomes of a header's fields, by relations, is what is written for them and what is held. Assumes nothing.
+use mathlib.Core.Path.{_≡_, refl, sym, ap, _∙_}
+use mathlib.Core.Bool.{Bool, not, cond, _&&_}
+use mathlib.Core.List.{List, [], _∷_, _++_, append-nil, map}
+use Prim.Native.Nat.{ℕ, suc, _+_}
+use native.Mathlib.Nat.{add-zero, zero-add}
+use native.Mathlib.Omega.{arith}
+use lib.Dec.{T}
+use mir.Facts.{and-yes, yes-and}
+use lib.ListN.{length, take, drop, length-append}
+use lib.Seq.{take-at, drop-at}
+use Rattle.lists.specs.Byte.{isAscii}
+use Rattle.lists.specs.Lists.{all, joined}
+use Rattle.lists.specs.ListsLaws.{by-test, cond-has, yes-true, no-false, joined-append}
+use Rattle.lists.specs.Run.{run}
+use Rattle.rules.specs.declared.Rules.{Rules}
+use Rattle.encoded_word.specs.Segments.{Segment, rendered}
+use Rattle.encoded_word.specs.Segments.Segment.{raw}
+use Rattle.header.specs.Fields.{fieldsOf, nameOf, valueOf, textOf, lineCount}
+use Rattle.header.specs.FieldLaws.{fields-joined}
+use Rattle.header.specs.AsciiFieldsLaws.{value-ascii}
+use Rattle.header_name.specs.declared.Kind.{Kind}
+use Rattle.header_name.specs.declared.Kind.the-variants.{Address, PlainText, Received, Commented, Parameterized, Held as HeldKind, Other}
+use Rattle.header_name.specs.Names.{kindOf}
+use Rattle.address_grammar.specs.AddressFieldLaws.{field-made, field-only}
+use Rattle.structured_field.specs.Tokens.{asciiOutsideComments}
+use Rattle.structured_field.specs.StructuredField.{structuredField}
+use Rattle.structured_field.specs.GrammarLaws.{made-reads as structured-reads, reads-made as reads-structured}
+use Rattle.received_token.specs.Tokens.{tokens as receivedTokens}
+use Rattle.received.specs.Received.{isClear, linesFit, passes, receivedField}
+use Rattle.received.specs.LinesLaws.{lines-fit, fit-lines}
+use Rattle.received.specs.GrammarLaws.{made-reads as received-reads, reads-made as reads-received}
+use Rattle.outgoing_field.specs.Fate.{Fate, kindFate, fateOf, segmentsOf, fieldSegments, headerSegments, isHeld, heldFrom, heldOf}
+use Rattle.outgoing_field.specs.Fate.Fate.{held, written}
+use Rattle.outgoing_field.specs.declared.HeldField.{HeldField}
+use Rattle.outgoing_field.specs.declared.HeldField.the-variants.{Absent, At}
+use Rattle.offset.specs.Offset.{fieldOffset}
+use Rattle.demands.specs.Downgraded.{KindBecomes, Becomes, FieldsBecome}
+
+-- a field is held that becomes nothing
+abbrev Held : Rules → List ℕ → Type 0
+Held rules field = (new : List Segment) → Becomes rules field new → ⊥
+
+-- ---- a field
+
+-- a fate, by what is written for it
+data Fated (Written : List Segment → Type 0) : Fate → Type 0 where
+  nothing : Fated Written held
+  something : {segments : List Segment} → Written segments → Fated Written (written segments)
+
+fated-written : {Written : List Segment → Type 0} {segments : List Segment} → Fated Written (written segments) → Written segments
+fated-written (Fated.something w) = w
+
+module _ (rules : Rules) (field : List ℕ) where
+  kind-fated : (kind : Kind) → Fated (KindBecomes rules field kind) (kindFate rules kind field)
+  unfolding kindFate structuredField receivedField passes
+  kind-fated Address = Fated.something (KindBecomes.address (field-made rules (nameOf field) (textOf field)))
+  kind-fated PlainText = Fated.something KindBecomes.plain-text
+  kind-fated Received =
+      cond-has (Fated (KindBecomes rules field Received)) (passes (nameOf field) (valueOf field)) (written (receivedField (nameOf field) (valueOf field))) held
+      (λ t. let b = and-yes (all isClear (receivedTokens (valueOf field))) (linesFit (rendered (receivedField (nameOf field) (valueOf field)))) t in
+      Fated.something (KindBecomes.received (reads-received (record { clear = b .0; is = refl })) (lines-fit (rendered (receivedField (nameOf field) (valueOf field))) (b .1))))
+      (λ t. Fated.nothing)
+  kind-fated Commented =
+      cond-has (Fated (KindBecomes rules field Commented)) (asciiOutsideComments (valueOf field)) (written (structuredField (nameOf field) (valueOf field))) held
+      (λ t. Fated.something (KindBecomes.commented (reads-structured (record { ascii = t; is = refl }))))
+      (λ t. Fated.nothing)
+  kind-fated Parameterized = Fated.nothing
+  kind-fated HeldKind = Fated.nothing
+  kind-fated Other = Fated.something KindBecomes.other
+
+  by-kind : {fate : Fate} → T (not (all isAscii (valueOf field))) → Fated (KindBecomes rules field (kindOf (nameOf field))) fate → Fated (Becomes rules field) fate
+  by-kind t (Fated.nothing) = Fated.nothing
+  by-kind t (Fated.something k) = Fated.something (Becomes.rewritten t k)
+
+  fated : Fated (Becomes rules field) (fateOf rules field)
+  unfolding fateOf
+  fated =
+      let kind = kindOf (nameOf field) in
+      cond-has (Fated (Becomes rules field)) (all isAscii (valueOf field)) (written (raw field ∷ [])) (kindFate rules kind field)
+      (λ t. Fated.something (Becomes.copied t)) (λ t. by-kind t (kind-fated kind))
+
+  pub becomes : {segments : List Segment} → fateOf rules field ≡ written segments → Becomes rules field segments
+  becomes e = fated-written (rw e at fated)
+
+  kind-exact : {kind : Kind} {segments : List Segment} → KindBecomes rules field kind segments → kindFate rules kind field ≡ written segments
+  unfolding kindFate structuredField receivedField passes
+  kind-exact (KindBecomes.address a) = ap written (field-only rules (nameOf field) (textOf field) a)
+  kind-exact (KindBecomes.plain-text) = refl
+  kind-exact (KindBecomes.other) = refl
+  kind-exact (KindBecomes.commented v) =
+      let r = structured-reads v in
+      rw (r .is, yes-true (asciiOutsideComments (valueOf field)) (r .ascii))
+  kind-exact (KindBecomes.received v fit) =
+      let r = received-reads v in
+      let short = rw (r .is) at fit in
+      let lines = linesFit (rendered (receivedField (nameOf field) (valueOf field))) in
+      rw (r .is, yes-true (all isClear (receivedTokens (valueOf field)) && lines) (yes-and (all isClear (receivedTokens (valueOf field))) lines (r .clear) (fit-lines (rendered (receivedField (nameOf field) (valueOf field))) short)))
+
+  pub becomes-exact : {segments : List Segment} → Becomes rules field segments → fateOf rules field ≡ written segments
+  unfolding fateOf
+  becomes-exact (Becomes.copied t) = rw (yes-true (all isAscii (valueOf field)) t)
+  becomes-exact (Becomes.rewritten t k) = rw (no-false (all isAscii (valueOf field)) t) (kind-exact k)
+
+  -- nothing is written for a field just where its fate is to be held
+  is-held : fateOf rules field ≡ held → Held rules field
+  is-held e segments b = never (sym e ∙ becomes-exact b)
+    where
+      never : held ≡ written segments → ⊥
+      never z = let n : _≡_ {A = ℕ} 0 1 = cc in omega arith
+
+  held-fate : Held rules field → fateOf rules field ≡ held
+  held-fate none = go (fateOf rules field) refl
+    where
+      go : (fate : Fate) → fateOf rules field ≡ fate → fateOf rules field ≡ held
+      go held e = e
+      go (written segments) e = absurd (none segments (becomes e))
+
+-- ---- fields, one after another
+
+-- what is found among these fields of a header, the first of which starts at the byte `at`
+data Found (rules : Rules) (h : List ℕ) (at : ℕ) (fields : List (List ℕ)) : HeldField → Type 0 where
+  absent : FieldsBecome rules fields (joined (map (fieldSegments rules) fields)) → Found rules h at fields Absent
+  first : {segments : List Segment} (before : List (List ℕ)) (field : List ℕ) (after : List (List ℕ)) → fields ≡ before ++ (field ∷ after)
+      → FieldsBecome rules before segments → fateOf rules field ≡ held
+      → Found rules h at fields (At (lineCount (take (at + length (joined before)) h)) (at + length (joined before)))
+
+module _ (rules : Rules) (h : List ℕ) where
+  found-later : {found : HeldField} {fields : List (List ℕ)} {segments : List Segment} (at : ℕ) (field : List ℕ) → fateOf rules field ≡ written segments
+      → Found rules h (at + length field) fields found → Found rules h at (field ∷ fields) found
+  unfolding fieldSegments segmentsOf
+  found-later at field e (Found.absent b) = Found.absent (rw e (FieldsBecome.then (becomes rules field e) b))
+  found-later at field e (Found.first before other after is b none) =
+      let size : at + length field + length (joined before) ≡ at + length (joined (field ∷ before)) = rw (length-append field (joined before)) (omega arith) in
+      rw size (Found.first (field ∷ before) other after (ap (λ (l : List (List ℕ)). field ∷ l) is) (FieldsBecome.then (becomes rules field e) b) none)
+
+  found : (at : ℕ) (fields : List (List ℕ)) → Found rules h at fields (heldFrom rules h at fields)
+  unfolding heldFrom isHeld
+  found at [] = Found.absent FieldsBecome.none
+  found at (field ∷ fields) = go (fateOf rules field) refl (found (at + length field) fields)
+    where
+      here : fateOf rules field ≡ held → Found rules h at (field ∷ fields) (At (lineCount (take at h)) at)
+      here e =
+          let now : Found rules h at (field ∷ fields) (At (lineCount (take (at + 0) h)) (at + 0)) = Found.first [] field fields refl FieldsBecome.none e in
+          rw (add-zero at) at now
+
+      go : (fate : Fate) → fateOf rules field ≡ fate → Found rules h (at + length field) fields (heldFrom rules h (at + length field) fields)
+          → Found rules h at (field ∷ fields) (cond (isHeld (fateOf rules field)) (At (lineCount (take at h)) at) (heldFrom rules h (at + length field) fields))
+      go held e later = rw e (here e)
+      go (written segments) e later = rw e (found-later at field e later)
+
+  pub fields-become : heldOf rules h ≡ Absent → FieldsBecome rules (fieldsOf h) (headerSegments rules h)
+  unfolding heldOf headerSegments
+  fields-become e = whole (rw e at (found 0 (fieldsOf h)))
+    where
+      whole : Found rules h 0 (fieldsOf h) Absent → FieldsBecome rules (fieldsOf h) (joined (map (fieldSegments rules) (fieldsOf h)))
+      whole (Found.absent b) = b
+
+  -- fields for which something is written are passed over
+  held-past : {before : List (List ℕ)} {segments : List Segment} (at : ℕ) (more : List (List ℕ)) → FieldsBecome rules before segments
+      → heldFrom rules h at (before ++ more) ≡ heldFrom rules h (at + length (joined before)) more
+  unfolding heldFrom isHeld
+  held-past at more (FieldsBecome.none) = rw (add-zero at)
+  held-past at more (FieldsBecome.then {field} {fields} b bs) =
+      let size : at + length field + length (joined fields) ≡ at + length (field ++ joined fields) = rw (length-append field (joined fields)) (omega arith) in
+      rw (becomes-exact rules field b, held-past (at + length field) more bs, size)
+
+segments-exact : {rules : Rules} {fields : List (List ℕ)} {segments : List Segment} → FieldsBecome rules fields segments → segments ≡ joined (map (fieldSegments rules) fields)
+unfolding fieldSegments segmentsOf
+segments-exact (FieldsBecome.none) = refl
+segments-exact {rules} (FieldsBecome.then {field} {segments} b bs) = rw (becomes-exact rules field b) (ap (λ (l : List Segment). segments ++ l) (segments-exact bs))
+
+pub fields-exact : {rules : Rules} (h : List ℕ) {segments : List Segment} → FieldsBecome rules (fieldsOf h) segments
+    → (heldOf rules h ≡ Absent) × (segments ≡ headerSegments rules h)
+unfolding heldOf heldFrom headerSegments
+fields-exact {rules} h b = (rw (append-nil (fieldsOf h)) at (held-past rules h 0 [] b), segments-exact b)
+
+-- ---- the first held field
+
+-- it is the field before which all others become something, at the line and with the first non-ASCII byte that a refusal points to
+pub record HeldFound (rules : Rules) (h : List ℕ) (line offset : ℕ) : Type 0 where
+  pub before : List (List ℕ)
+  pub field : List ℕ
+  pub after : List (List ℕ)
+  pub segments : List Segment
+  pub is : fieldsOf h ≡ before ++ (field ∷ after)
+  pub become : FieldsBecome rules before segments
+  pub held : Held rules field
+  pub line-is : line ≡ lineCount (joined before)
+  pub offset-is : offset ≡ length (joined before) + run isAscii field
+
+-- a byte that fails the test ends a run, whatever follows
+run-inside : (f : ℕ → Bool) (a b : List ℕ) → T (not (all f a)) → run f (a ++ b) ≡ run f a
+unfolding run
+run-inside f [] b t = absurd t
+run-inside f (x ∷ a) b t = by-test (f x) (λ u. let e = yes-true (f x) u in rw e (ap suc (run-inside f a b (rw e at t)))) (λ u. rw (no-false (f x) u))
+
+held-not-ascii : (rules : Rules) (field : List ℕ) → Held rules field → T (not (all isAscii field))
+held-not-ascii rules field none = by-test (all isAscii field) (λ t. absurd (none (raw field ∷ []) (Becomes.copied (value-ascii field t)))) (λ t. t)
+
+module _ (h : List ℕ) (before : List (List ℕ)) (field : List ℕ) (after : List (List ℕ)) (is : fieldsOf h ≡ before ++ (field ∷ after)) where
+  -- the bytes before a field, and the field with what follows it
+  parts : h ≡ joined before ++ (field ++ joined after)
+  parts = sym (fields-joined h) ∙ ap joined is ∙ joined-append before (field ∷ after)
+
+  line-at : lineCount (take (length (joined before)) h) ≡ lineCount (joined before)
+  line-at = ap lineCount (ap (take (length (joined before))) parts ∙ take-at (joined before) (field ++ joined after) (length (joined before)) refl)
+
+  offset-at : (rules : Rules) → Held rules field → fieldOffset h (length (joined before)) ≡ length (joined before) + run isAscii field
+  unfolding fieldOffset
+  offset-at rules none =
+      let n = length (joined before) in
+      let rest : drop n h ≡ field ++ joined after = ap (drop n) parts ∙ drop-at (joined before) (field ++ joined after) n refl in
+      rw (rest, run-inside isAscii field (joined after) (held-not-ascii rules field none))
+
+pub held-exact : {rules : Rules} (h : List ℕ) {field : List ℕ} {before : List (List ℕ)} {segments : List Segment} (after : List (List ℕ)) → fieldsOf h ≡ before ++ (field ∷ after)
+    → FieldsBecome rules before segments → Held rules field
+    → (heldOf rules h ≡ At (lineCount (joined before)) (length (joined before))) × (fieldOffset h (length (joined before)) ≡ length (joined before) + run isAscii field)
+unfolding heldOf heldFrom isHeld
+held-exact {rules} h {field} {before} after is b none =
+    let n = length (joined before) in
+    let found : heldFrom rules h 0 (fieldsOf h) ≡ At (lineCount (take n h)) n = rw is (held-past rules h 0 (field ∷ after) b ∙ rw (zero-add n, held-fate rules field none)) in
+    (rw (line-at h before field after is) at found, offset-at h before field after is rules none)
+
+pub field-held : (rules : Rules) (h : List ℕ) (line at : ℕ) → heldOf rules h ≡ At line at → HeldFound rules h line (fieldOffset h at)
+unfolding heldOf
+field-held rules h line at e = there (rw e at (found rules h 0 (fieldsOf h)))
+  where
+    there : {line at : ℕ} → Found rules h 0 (fieldsOf h) (At line at) → HeldFound rules h line (fieldOffset h at)
+    there (Found.first {segments} before field after is b none) =
+        let free = is-held rules field none in
+        let zero-at = zero-add (length (joined before)) in
+        record {
+          before = before;
+          field = field;
+          after = after;
+          segments = segments;
+          is = is;
+          become = b;
+          held = free;
+          line-is = rw zero-at (line-at h before field after is);
+          offset-is = rw zero-at (offset-at h before field after is rules free);
+        }

@@ -1,0 +1,78 @@
+-- What is written for an envelope and a header that pass, by the paper's grammar, and what passes. Assumes nothing.
+use mathlib.Core.Bool.{true, false, not}
+use mathlib.Core.List.{List, [], _∷_, _++_}
+use Prim.Native.Nat.{ℕ, suc, _≤_}
+use lib.Dec.{T, eqb}
+use lib.ListN.{length}
+use Rattle.lists.specs.Byte.{isAscii}
+use Rattle.lists.specs.Lists.{all}
+use Rattle.letter_case.specs.LetterCase.{bytes}
+use Rattle.rules.specs.declared.Rules.{Rules}
+use Rattle.encoded_word.specs.Segments.{Segment, rendered}
+use Rattle.encoded_word.specs.Segments.Segment.{raw}
+use Rattle.line_stop.specs.FirstBad.{WithCrlf}
+use Rattle.envelope.specs.EnvelopeDemand.{Ascii, EnvelopeLines}
+use Rattle.header_line.specs.Lines.{wellFormed}
+use Rattle.header.specs.Fields.{fieldsOf, nameOf, valueOf, textOf}
+use Rattle.header_name.specs.declared.Kind.{Kind}
+use Rattle.header_name.specs.declared.Kind.the-variants.{Address, PlainText, Received, Commented, Other}
+use Rattle.header_name.specs.Names.{kindOf}
+use Rattle.field.specs.Field.{encodedField, named}
+use Rattle.address_grammar.specs.AddressField.{AddressField}
+use Rattle.structured_field.specs.Grammar.{StructuredValue}
+use Rattle.received.specs.Grammar.{ReceivedValue, LinesFit}
+use Rattle.call.specs.OutgoingHeader.{newField}
+
+-- ---- the envelope
+
+-- Not "envelope over 16,384 bytes, or header over 32,768", and no line is refused: "One MAIL line, then 1 to 100 RCPT lines".
+pub data EnvelopePasses (rules : Rules) (Asked : List ℕ → Type 0) (e h out : List ℕ) (texts : List (List ℕ)) : Type 0 where
+  none-refused : {n : ℕ} → length e ≤ 16384 → length h ≤ 32768 → 2 ≤ n → EnvelopeLines rules Asked n e out texts → EnvelopePasses rules Asked e h out texts
+
+-- "New first fields: `Downgraded-Mail-From` when the MAIL path was replaced, then `Downgraded-Rcpt-To` when there is exactly one RCPT
+-- line and it was replaced.", by the lines' texts `<old <new>>`
+unfoldable pub firstFields : List (List ℕ) → List Segment
+firstFields [] = []
+firstFields (mail ∷ []) = newField (bytes "Downgraded-Mail-From:") mail
+firstFields (mail ∷ rcpt ∷ []) = newField (bytes "Downgraded-Mail-From:") mail ++ newField (bytes "Downgraded-Rcpt-To:") rcpt
+firstFields (mail ∷ rcpt ∷ next ∷ more) = newField (bytes "Downgraded-Mail-From:") mail
+
+-- ---- the header
+
+-- a well-formed line at the number n. "Lines count from 0."
+abbrev pub HeaderFormedAt : ℕ → List ℕ → Type 0
+HeaderFormedAt n line = T (wellFormed (eqb n 0) line)
+
+-- the first n lines of a header: "Each line ends in CRLF"
+pub data HeaderLines : ℕ → List ℕ → Type 0 where
+  none : HeaderLines 0 []
+  then : {n : ℕ} {before line : List ℕ} → HeaderLines n before → WithCrlf (HeaderFormedAt n) line → HeaderLines (suc n) (before ++ line)
+
+-- What becomes of a field whose value is not ASCII, by the kind of its name. "Plain text: name, colon, encoded words of the text. Every other name is
+-- encapsulated: `Downgraded-` before the name". Date and the others with comments "are held only if non-ASCII stands outside their comments". A
+-- Received field is held too "with a line grown past 998 bytes". Of the kinds Parameterized and Held there is no rule: such a field is held.
+pub data KindBecomes (rules : Rules) (field : List ℕ) : Kind → List Segment → Type 0 where
+  address : {segments : List Segment} → AddressField rules (nameOf field) (textOf field) segments → KindBecomes rules field Address segments
+  plain-text : KindBecomes rules field PlainText (encodedField false (nameOf field) (textOf field))
+  other : KindBecomes rules field Other (encodedField true (nameOf field) (textOf field))
+  commented : {segments : List Segment} → StructuredValue (valueOf field) segments → KindBecomes rules field Commented (named (nameOf field) segments)
+  received : {segments : List Segment} → ReceivedValue (valueOf field) segments → LinesFit (rendered (named (nameOf field) segments))
+      → KindBecomes rules field Received (named (nameOf field) segments)
+
+-- "A field whose value is ASCII is copied."
+pub data Becomes (rules : Rules) (field : List ℕ) : List Segment → Type 0 where
+  copied : T (all isAscii (valueOf field)) → Becomes rules field (raw field ∷ [])
+  rewritten : {segments : List Segment} → T (not (all isAscii (valueOf field))) → KindBecomes rules field (kindOf (nameOf field)) segments → Becomes rules field segments
+
+-- what becomes of fields, one after another
+pub data FieldsBecome (rules : Rules) : List (List ℕ) → List Segment → Type 0 where
+  none : FieldsBecome rules [] []
+  then : {field : List ℕ} {fields : List (List ℕ)} {segments more : List Segment} → Becomes rules field segments → FieldsBecome rules fields more
+      → FieldsBecome rules (field ∷ fields) (segments ++ more)
+
+-- ---- both
+
+-- Both pass: `out` is the outgoing envelope, and the outgoing header is these segments, the new first fields before what becomes of the others.
+pub data Downgraded (rules : Rules) (e h out : List ℕ) : List Segment → Type 0 where
+  both-pass : {n : ℕ} {texts : List (List ℕ)} {segments : List Segment} → EnvelopePasses rules Ascii e h out texts → HeaderLines n h → FieldsBecome rules (fieldsOf h) segments
+      → Downgraded rules e h out (firstFields texts ++ segments)
