@@ -260,7 +260,7 @@ module _ (rules : Rules) (e h b c : List ℕ) where
 
     some-fault : (fault : Fault) (line : ℕ) → checked rules e ≡ Refused fault line → Some
     some-fault Fine line k = absurd (checked-not-fine rules e line k)
-    some-fault Malformed line k = let x = envelope-malformed-found rules e line k in found (envelope-malformed (s .0) (s .1) (x .is) (x .lines) (x .missing) (x .at))
+    some-fault Malformed line k = let x = envelope-malformed-found rules e line k in found (envelope-malformed (s .0) (s .1) (x .front .is) (x .front .lines) (x .missing) (x .at))
     some-fault NoAlternative line k = some-refused NoAlternative line (λ q. absurd (let z : _≡_ {A = ℕ} 0 1 = cc in omega arith)) k
     some-fault BadAlternative line k = some-refused BadAlternative line (λ q. absurd (let z : _≡_ {A = ℕ} 0 1 = cc in omega arith)) k
     some-fault RetiredAlternative line k = some-refused RetiredAlternative line (λ q. absurd (let z : _≡_ {A = ℕ} 0 1 = cc in omega arith)) k

@@ -6,10 +6,9 @@ use Prim.Native.Nat.{ℕ, zero, suc, _+_, _≤_, _<_}
 use native.Mathlib.Nat.{add-zero}
 use native.Mathlib.Numerals.{add-one}
 use native.Mathlib.Omega.{arith}
-use lib.Dec.{T, T-not, eqb, eqb→eq}
+use lib.Dec.{T, T-not, eqb}
 use lib.ListN.{length, take, drop, length-append, take-append-drop}
 use lib.Seq.{take-at, drop-at, take-all, take-add, drop-drop}
-use mir.Facts.{and-yes}
 use Rattle.lists.specs.Lists.{all}
 use Rattle.lists.specs.ListsLaws.{by-test, cond-has, yes-true, true-yes, no-false, all-weaken}
 use Rattle.lists.specs.Run.{run}
@@ -22,7 +21,7 @@ use Rattle.header_line.specs.declared.LineCheck.{LineCheck}
 use Rattle.header_line.specs.declared.LineCheck.the-variants.{WellFormed, Malformed}
 use Rattle.header_line.specs.Lines.{wellFormed, lineOk, checkedLines}
 use Rattle.header_line.specs.LineLaws.{linesAt, lines-none, front-good, front-bad}
-use Rattle.header.specs.FieldShapeLaws.{Cut, cut-line, well-piece, piece-bytes, line-not-cr}
+use Rattle.header.specs.FieldShapeLaws.{Cut, cut-line, well-piece, piece-bytes, line-not-cr, crlf-front}
 use Rattle.header_stop.specs.HeaderStop.{lineStop}
 use Rattle.header_stop.specs.HeaderStopLaws.{line-stop, line-stop-alone}
 use Rattle.offset.specs.Offset.{frontLine, headerLineOffset}
@@ -116,12 +115,6 @@ header-lines h e = lines (rw e at (checked h))
 
 -- ---- the first malformed line
 
-crlf-split : (s : List ℕ) → T (crlf s) → s ≡ 13 ∷ 10 ∷ drop 2 s
-unfolding crlf
-crlf-split [] t = absurd t
-crlf-split (x ∷ []) t = absurd (and-yes (eqb x 13) false t .1)
-crlf-split (x ∷ y ∷ rest) t = let both = and-yes (eqb x 13) (eqb y 10) t in rw (eqb→eq x 13 (both .0), eqb→eq y 10 (both .1))
-
 -- where no CRLF follows it, the line at the front is all there is
 line-rest : (s : List ℕ) → T (not (crlf (drop (lineLen s) s))) → lineLen s ≡ length s
 unfolding lineLen
@@ -139,7 +132,7 @@ stop-front first s bad =
     let more = drop (n + 2) s in
     by-test (crlf (drop n s))
     (λ t.
-    let split : drop n s ≡ 13 ∷ 10 ∷ more = crlf-split (drop n s) t ∙ rw drop-drop in
+    let split : drop n s ≡ 13 ∷ 10 ∷ more = crlf-front (drop n s) t ∙ rw drop-drop in
     let whole : s ≡ text ++ (13 ∷ 10 ∷ more) = sym (take-append-drop n s) ∙ ap (λ (l : List ℕ). text ++ l) split in
     let front : take (n + 2) s ≡ text ++ (13 ∷ 10 ∷ []) = take-add n 2 s ∙ ap (λ (l : List ℕ). text ++ take 2 l) split in
     let unformed : T (not (wellFormed first text)) = rw (yes-true (crlf (drop n s)) t) at bad in

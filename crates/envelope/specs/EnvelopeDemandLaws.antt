@@ -72,34 +72,26 @@ replacementsOf (mail ∷ rcpts) = replacement true mail ∷ map (replacement fal
 unfoldable pub replacements : List ℕ → List (List ℕ)
 replacements e = replacementsOf (texts e)
 
--- both from line n on
-unfoldable writtenFrom : ℕ → List (List ℕ) → List ℕ
-writtenFrom n [] = []
-writtenFrom n (text ∷ more) = writtenEnded (eqb n 0) text ++ writtenFrom (suc n) more
+-- what a function gives for each line from line n on, of which line 0 is the MAIL line
+module _ {A : Type 0} (f : Bool → List ℕ → A) where
+  unfoldable eachFrom : ℕ → List (List ℕ) → List A
+  eachFrom n [] = []
+  eachFrom n (text ∷ more) = f (eqb n 0) text ∷ eachFrom (suc n) more
 
-unfoldable replacementsFrom : ℕ → List (List ℕ) → List (List ℕ)
-replacementsFrom n [] = []
-replacementsFrom n (text ∷ more) = replacement (eqb n 0) text ∷ replacementsFrom (suc n) more
+  rcpts-each : (n : ℕ) (rcpts : List (List ℕ)) → map (f false) rcpts ≡ eachFrom (suc n) rcpts
+  unfolding eachFrom
+  rcpts-each n [] = refl
+  rcpts-each n (text ∷ more) = rw (eqb·suc-zero n, rcpts-each (suc n) more)
 
-rcpts-out : (n : ℕ) (rcpts : List (List ℕ)) → joined (map (writtenEnded false) rcpts) ≡ writtenFrom (suc n) rcpts
-unfolding writtenFrom
-rcpts-out n [] = refl
-rcpts-out n (text ∷ more) = rw (eqb·suc-zero n, rcpts-out (suc n) more)
-
-all-out : (ts : List (List ℕ)) → writtenOf ts ≡ writtenFrom 0 ts
-unfolding writtenOf writtenFrom
+all-out : (ts : List (List ℕ)) → writtenOf ts ≡ joined (eachFrom writtenEnded 0 ts)
+unfolding writtenOf eachFrom
 all-out [] = refl
-all-out (mail ∷ rcpts) = rw (rcpts-out 0 rcpts)
+all-out (mail ∷ rcpts) = rw (rcpts-each writtenEnded 0 rcpts)
 
-rcpts-texts : (n : ℕ) (rcpts : List (List ℕ)) → map (replacement false) rcpts ≡ replacementsFrom (suc n) rcpts
-unfolding replacementsFrom
-rcpts-texts n [] = refl
-rcpts-texts n (text ∷ more) = rw (eqb·suc-zero n, rcpts-texts (suc n) more)
-
-all-texts : (ts : List (List ℕ)) → replacementsOf ts ≡ replacementsFrom 0 ts
-unfolding replacementsOf replacementsFrom
+all-texts : (ts : List (List ℕ)) → replacementsOf ts ≡ eachFrom replacement 0 ts
+unfolding replacementsOf eachFrom
 all-texts [] = refl
-all-texts (mail ∷ rcpts) = rw (rcpts-texts 0 rcpts)
+all-texts (mail ∷ rcpts) = rw (rcpts-each replacement 0 rcpts)
 
 -- ---- after the first n lines
 
@@ -115,16 +107,16 @@ module _ {rules : Rules} where
         ∙ rw (lines-found line rest h, fault-found line [] h rules n few, written-exact w .fine)
 
     written-past : {n : ℕ} {start out : List ℕ} {ts : List (List ℕ)} → EnvelopeLines rules Asked n start out ts → (rest : List ℕ)
-        → written (start ++ rest) ≡ out ++ writtenFrom n (texts rest)
-    unfolding written writtenFrom writtenEnded
+        → written (start ++ rest) ≡ out ++ joined (eachFrom writtenEnded n (texts rest))
+    unfolding written eachFrom writtenEnded
     written-past EnvelopeLines.none rest = all-out (texts rest)
     written-past (EnvelopeLines.then {n} {before} {line} {out} {new} e few w a) rest =
         ap written (line-between before line rest) ∙ written-past e (line ++ (13 ∷ 10 ∷ rest))
         ∙ rw (texts-found line rest (written-no-cr w), written-exact w .out-is) (simp append-assoc)
 
     replaced-past : {n : ℕ} {start out : List ℕ} {ts : List (List ℕ)} → EnvelopeLines rules Asked n start out ts → (rest : List ℕ)
-        → replacements (start ++ rest) ≡ ts ++ replacementsFrom n (texts rest)
-    unfolding replacements replacementsFrom
+        → replacements (start ++ rest) ≡ ts ++ eachFrom replacement n (texts rest)
+    unfolding replacements eachFrom
     replaced-past EnvelopeLines.none rest = all-texts (texts rest)
     replaced-past (EnvelopeLines.then {n} {before} {line} {text} {texts = ts} e few w a) rest =
         ap replacements (line-between before line rest) ∙ replaced-past e (line ++ (13 ∷ 10 ∷ rest))
@@ -145,7 +137,7 @@ no-lines = lines-end [] 0 (omega arith)
 
 pub lines-passed : {rules : Rules} {Asked : List ℕ → Type 0} {n : ℕ} {e out : List ℕ} {ts : List (List ℕ)} → EnvelopeLines rules Asked n e out ts → 2 ≤ n
     → (checked rules e ≡ Passed (pred n)) × (out ≡ written e) × (ts ≡ replacements e)
-unfolding checkedFrom counted texts writtenFrom replacementsFrom
+unfolding checkedFrom counted texts eachFrom
 lines-passed {rules} {n = n} k h =
     let passed : checkedFrom rules n (lines []) ≡ Passed (pred n) = rw (no-lines, le-ltb n 2 h) in
     (rw append-nil at (checked-past k []) ∙ passed, rw (no-lines, append-nil, append-nil) at (sym (written-past k [])), rw (no-lines, append-nil, append-nil) at (sym (replaced-past k [])))

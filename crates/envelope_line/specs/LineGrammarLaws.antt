@@ -9,11 +9,10 @@ use native.Mathlib.Omega.{arith}
 use lib.Dec.{T, eqb, leb, eqb→eq}
 use lib.ListN.{length, take, drop, getD, take-append-drop, length-append}
 use lib.Seq.{drop-cons, drop-drop, take-take, take-at, drop-at, append-snoc, take-append-seam, drop-append-seam, take-append-add, getD-drop}
-use native.Mathlib.Nat.{not-suc-le-zero}
 use mir.Facts.{T-not, not-T, and-yes, yes-and, leb-yes, yes-leb}
 use borrow.Author.Tests.{ne-eqb, eq-eqb}
-use Rattle.lists.specs.ListsLaws.{by-test, cond-has, yes-true, no-false}
-use Rattle.lists.specs.Lists.{all, nonempty}
+use Rattle.lists.specs.ListsLaws.{by-test, cond-has, yes-true, no-false, some-nonempty}
+use Rattle.lists.specs.Lists.{all}
 use Rattle.lists.specs.Byte.{within, isAscii}
 use Rattle.utf8.specs.Utf8.{utf8}
 use Rattle.letter_case.specs.LetterCase.{bytes, lower, sameAnyCase}
@@ -132,13 +131,9 @@ module _ (s : List ℕ) (t : T (sameAnyCase (bytes "Postmaster>") (take 11 s))) 
   word-local : LocalPart (word .front)
   unfolding bytes lower
   word-local = LocalPart.atoms (DotAtom.one (record {
-    some = nonempty-of (word .front) (omega (arith, word-size));
+    some = some-nonempty (word .front) (omega (arith, word-size));
     bytes = same-each (within 97 122) isAtomByte letter-atom (bytes "Postmaster") (word .front) (word .same) tt;
   }))
-    where
-      nonempty-of : (xs : List ℕ) → 0 < length xs → T (nonempty xs)
-      nonempty-of [] h = absurd (not-suc-le-zero h)
-      nonempty-of (x ∷ xs) h = tt
 
   -- is no address
   word-stops : addressScan s ≡ Stop (length (word .front))

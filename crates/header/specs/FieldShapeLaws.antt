@@ -267,7 +267,7 @@ follow-line : (first : Bool) (line h : List ℕ) → T (wellFormed first line) �
 follow-line first line h t f =
     by-test (named line) (λ n. Follow.starts (named-follow line h n (well-piece first line t) f)) (λ n. continued-follow line h (well-continued first line t n) f)
 
-crlf-front : (h : List ℕ) → T (crlf h) → h ≡ 13 ∷ 10 ∷ drop 2 h
+pub crlf-front : (h : List ℕ) → T (crlf h) → h ≡ 13 ∷ 10 ∷ drop 2 h
 unfolding crlf
 crlf-front [] t = absurd t
 crlf-front (x ∷ []) t = absurd (and-yes (eqb x 13) false t .1)

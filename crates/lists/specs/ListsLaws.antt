@@ -7,7 +7,7 @@ use native.Mathlib.Nat.{not-suc-le-zero, le-of-suc-le-suc}
 use lib.Dec.{T}
 use lib.ListN.{length, getD}
 use mir.Facts.{and-yes, yes-and}
-use Rattle.lists.specs.Lists.{all, joined}
+use Rattle.lists.specs.Lists.{all, joined, nonempty}
 
 -- by cases on a test
 pub by-test {ℓ} : {X : Type ℓ} (b : Bool) → (T b → X) → (T (not b) → X) → X
@@ -99,3 +99,7 @@ module _ {A : Type 0} where
 pub all-mem : {A : Type 0} (f : A → Bool) {xs : List A} {x : A} → T (all f xs) → List·Memᴰ x xs → T (f x)
 all-mem f h (List·Memᴰ·head {x} {xs} e) = rw e (and-yes (f x) (all f xs) h .0)
 all-mem f h (List·Memᴰ·tail {x} {xs} m) = all-mem f (and-yes (f x) (all f xs) h .1) m
+
+pub some-nonempty : {A : Type 0} (xs : List A) → 0 < length xs → T (nonempty xs)
+some-nonempty [] h = absurd (not-suc-le-zero h)
+some-nonempty (x ∷ xs) h = tt

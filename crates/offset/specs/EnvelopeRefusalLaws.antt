@@ -36,7 +36,7 @@ use Rattle.envelope.specs.EnvelopeDemand.{WellFormedAt, Any, Ascii, EnvelopeLin
 use Rattle.envelope.specs.LinesLaws.{text-front, text-ended, front-ended, line-whole, texts-end, texts-at}
 use Rattle.envelope.specs.CheckLaws.{fine-is, checked-step, checked-stop}
 use Rattle.envelope.specs.PassedLaws.{checked-not-fine}
-use Rattle.envelope.specs.EnvelopeDemandLaws.{line-between, line-len, text-found, texts-found, fault-found, no-lines, checked-past, orcpt-past, refused-front, orcpt-front}
+use Rattle.envelope.specs.EnvelopeDemandLaws.{LinesFront, line-between, line-len, text-found, texts-found, fault-found, no-lines, checked-past, orcpt-past, refused-front, orcpt-front}
 use Rattle.envelope_stop.specs.EnvelopeStop.{wellFormedAt, lineStop}
 use Rattle.envelope_stop.specs.EnvelopeStopLaws.{line-stop, line-stop-alone}
 use Rattle.offset.specs.Offset.{frontLine, lineStart, pathByte, altValueByte, orcptByte, lineAt, faultByte, faultOffset, orcptOffset}
@@ -202,14 +202,9 @@ not-missing rules n rest fault p h e =
 
 -- line n of an envelope is malformed, or missing
 pub record MalformedFound (rules : Rules) (e : List ℕ) (n offset : ℕ) : Type 0 where
-  pub start : List ℕ
-  pub rest : List ℕ
-  pub out : List ℕ
-  pub texts : List (List ℕ)
-  pub is : e ≡ start ++ rest
-  pub lines : EnvelopeLines rules Any n start out texts
-  pub missing : 2 ≤ n → rest ≡ [] → ⊥
-  pub at : MalformedAt (WellFormedAt n) start rest offset
+  pub front : LinesFront rules Any n e
+  pub missing : 2 ≤ n → front .rest ≡ [] → ⊥
+  pub at : MalformedAt (WellFormedAt n) (front .start) (front .rest) offset
 
 malformed-offset : {rules : Rules} {n : ℕ} {start out : List ℕ} {ts : List (List ℕ)} → EnvelopeLines rules Any n start out ts → (rest : List ℕ) → NoneFormed n rest
     → faultOffset (start ++ rest) Malformed n ≡ length start + lineStop n rest
@@ -222,12 +217,7 @@ envelope-malformed-found rules e n p =
     let here : checkedFrom rules n (lines (k .rest)) ≡ Refused Malformed n = sym (checked-past (k .lines) (k .rest)) ∙ rw (k .is) at p in
     let none = malformed-none rules n (k .rest) here in
     record {
-      start = k .start;
-      rest = k .rest;
-      out = k .out;
-      texts = k .texts;
-      is = k .is;
-      lines = k .lines;
+      front = k;
       missing = not-missing rules n (k .rest) Malformed here;
       at = record {
         malformed = none;

@@ -15,7 +15,7 @@ use Rattle.lists.specs.Byte.{isAscii}
 use Rattle.lists.specs.CutBy.{cutBy}
 use Rattle.lists.specs.CutByLaws.{cut-joined}
 use Rattle.lists.specs.Lists.{all, joined, nonempty}
-use Rattle.lists.specs.ListsLaws.{by-test, cond-has, yes-true, true-yes, no-false, all-weaken}
+use Rattle.lists.specs.ListsLaws.{by-test, cond-has, yes-true, true-yes, no-false, all-weaken, some-nonempty}
 use Rattle.lists.specs.Run.{run}
 use Rattle.lists.specs.RunLaws.{run-all, run-past}
 use Rattle.letter_case.specs.LetterCase.{bytes, lower, sameAnyCase}
@@ -258,10 +258,6 @@ module _ {w more : List ℕ} (n : T (nonempty w)) (x : White w more) where
   pub white-segments : raw w ∷ [] ≡ tokenSegments w
   white-segments = other-segments w (no-comment w white-other) (white-alone x) n (white-ascii w (x .bytes))
 
-some-nonempty : (t : List ℕ) → 0 < length t → nonempty t ≡ true
-some-nonempty [] h = absurd (not-suc-le-zero {n = 0} h)
-some-nonempty (b ∷ t) h = refl
-
 cond-not : {X : Type 0} (a : Bool) (x y : X) → cond a x y ≡ cond (not a || false) y x
 cond-not true x y = refl
 cond-not false x y = refl
@@ -285,7 +281,7 @@ module _ {c : List ℕ} (g : Clause c) where
 
   pub clause-segments : clauseSegments c ≡ tokenSegments c
   unfolding tokenSegments isRemoved
-  clause-segments = rw (clause-other, clause-whole, some-nonempty c (clause-some g)) (cond-not (all isAscii c) (raw c ∷ []) [])
+  clause-segments = rw (clause-other, clause-whole, yes-true (nonempty c) (some-nonempty c (clause-some g))) (cond-not (all isAscii c) (raw c ∷ []) [])
 
 module _ {c : List ℕ} (i : Comment c) where
   pub comment-clear : T (isClear c)
