@@ -1,9 +1,11 @@
-// The three demands on the exported calls: specs/Demands.antt and specs/BatchDemands.antt state them, and here the calls are checked against
-// them.
+// The three demands on the exported calls: specs/Demands.antt, specs/BatchDemands.antt and specs/MailboxDemands.antt state them, and here
+// the calls are checked against them.
 ghost use Rattle.rules.specs.Rules.{settingRules};
 ghost use Rattle.demands.specs.Demands.{Demands};
 ghost use Rattle.demands.specs.BatchDemands.{BatchDemands};
+ghost use Rattle.demands.specs.MailboxDemands.{MailboxDemands};
 use call::Answer;
+use outgoing_header::HeaderAnswer;
 
 // The exported call: what it answers and leaves meets the three demands, by the rules of its setting.
 pub fn downgrade(
@@ -35,4 +37,11 @@ pub fn downgrade_batch(
         envelope_buffer,
         header_buffer,
     )
+}
+
+// The exported call for a mailbox: what it answers and leaves meets the demands on a mailbox.
+pub fn downgrade_mailbox(header: &[u8], buffer: &mut [u8]) -> HeaderAnswer
+    ensures { λ r. ⌜ MailboxDemands (now (header .entry)) (now (buffer .entry)) r (now (buffer .exit)) ⌝ }
+{
+    hennelaku::hennelaku_downgrade_mailbox_slices(header, buffer)
 }
