@@ -1,5 +1,6 @@
 # make test         the gate
 # make quick        what changed since main's last merge, in minutes; not the verdict
+# make edits        every edit that must fail, those of must-fail/more too, over the incremental folders [CRATES=..]
 # make run          the program `downgrade` on examples/bulletin.txt, or IN=FILE
 # make try          the paper's whole case by the same program, built without its proofs: a first look
 # make lib          the library in dist/: libhennelaku.a, libhennelaku.so.0, hennelaku.h
@@ -43,7 +44,7 @@ CARGO = cd rust && HENNELAKU_LIB_DIR=$(CURDIR)/dist cargo
 CODE := crates.txt $(shell find crates -name '*.rt')
 INSTALLING = PREFIX='$(PREFIX)' LIBDIR='$(LIBDIR)' DESTDIR='$(DESTDIR)' VERSION='$(VERSION)' lib/install
 
-.PHONY: test quick run try lib lib-test install uninstall dist relay relay-test pipe-test interop soak fuzz-c hardened model \
+.PHONY: test quick edits run try lib lib-test install uninstall dist relay relay-test pipe-test interop soak fuzz-c hardened model \
     fuzz fuzz-batch fuzz-mailbox fuzz-reader fuzz-pairs bench clean
 
 test:
@@ -51,6 +52,9 @@ test:
 
 quick:
 	.ci/quick
+
+edits:
+	.ci/edits $(or $(CRATES),$(patsubst crates/%/must-fail,%,$(wildcard crates/*/must-fail)))
 
 # The kit builds a program only by proving it.
 run:

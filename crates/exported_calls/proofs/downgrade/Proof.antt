@@ -1,7 +1,7 @@
 use Rattle.demands.specs.DemandsLaws.{met}
 use borrow.Author.Needs.{needs}
-use Rattle.demands.proofs.downgrade.Statement.{statement}
-use Rattle.demands.proofs.downgrade.Tie as tie
+use Rattle.exported_calls.proofs.downgrade.Statement.{statement}
+use Rattle.exported_calls.proofs.downgrade.Tie as tie
 
 hennelaku-downgrade-slices-requires : tie.Need-hennelaku-downgrade-slices-requires
 hennelaku-downgrade-slices-requires c κs = search needs

@@ -1,7 +1,7 @@
 use Rattle.demands.specs.MailboxDemandsLaws.{mailbox-met}
 use borrow.Author.Needs.{needs}
-use Rattle.demands.proofs.downgrade_mailbox.Statement.{statement}
-use Rattle.demands.proofs.downgrade_mailbox.Tie as tie
+use Rattle.exported_calls.proofs.downgrade_mailbox.Statement.{statement}
+use Rattle.exported_calls.proofs.downgrade_mailbox.Tie as tie
 
 hennelaku-downgrade-mailbox-slices-requires : tie.Need-hennelaku-downgrade-mailbox-slices-requires
 hennelaku-downgrade-mailbox-slices-requires c κs = search needs

@@ -1,7 +1,7 @@
 use Rattle.demands.specs.BatchDemandsLaws.{batch-met}
 use borrow.Author.Needs.{needs}
-use Rattle.demands.proofs.downgrade_batch.Statement.{statement}
-use Rattle.demands.proofs.downgrade_batch.Tie as tie
+use Rattle.exported_calls.proofs.downgrade_batch.Statement.{statement}
+use Rattle.exported_calls.proofs.downgrade_batch.Tie as tie
 
 hennelaku-downgrade-batch-slices-requires : tie.Need-hennelaku-downgrade-batch-slices-requires
 hennelaku-downgrade-batch-slices-requires c κs = search needs
