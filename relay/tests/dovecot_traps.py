@@ -43,7 +43,7 @@ def make_reading(site):
     modules.mkdir()
     subprocess.run(
         [os.environ.get("CC", "cc"), "-std=gnu99", "-O1", "-fPIC", "-shared", "-DHAVE_CONFIG_H", "-isystem", "/usr/include/dovecot",
-         TESTS / "filter_at_reading.c", "-o", modules / "lib99_filter_at_reading_plugin.so"],
+         TESTS / "plugin/filter_at_reading.c", "-o", modules / "lib99_filter_at_reading_plugin.so"],
         check=True,
     )
     return Instance(site.room / "reading", site.program, READING.format(modules=modules, program=site.program))
