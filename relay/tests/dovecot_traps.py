@@ -83,38 +83,44 @@ def at_reading(site, reading, message):
     same("where names carry no sizes, the same filter gives the message whole", retrieved(reading, "lena")[1], [whole[0]])
 
 
+def panics(server, log):
+    """How many there are in a log."""
+    return (server.folder / log).read_text().count("Panic:")
+
+
 def past_limit_by_lda(site, message):
     """The message is not stored, and once at the next try."""
     server = site.server
+    before = panics(server, "lda.log")
     server.set_filter("exec sleep 30")
     status = server.deliver("late", message, options=["-o", "plugin/sieve_filter_exec_timeout=1s"])
     server.set_filter(site.program)
+    panicked = panics(server, "lda.log") - before
     stored = lambda: (server.stored("late"), server.stored("late", ".Pop"))
-    same("a filter past Dovecot's limit: dovecot-lda ends badly, and nothing is stored", (status != 0, *stored()), (True, [], []))
+    same("a filter past Dovecot's limit: dovecot-lda panics, and nothing is stored", (status != 0, panicked, *stored()), (True, 1, [], []))
     status = server.deliver("late", message)
     same("and once at the next try", (status, *stored()), (0, [message], [site.converted(message)]))
 
 
-def panics(server):
-    return len(re.findall(r"lmtp\(slow.*Panic:", (server.folder / "log").read_text()))
-
-
 def past_limit_by_lmtp(site):
-    """A message to two users in one transaction of LMTP, the second with a filter that waits. lmtp panics before it has answered for the first:
-    the second has nothing, the first has it, and gets it again at each try. With the command's own limit each has it once."""
+    """A message to two users in one transaction of LMTP, the second with a filter that waits. lmtp panics before it has answered for the
+    first: the second has nothing, the first has it, and gets it again at each try. With the command's own limit each has it once."""
     server, store = site.server, site.store
+    before = panics(server, "log")
+    panicked = lambda: panics(server, "log") - before
     counts = lambda: {user: (len(server.stored(user)), len(server.stored(user, ".Pop"))) for user in ("nora", "slow")}
     server.set_filter(f'case $USER in slow*) exec sleep 30 ;; esac\nexec {site.program} "$@"')
     site.send("office@example.net", ["nora@lmtp.example", "slow@lmtp.example"], ASCII)
     deferred = site.wait_until(lambda: [m["queue_name"] for m in store.queue()] == ["deferred"], 20)
-    same("a filter past Dovecot's limit: lmtp panics, and the message waits in the queue", (panics(server), deferred), (1, True))
+    site.wait_until(panicked, 5)
+    same("a filter past Dovecot's limit: lmtp panics, and the message waits in the queue", (panicked(), deferred), (1, True))
     same("the one before it has the message, and nobody was told", counts(), {"nora": (1, 1), "slow": (0, 0)})
     server.set_filter(f'case $USER in slow*) exec {site.program} -t 1 <>{site.room}/endless ;; esac\nexec {site.program} "$@"')
     store.flush()
     site.wait_until(lambda: not store.queue(), 20)
-    same("with the command's own limit: no panic, and it arrives", (panics(server), counts()["slow"]), (1, (1, 0)))
+    same("with the command's own limit: no panic, and it arrives", (panicked(), counts()["slow"]), (1, (1, 0)))
     same("by LMTP the one before it has the message twice", counts()["nora"], (2, 2))
     site.send("office@example.net", ["nora@lmtp.example", "slow@lmtp.example"], ASCII)
     site.wait_until(lambda: counts()["slow"][0] > 1 and not store.queue(), 20)
-    same("with the command's own limit: each has a new message once", (panics(server), counts()), (1, {"nora": (3, 3), "slow": (2, 0)}))
+    same("with the command's own limit: each has a new message once", (panicked(), counts()), (1, {"nora": (3, 3), "slow": (2, 0)}))
     server.set_filter(site.program)
