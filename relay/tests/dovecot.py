@@ -9,7 +9,7 @@ from postfix import free_port
 PROJECT = pathlib.Path(__file__).resolve().parents[2]
 LDA = "/usr/lib/dovecot/dovecot-lda"
 
-# Users have any name and one password, and nothing outside the folder is used. The user slow has 3 seconds for a filter.
+# Users have any name and one password, and nothing outside the folder is used. The users late and slow have 3 seconds for a filter.
 SETTINGS = """\
 base_dir = {folder}/run
 state_dir = {folder}/run
@@ -62,7 +62,9 @@ class Instance:
         for part in ("run", "mail", "filter", "sieve"):
             (self.folder / part).mkdir(parents=True)
         (self.folder / "lda.log").touch()
-        (self.folder / "users").write_text(f"slow::65534:65534::{self.folder}/mail/slow::userdb_sieve_filter_exec_timeout=3s\n")
+        (self.folder / "users").write_text(
+            "".join(f"{user}::65534:65534::{self.folder}/mail/{user}::userdb_sieve_filter_exec_timeout=3s\n" for user in ("late", "slow"))
+        )
         subprocess.run(["chown", "nobody:nogroup", self.folder / "mail", self.folder / "lda.log"], check=True)
         self.set_filter(filter_program)
         example = (PROJECT / "examples/dovecot/local.conf").read_text()

@@ -83,44 +83,52 @@ def at_reading(site, reading, message):
     same("where names carry no sizes, the same filter gives the message whole", retrieved(reading, "lena")[1], [whole[0]])
 
 
-def panics(server, log):
-    """How many there are in a log."""
-    return (server.folder / log).read_text().count("Panic:")
+class Watched:
+    """What the users of a filter past its limit have: late by dovecot-lda; nora and slow by LMTP, in one transaction."""
+
+    def __init__(self, site):
+        self.site = site
+        self.before = self.in_logs()
+
+    def in_logs(self):
+        return [(self.site.server.folder / log).read_text().count("Panic:") for log in ("lda.log", "log")]
+
+    def panics(self):
+        """Since the start: of dovecot-lda, of lmtp."""
+        return [now - before for now, before in zip(self.in_logs(), self.before)]
+
+    def counts(self):
+        """Of each user: messages in INBOX and copies."""
+        stored = self.site.server.stored
+        return {user: (len(stored(user)), len(stored(user, ".Pop"))) for user in ("late", "nora", "slow")}
+
+    def send(self):
+        self.site.send("office@example.net", ["late@example.net"], ASCII)
+        self.site.send("office@example.net", ["nora@lmtp.example", "slow@lmtp.example"], ASCII)
+
+    def set_filter(self, command):
+        """For late and slow this one; for nora hennelaku-mailbox."""
+        self.site.server.set_filter(f'case $USER in late* | slow*) exec {command} ;; esac\nexec {self.site.program} "$@"')
 
 
-def past_limit_by_lda(site, message):
-    """The message is not stored, and once at the next try."""
-    server = site.server
-    before = panics(server, "lda.log")
-    server.set_filter("exec sleep 30")
-    status = server.deliver("late", message, options=["-o", "plugin/sieve_filter_exec_timeout=1s"])
-    server.set_filter(site.program)
-    panicked = panics(server, "lda.log") - before
-    stored = lambda: (server.stored("late"), server.stored("late", ".Pop"))
-    same("a filter past Dovecot's limit: dovecot-lda panics, and nothing is stored", (status != 0, panicked, *stored()), (True, 1, [], []))
-    status = server.deliver("late", message)
-    same("and once at the next try", (status, *stored()), (0, [message], [site.converted(message)]))
-
-
-def past_limit_by_lmtp(site):
-    """A message to two users in one transaction of LMTP, the second with a filter that waits. lmtp panics before it has answered for the
-    first: the second has nothing, the first has it, and gets it again at each try. With the command's own limit each has it once."""
-    server, store = site.server, site.store
-    before = panics(server, "log")
-    panicked = lambda: panics(server, "log") - before
-    counts = lambda: {user: (len(server.stored(user)), len(server.stored(user, ".Pop"))) for user in ("nora", "slow")}
-    server.set_filter(f'case $USER in slow*) exec sleep 30 ;; esac\nexec {site.program} "$@"')
-    site.send("office@example.net", ["nora@lmtp.example", "slow@lmtp.example"], ASCII)
-    deferred = site.wait_until(lambda: [m["queue_name"] for m in store.queue()] == ["deferred"], 20)
-    site.wait_until(panicked, 5)
-    same("a filter past Dovecot's limit: lmtp panics, and the message waits in the queue", (panicked(), deferred), (1, True))
-    same("the one before it has the message, and nobody was told", counts(), {"nora": (1, 1), "slow": (0, 0)})
-    server.set_filter(f'case $USER in slow*) exec {site.program} -t 1 <>{site.room}/endless ;; esac\nexec {site.program} "$@"')
+def past_limit(site):
+    """A filter past Dovecot's limit ends dovecot-lda and lmtp by a panic. Both messages wait in the queue; but lmtp has not answered for nora
+    either, who has hers, and gets it again at each try. With the command's own limit each has a message once."""
+    store, watched = site.store, Watched(site)
+    watched.set_filter("sleep 30")
+    watched.send()
+    site.wait_until(lambda: [m["queue_name"] for m in store.queue()] == ["deferred"] * 2, 20)
+    site.wait_until(lambda: watched.panics() == [1, 1], 5)
+    same("a filter past Dovecot's limit: dovecot-lda and lmtp panic", watched.panics(), [1, 1])
+    same("both messages wait in the queue", [m["queue_name"] for m in store.queue()], ["deferred"] * 2)
+    same("only the one before it by LMTP has something", watched.counts(), {"late": (0, 0), "nora": (1, 1), "slow": (0, 0)})
+    watched.set_filter(f"{site.program} -t 1 <>{site.room}/endless")
     store.flush()
     site.wait_until(lambda: not store.queue(), 20)
-    same("with the command's own limit: no panic, and it arrives", (panicked(), counts()["slow"]), (1, (1, 0)))
-    same("by LMTP the one before it has the message twice", counts()["nora"], (2, 2))
-    site.send("office@example.net", ["nora@lmtp.example", "slow@lmtp.example"], ASCII)
-    site.wait_until(lambda: counts()["slow"][0] > 1 and not store.queue(), 20)
-    same("with the command's own limit: each has a new message once", (panicked(), counts()), (1, {"nora": (3, 3), "slow": (2, 0)}))
-    server.set_filter(site.program)
+    same("with the command's own limit: no panic", watched.panics(), [1, 1])
+    same("each arrives, by LMTP twice for the one before it", watched.counts(), {"late": (1, 0), "nora": (2, 2), "slow": (1, 0)})
+    watched.send()
+    site.wait_until(lambda: not store.queue(), 20)
+    same("with the command's own limit: no panic, later neither", watched.panics(), [1, 1])
+    same("and each has a new message once", watched.counts(), {"late": (2, 0), "nora": (3, 3), "slow": (2, 0)})
+    site.server.set_filter(site.program)
