@@ -112,8 +112,8 @@ class Watched:
 
 
 def past_limit(site):
-    """A filter past Dovecot's limit ends dovecot-lda and lmtp by a panic. Both messages wait in the queue; but lmtp has not answered for nora
-    either, who has hers, and gets it again at each try. With the command's own limit each has a message once."""
+    """A filter past Dovecot's limit ends dovecot-lda and lmtp by a panic. Both messages wait in the queue; but lmtp has not answered for
+    nora either, who has hers, and gets it again at each try. With the command's own limit each has a message once."""
     store, watched = site.store, Watched(site)
     watched.set_filter("sleep 30")
     watched.send()
