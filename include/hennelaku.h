@@ -1,5 +1,7 @@
 /*
- * hennelaku.h - downgrade a mail envelope and header to ASCII by RFC 5504
+ * hennelaku.h - downgrade a mail envelope and header to ASCII by RFC 5504, a
+ * stored message's header by RFC 6857, and read what was put into Downgraded-
+ * fields
  *
  * C99 or later, and C++. Link with -lhennelaku (x86-64 Linux): libhennelaku.a
  * or libhennelaku.so.0, which need nothing but memcpy and memset of the C
@@ -21,12 +23,12 @@ extern "C" {
  * greater one.
  */
 #define HENNELAKU_VERSION_MAJOR 0
-#define HENNELAKU_VERSION_MINOR 3
+#define HENNELAKU_VERSION_MINOR 4
 #define HENNELAKU_VERSION_PATCH 0
 #define HENNELAKU_VERSION \
     (10000 * HENNELAKU_VERSION_MAJOR + 100 * HENNELAKU_VERSION_MINOR \
      + HENNELAKU_VERSION_PATCH)
-#define HENNELAKU_VERSION_TEXT "0.3.0"
+#define HENNELAKU_VERSION_TEXT "0.4.0"
 
 /* Limits of one call. */
 #define HENNELAKU_MAX_ENVELOPE 16384   /* bytes of an envelope */
@@ -278,6 +280,111 @@ void hennelaku_downgrade_batch(
     uint32_t *records, size_t records_len,
     uint8_t *envelope_buffer, size_t envelope_room,
     uint8_t *header_buffer, size_t header_room);
+
+/* What hennelaku_downgrade_mailbox answers. */
+typedef struct hennelaku_mailbox_answer {
+    uint32_t number;  /* 0, 1, 5, 6 or 8 of enum hennelaku_number */
+    size_t place;     /* 0: 0; 1: 1; 5, 6: the line; 8: the length needed */
+    size_t offset;    /* 5, 6: the byte, from the header's start; else 0 */
+    size_t length;    /* bytes written, 0 after a refusal */
+} hennelaku_mailbox_answer;
+
+/*
+ * Downgrades the header of a stored message, for a program that fetches mail and
+ * knows only ASCII (RFC 6857). There is no envelope and no setting.
+ *
+ * header: as for hennelaku_downgrade. After number 0 the first length bytes of
+ * buffer are the outgoing header, all ASCII; no byte past them is touched. After
+ * any other number no byte has changed. The refusals are those of
+ * hennelaku_downgrade that are about a header, in their order: 1, with place 1;
+ * the first 5; the first 6; 8. Their places and offsets are the same.
+ *
+ * A field whose value is ASCII is copied byte for byte. Where it is not, what
+ * becomes of it is what hennelaku_downgrade makes of it in a current message,
+ * but for this:
+ *
+ *     address     a mailbox with an address that is not ASCII becomes its
+ *                 phrase, the address in encoded words and `:;`; a group with
+ *                 such a member its phrase, all between its colon and its
+ *                 semicolon in encoded words and `:;`. No Downgraded- field
+ *                 follows; only a text that is no list of addresses, or that
+ *                 has an inner alternative, is put into one
+ *     Message-ID Resent-Message-ID In-Reply-To References: where non-ASCII
+ *                 stands outside comments, Downgraded- before the name, all of
+ *                 the text in encoded words
+ *     Content-Language Accept-Language Auto-Submitted: as Date
+ *     any other   the name as it is, text in encoded words
+ *
+ * With room >= HENNELAKU_HEADER_ROOM_FOR(header_len), or
+ * HENNELAKU_HEADER_ROOM_MAX, 8 is never answered.
+ *
+ * What a caller owes, and what holds of the call besides, is the same as for
+ * hennelaku_downgrade: header and buffer do not overlap, and a pointer whose
+ * length is 0 may be null.
+ */
+hennelaku_mailbox_answer hennelaku_downgrade_mailbox(
+    const uint8_t *header, size_t header_len,
+    uint8_t *buffer, size_t room);
+
+/*
+ * The numbers of the reader's answers. Of the refusals, 1 to 5, the lowest that
+ * holds of the whole field is told.
+ */
+enum hennelaku_read_number {
+    /* The text stands in the buffer. */
+    HENNELAKU_READ_TEXT = 0,
+    /* The field is malformed: a line without CRLF, a name over 87 bytes, ... */
+    HENNELAKU_READ_FIELD = 1,
+    /* An encoded word is malformed, or in another encoding than Q or B. */
+    HENNELAKU_READ_WORD = 2,
+    /* An encoded word has another charset than UTF-8. */
+    HENNELAKU_READ_CHARSET = 3,
+    /* The bytes of an encoded word are not UTF-8. */
+    HENNELAKU_READ_UTF8 = 4,
+    /* The text is longer than the buffer: length says what it needs. */
+    HENNELAKU_READ_ROOM = 5,
+    /* No field begins at place or later. */
+    HENNELAKU_READ_NONE = 6
+};
+
+/* What hennelaku_read_downgraded answers. */
+typedef struct hennelaku_read_answer {
+    uint32_t number;  /* one of enum hennelaku_read_number */
+    size_t start;     /* where the field begins; header_len for 6 */
+    size_t next;      /* the place after the field; header_len for 6 */
+    size_t length;    /* 0: bytes of the text; 5: bytes it needs; else 0 */
+} hennelaku_read_answer;
+
+/*
+ * Reads the first field of a header that begins at place or later and whose
+ * line begins with `Downgraded-`, in any letter case. Calls from place 0 on,
+ * each with the place `next` of the one before, find every such field once, in
+ * order; a refused one too.
+ *
+ * header: any bytes, of any length. Only CRLF ends a line. A field goes on in
+ * the lines begun by a space or a TAB.
+ *
+ * The text is the field's value without the CRLF of its folds and without
+ * spaces and TABs at its front. In it each run of bytes between spaces and TABs
+ * that begins with `=?`, ends with `?=` and has at least four bytes is an
+ * encoded word of RFC 2047, and is decoded: charset UTF-8, encoding Q or B, in
+ * any letter case. White space between two words is dropped; all else stays. On
+ * a header that hennelaku_downgrade or hennelaku_downgrade_mailbox wrote, each
+ * Downgraded- field that it added reads as exactly the text that was encoded.
+ *
+ * After number 0 the first length bytes of buffer are the text, in UTF-8 where
+ * the field is; control bytes that were encoded are in it as they are, so that
+ * it is not to be shown on a terminal without quoting. No byte past the length
+ * is touched; after any other number no byte has changed. No text is longer
+ * than its field: a room of header_len bytes always suffices.
+ *
+ * What a caller owes, and what holds of the call besides, is the same as for
+ * hennelaku_downgrade: header and buffer do not overlap, and a pointer whose
+ * length is 0 may be null.
+ */
+hennelaku_read_answer hennelaku_read_downgraded(
+    const uint8_t *header, size_t header_len, size_t place,
+    uint8_t *buffer, size_t room);
 
 /* The meaning of a number in English, for a log. Never null. */
 const char *hennelaku_number_text(uint32_t number);

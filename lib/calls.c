@@ -22,6 +22,14 @@ void hennelaku_downgrade_batch_slices(
     uint8_t *envelope_buffer, size_t envelope_room,
     uint8_t *header_buffer, size_t header_room);
 
+hennelaku_mailbox_answer hennelaku_downgrade_mailbox_slices(
+    const uint8_t *header, size_t header_len,
+    uint8_t *buffer, size_t room);
+
+hennelaku_read_answer hennelaku_read_downgraded_slices(
+    const uint8_t *header, size_t header_len, size_t place,
+    uint8_t *buffer, size_t room);
+
 hennelaku_answer hennelaku_downgrade(
     uint64_t setting,
     const uint8_t *envelope, size_t envelope_len,
@@ -55,6 +63,28 @@ void hennelaku_downgrade_batch(
         records_len == 0 ? &no_number : records, records_len,
         envelope_room == 0 ? &none[1] : envelope_buffer, envelope_room,
         header_room == 0 ? &none[2] : header_buffer, header_room);
+}
+
+hennelaku_mailbox_answer hennelaku_downgrade_mailbox(
+    const uint8_t *header, size_t header_len,
+    uint8_t *buffer, size_t room)
+{
+    uint8_t none[2] = {0, 0};
+
+    return hennelaku_downgrade_mailbox_slices(
+        header_len == 0 ? &none[0] : header, header_len,
+        room == 0 ? &none[1] : buffer, room);
+}
+
+hennelaku_read_answer hennelaku_read_downgraded(
+    const uint8_t *header, size_t header_len, size_t place,
+    uint8_t *buffer, size_t room)
+{
+    uint8_t none[2] = {0, 0};
+
+    return hennelaku_read_downgraded_slices(
+        header_len == 0 ? &none[0] : header, header_len, place,
+        room == 0 ? &none[1] : buffer, room);
 }
 
 /* What the library has to say of a number. */

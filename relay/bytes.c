@@ -28,7 +28,7 @@ int part_equal(part a, part b)
         && (a.len == 0 || memcmp(a.bytes, b.bytes, a.len) == 0);
 }
 
-static uint8_t lower(uint8_t c)
+uint8_t lower_case(uint8_t c)
 {
     return c >= 'A' && c <= 'Z' ? (uint8_t)(c + ('a' - 'A')) : c;
 }
@@ -41,7 +41,7 @@ int part_equal_in_any_case(part a, part b)
         return 0;
     }
     for (i = 0; i < a.len; i++) {
-        if (lower(a.bytes[i]) != lower(b.bytes[i])) {
+        if (lower_case(a.bytes[i]) != lower_case(b.bytes[i])) {
             return 0;
         }
     }

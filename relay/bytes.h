@@ -26,6 +26,9 @@ part part_between(part p, size_t from, size_t to);
 
 int part_equal(part a, part b);
 
+/* An ASCII letter made small; every other byte as it is. */
+uint8_t lower_case(uint8_t c);
+
 /* The same bytes but for the case of ASCII letters. */
 int part_equal_in_any_case(part a, part b);
 

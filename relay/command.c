@@ -15,6 +15,7 @@
 #include "downgrade.h"
 #include "lines.h"
 #include "message.h"
+#include "queued.h"
 
 /* Exit statuses of sysexits.h. */
 enum {
@@ -39,7 +40,8 @@ typedef struct message {
 
 static int print_usage(FILE *out)
 {
-    fputs("usage: hennelaku [--current] [FILE|-]\n", out);
+    fputs("usage: hennelaku [--current] [FILE|-]\n"
+          "       " QUEUED_USAGE "\n", out);
     return STATUS_USAGE;
 }
 
@@ -57,9 +59,14 @@ static int print_help(void)
           "is taken\n"
           "  --help     this text\n"
           "  --version  the version\n"
+          "With --from and --to the file has no envelope lines, and is taken "
+          "as by hennelaku-pipe:\n"
+          "    postcat -q ID -h -b | hennelaku --alternatives FILE --from "
+          "SENDER --to RECIPIENT -\n"
           "Exit status: 0 written, 64 wrong usage, 65 refused, 66 no such "
           "file, 70 a fault of the\n"
-          "library, 71 no memory, 74 not read or written to the end.\n",
+          "library, 71 no memory, 74 not read or written to the end, 75 would stay "
+          "in the queue.\n",
           stdout);
     return STATUS_WRITTEN;
 }
@@ -303,6 +310,9 @@ int main(int argc, char **argv)
     if (argc == 2 && strcmp(argv[1], "--version") == 0) {
         puts("hennelaku " HENNELAKU_VERSION_TEXT);
         return STATUS_WRITTEN;
+    }
+    if (is_queued(argc, argv)) {
+        return show_queued(argc, argv);
     }
     if (argc > 1 && strcmp(argv[1], "--current") == 0) {
         setting = HENNELAKU_CURRENT;

@@ -5,10 +5,10 @@
 
 #include "lines.h"
 #include "message.h"
+#include "refusal.h"
 
-/* So many columns of an address, a line and a file's name are told. */
+/* So many columns of an address and a file's name are told. */
 #define MAX_ADDRESS 512
-#define MAX_LINE 60
 #define MAX_NAME 200
 
 /* So many recipients are told. */
@@ -17,7 +17,7 @@
 static void add_path(buffer *to, part path)
 {
     buffer_add_text(to, "<");
-    add_quoted(to, path, MAX_ADDRESS);
+    add_readable(to, path, MAX_ADDRESS);
     buffer_add_text(to, ">");
 }
 
@@ -34,6 +34,12 @@ static int end(delivery *d, int status, const char *enhanced,
 static int end_no_memory(delivery *d)
 {
     return end(d, STATUS_LATER, "4.3.0", "no memory");
+}
+
+static void add_remedy(delivery *d, const char *remedy)
+{
+    buffer_add_text(&d->text, "; what to do: ");
+    buffer_add_text(&d->text, remedy);
 }
 
 static int read_message(delivery *d, FILE *in)
@@ -76,49 +82,70 @@ static int check_line_ends(delivery *d)
     }
     end(d, STATUS_MESSAGE, "5.6.0", "line ");
     buffer_add_number(&d->text, count_lines(part_between(all, 0, at)) + 1);
-    buffer_add_text(&d->text, " of the message has a CR that does not end it");
+    buffer_add_text(&d->text, " of the message has a CR that does not end it, "
+                    "which SMTP forbids");
+    add_remedy(d, "take the CR out, and send it again");
     return 0;
 }
 
-/* Ends the delivery by the file of alternatives, and a line of it if not 0. */
-static int end_by_file(delivery *d, size_t line, const char *reason)
+static void add_requeue(delivery *d)
+{
+    if (d->options->queue_id != NULL) {
+        buffer_add_text(&d->text, "postsuper -r ");
+        add_quoted(&d->text, part_of(d->options->queue_id), MAX_NAME);
+    } else {
+        buffer_add_text(&d->text, "postsuper -r ID");
+    }
+}
+
+/* Ends the delivery by the alternatives, and a line of them if not 0. */
+static int end_by_file(delivery *d, file_fault fault)
 {
     end(d, STATUS_LATER, "4.3.5", "");
-    add_quoted(&d->text, part_of(d->options->alternatives), MAX_NAME);
-    if (line > 0) {
+    add_readable(&d->text, part_of(d->options->alternatives), MAX_NAME);
+    if (fault.line > 0) {
         buffer_add_text(&d->text, ":");
-        buffer_add_number(&d->text, line);
+        buffer_add_number(&d->text, fault.line);
     }
     buffer_add_text(&d->text, ": ");
-    buffer_add_text(&d->text, reason);
+    buffer_add_text(&d->text, fault.reason);
+    add_remedy(d, d->known.is_table
+               ? "mend it, make it by postmap -f, and requeue with "
+               : "mend it, put it in place with hennelaku-pipe --install, and "
+                 "requeue with ");
+    add_requeue(d);
     return 0;
 }
 
+/* Whether every address of the envelope is ASCII. */
+static int has_ascii_envelope(const delivery *d)
+{
+    const envelope_addresses *a = &d->options->addresses;
+    size_t line;
+
+    for (line = 0; line <= a->recipient_count; line++) {
+        if (!part_is_ascii(address_at(a, line))) {
+            return 0;
+        }
+    }
+    return 1;
+}
+
+/* ASCII addresses have no alternatives, and do not wait for a file of them. */
 static int read_alternatives(delivery *d)
 {
     file_fault fault;
-    enum read_result r;
-    FILE *in;
 
-    if (d->options->alternatives == NULL) {
-        return 1;
-    }
-    in = fopen(d->options->alternatives, "rb");
-    if (in == NULL) {
-        return end_by_file(d, 0, strerror(errno));
-    }
-    r = read_all(in, MAX_ALTERNATIVES, &d->alternatives);
-    if (r != READ_DONE) {
-        end_by_file(d, 0, r == READ_FAILED ? strerror(errno)
-                        : r == READ_TOO_LONG ? "too long" : "no memory");
-    }
-    fclose(in);
-    if (r != READ_DONE) {
-        return 0;
-    }
-    check_alternatives(buffer_part(&d->alternatives), &fault);
-    return fault.reason == NULL ? 1
-        : end_by_file(d, fault.line, fault.reason);
+    return d->options->alternatives == NULL || has_ascii_envelope(d)
+        || alternatives_open(&d->known, d->options->alternatives, &fault)
+        || end_by_file(d, fault);
+}
+
+/* A message with an ASCII envelope and header goes on as it is, whatever its
+ * size and its lines: there is nothing to downgrade. */
+static int is_untouched(const delivery *d)
+{
+    return has_ascii_envelope(d) && part_is_ascii(buffer_part(&d->header));
 }
 
 static int make_envelope(delivery *d)
@@ -126,29 +153,64 @@ static int make_envelope(delivery *d)
     const envelope_addresses *a = &d->options->addresses;
     envelope_result r;
 
-    if (a->recipient_count > HENNELAKU_MAX_RECIPIENTS) {
+    if (a->recipient_count > HENNELAKU_MAX_RECIPIENTS
+        && !is_untouched(d)) {
         return end(d, STATUS_LATER, "4.5.3", "more than 100 recipients: set "
                    "the transport's destination_recipient_limit to 1");
     }
-    r = add_envelope(&d->envelope, a, buffer_part(&d->alternatives));
+    r = add_envelope(&d->envelope, a, &d->known);
     if (r.number == ENVELOPE_ALTERNATIVES) {
-        return end_by_file(d, r.fault.line, r.fault.reason);
+        return end_by_file(d, r.fault);
     }
     if (r.number == ENVELOPE_NOT_ADDRESS) {
         end(d, STATUS_MESSAGE, r.line == 0 ? "5.1.7" : "5.1.3", "");
         add_path(&d->text, address_at(a, r.line));
         buffer_add_text(&d->text, ": not an address");
+        add_remedy(d, "correct the address, and send it again");
         return 0;
     }
     return d->envelope.failed ? end_no_memory(d) : 1;
 }
 
-/* Tells the library's refusal: the address, or the line of the header. */
+/* Tells a refusal of the envelope: the address, the rule, what to do. */
+static void add_envelope_refusal(delivery *d, const char *rule)
+{
+    hennelaku_answer answer = d->downgraded.answer;
+    const char *file = d->options->alternatives;
+
+    if (answer.number == HENNELAKU_TOO_LONG) {
+        buffer_add_text(&d->text, "the addresses have ");
+        buffer_add_number(&d->text, d->envelope.len);
+        buffer_add_text(&d->text, " bytes; at most ");
+        buffer_add_number(&d->text, HENNELAKU_MAX_ENVELOPE);
+        buffer_add_text(&d->text, " can be downgraded");
+        return;
+    }
+    add_path(&d->text, address_at(&d->options->addresses, answer.place));
+    buffer_add_text(&d->text, ": ");
+    buffer_add_text(&d->text, rule);
+    if (answer.number != HENNELAKU_NO_ALT_ADDRESS) {
+        return;
+    }
+    if (d->options->setting != HENNELAKU_SPOOL) {
+        add_remedy(d, "name an ASCII address, and send it again");
+        return;
+    }
+    add_remedy(d, "add a line for this address to ");
+    if (file == NULL) {
+        buffer_add_text(&d->text, "a file of alternatives and name it by -a");
+    } else {
+        add_readable(&d->text, part_of(file), MAX_NAME);
+    }
+    buffer_add_text(&d->text, "; then send it again, or where the queue has "
+                    "it still requeue with ");
+    add_requeue(d);
+}
+
 static int end_by_library(delivery *d)
 {
     hennelaku_answer answer = d->downgraded.answer;
     hennelaku_reply reply = hennelaku_smtp_reply(answer.number);
-    part_line l;
 
     if (answer.number == HENNELAKU_TOO_LONG
         && answer.input == HENNELAKU_ENVELOPE
@@ -158,79 +220,94 @@ static int end_by_library(delivery *d)
     }
     end(d, reply.code < 500 ? STATUS_LATER : STATUS_MESSAGE, reply.enhanced,
         "");
-    if (answer.number >= HENNELAKU_ENVELOPE_LINE
-        && answer.number <= HENNELAKU_HELD) {
-        if (answer.input == HENNELAKU_ENVELOPE) {
-            add_path(&d->text,
-                     address_at(&d->options->addresses, answer.place));
-            buffer_add_text(&d->text, ": ");
-        } else if (find_line(buffer_part(&d->header), answer.offset, &l)) {
-            buffer_add_text(&d->text, "\"");
-            add_quoted(&d->text, l.text, MAX_LINE);
-            buffer_add_text(&d->text, "\": ");
-        }
+    if (answer.input == HENNELAKU_ENVELOPE) {
+        add_envelope_refusal(d, reply.text);
+    } else if (answer.input == HENNELAKU_HEADER) {
+        add_header_refusal(&d->text, buffer_part(&d->header), answer);
+        add_remedy(d, header_remedy(answer));
+    } else {
+        buffer_add_text(&d->text, reply.text);
     }
-    buffer_add_text(&d->text, reply.text);
     return 0;
 }
 
-/* Parts header and body; takes Bcc off, and downgrades. */
-static int downgrade_message(delivery *d, part *body)
+/* Parts header and body, and takes Bcc off. */
+static int part_message(delivery *d)
 {
     part rest = buffer_part(&d->message);
     part header;
 
-    if (!cut_at_empty_line(&rest, &header)) {
+    d->has_empty_line = cut_at_empty_line(&rest, &header);
+    if (!d->has_empty_line) {
         header = rest;
         rest = part_between(rest, rest.len, rest.len);
     }
-    *body = rest;
+    d->body = rest;
     add_without_bcc(&d->header, header);
-    if (d->header.failed
-        || !downgrade(d->options->setting, buffer_part(&d->envelope),
-                      buffer_part(&d->header), &d->downgraded)) {
+    return d->header.failed ? end_no_memory(d) : 1;
+}
+
+/* Downgrades envelope and header, or leaves them as they are. */
+static int downgrade_message(delivery *d)
+{
+    if (is_untouched(d)) {
+        buffer_add(&d->downgraded.envelope, buffer_part(&d->envelope));
+        buffer_add(&d->downgraded.header, buffer_part(&d->header));
+        return d->downgraded.envelope.failed || d->downgraded.header.failed
+            ? end_no_memory(d) : 1;
+    }
+    if (!downgrade(d->options->setting, buffer_part(&d->envelope),
+                   buffer_part(&d->header), &d->downgraded)) {
         return end_no_memory(d);
     }
     d->is_downgraded = 1;
+    d->has_empty_line = 1;
     return d->downgraded.answer.number == HENNELAKU_OK ? 1
         : end_by_library(d);
 }
 
 /* Sends the downgraded message. */
-static int send_message(delivery *d, part body)
+static int send_message(delivery *d)
 {
     part header = buffer_part(&d->downgraded.header);
     smtp_message m;
 
-    add_data(&d->data, header, body);
+    add_data(&d->data, header, d->has_empty_line, d->body);
     if (d->data.failed) {
         return end_no_memory(d);
     }
     m.envelope = buffer_part(&d->downgraded.envelope);
     m.data = buffer_part(&d->data);
-    m.size = header.len + 2 + body.len;
-    m.is_8bit = !part_is_ascii(body);
+    m.size = header.len + (d->has_empty_line ? 2 : 0) + d->body.len;
+    m.is_8bit = !part_is_ascii(d->body);
     smtp_deliver(&d->options->smtp, &m, &d->sent);
     d->status = d->sent.outcome == SMTP_SENT ? STATUS_DELIVERED
               : d->sent.outcome == SMTP_REFUSED ? STATUS_NEXT_HOP
               : STATUS_LATER;
     memcpy(d->enhanced, d->sent.enhanced, sizeof d->enhanced);
+    if (d->status == STATUS_DELIVERED && is_loopback(d->options->smtp.hop)) {
+        buffer_add_text(&d->text, "re-injected: ");
+    }
     buffer_add(&d->text, buffer_part(&d->sent.text));
     return d->status == STATUS_DELIVERED;
 }
 
-void deliver(delivery *d, const delivery_options *options, FILE *in)
+int prepare(delivery *d, const delivery_options *options, FILE *in)
 {
-    part body;
-
     d->options = options;
     d->status = STATUS_LATER;
     if (!library_fits()) {
-        end(d, STATUS_LATER, "4.3.5", "the library is of another version");
-    } else if (read_message(d, in) && check_line_ends(d)
-               && read_alternatives(d) && make_envelope(d)
-               && downgrade_message(d, &body)) {
-        send_message(d, body);
+        return end(d, STATUS_LATER, "4.3.5",
+                   "the library is of another version");
+    }
+    return read_message(d, in) && check_line_ends(d) && part_message(d)
+        && read_alternatives(d) && make_envelope(d) && downgrade_message(d);
+}
+
+void deliver(delivery *d, const delivery_options *options, FILE *in)
+{
+    if (prepare(d, options, in)) {
+        send_message(d);
     }
 }
 
@@ -291,7 +368,7 @@ void delivery_clear(delivery *d)
 {
     buffer_clear(&d->input);
     buffer_clear(&d->message);
-    buffer_clear(&d->alternatives);
+    alternatives_clear(&d->known);
     buffer_clear(&d->envelope);
     buffer_clear(&d->header);
     buffer_clear(&d->data);

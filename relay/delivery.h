@@ -4,6 +4,7 @@
 
 #include <stdio.h>
 
+#include "alternatives.h"
 #include "downgrade.h"
 #include "envelope.h"
 #include "smtp.h"
@@ -19,7 +20,7 @@ typedef struct delivery_options {
     smtp_options smtp;
     envelope_addresses addresses;
     uint64_t setting;          /* of the library's call */
-    const char *alternatives;  /* the name of the file; null for none */
+    const char *alternatives;  /* the name of the file or table; null for none */
     const char *queue_id;      /* null where it is not known */
 } delivery_options;
 
@@ -28,17 +29,24 @@ typedef struct delivery {
     const delivery_options *options;
     buffer input;           /* as it came */
     buffer message;         /* its lines end in CRLF */
-    buffer alternatives;    /* the file's text */
+    alternatives known;
     buffer envelope;
     buffer header;          /* without Bcc */
+    int has_empty_line;     /* after the header that goes out */
+    part body;              /* of the message */
     buffer data;            /* what is sent after DATA */
     downgraded downgraded;
     int is_downgraded;      /* the library was asked */
     smtp_result sent;
     int status;             /* the exit status */
     char enhanced[12];      /* status code of RFC 3463, of the same class */
-    buffer text;            /* why, in printable ASCII */
+    buffer text;            /* why, in UTF-8 that a log takes */
 } delivery;
+
+/* Reads a message and makes of it what would be sent: the envelope and header in
+ * `downgraded`, and the body. Returns 0 where nothing would be, and sets status,
+ * enhanced, text. */
+int prepare(delivery *d, const delivery_options *options, FILE *in);
 
 /* Delivers the message that is read from `in`: sets status, enhanced, text. */
 void deliver(delivery *d, const delivery_options *options, FILE *in);

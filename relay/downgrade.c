@@ -39,14 +39,13 @@ void downgraded_clear(downgraded *d)
     d->answer = none;
 }
 
+/* The header is malformed, which the library says after it has found the envelope
+ * good, and before it measures what goes out. */
 int is_envelope(part envelope)
 {
     buffer no_room = {NULL, 0, 0, 0};
     buffer none_either = {NULL, 0, 0, 0};
-    part no_header = {NULL, 0};
-    uint32_t number = call(HENNELAKU_SPOOL, envelope, no_header, &no_room,
-                           &none_either).number;
 
-    return number == HENNELAKU_OK || number == HENNELAKU_ENVELOPE_ROOM
-        || number == HENNELAKU_HEADER_ROOM;
+    return call(HENNELAKU_SPOOL, envelope, part_of("?"), &no_room,
+                &none_either).number == HENNELAKU_HEADER_LINE;
 }

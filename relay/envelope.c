@@ -16,27 +16,29 @@ static int is_path(part p, size_t line)
                       : part_equal_in_any_case(p, part_of("Postmaster")));
 }
 
-static void add_line(buffer *to, size_t line, part path, part alternatives,
-                     envelope_result *r)
+static void add_line(buffer *to, size_t line, part path,
+                     const alternatives *known, envelope_result *r)
 {
-    part alternative;
+    buffer alternative = {NULL, 0, 0, 0};
 
     buffer_add_text(to, line == 0 ? "MAIL FROM:<" : "RCPT TO:<");
     buffer_add(to, path);
     buffer_add_text(to, ">");
     if (!part_is_ascii(path)) {
-        if (find_alternative(alternatives, path, &alternative, &r->fault)) {
+        if (find_alternative(known, path, &alternative, &r->fault)) {
             buffer_add_text(to, " ALT-ADDRESS=");
-            add_xtext(to, alternative);
+            add_xtext(to, buffer_part(&alternative));
+            to->failed |= alternative.failed;
         } else if (r->fault.reason != NULL) {
             r->number = ENVELOPE_ALTERNATIVES;
         }
+        buffer_clear(&alternative);
     }
     buffer_add_text(to, "\r\n");
 }
 
 envelope_result add_envelope(buffer *to, const envelope_addresses *a,
-                             part alternatives)
+                             const alternatives *known)
 {
     envelope_result r = {ENVELOPE_GOOD, 0, {0, NULL}};
 
@@ -46,7 +48,7 @@ envelope_result add_envelope(buffer *to, const envelope_addresses *a,
         if (!is_path(path, r.line)) {
             r.number = ENVELOPE_NOT_ADDRESS;
         } else {
-            add_line(to, r.line, path, alternatives, &r);
+            add_line(to, r.line, path, known, &r);
         }
         if (r.number != ENVELOPE_GOOD) {
             break;

@@ -27,9 +27,9 @@ typedef struct envelope_result {
 part address_at(const envelope_addresses *a, size_t line);
 
 /* Adds `MAIL FROM:<..>` and for each recipient `RCPT TO:<..>`, with ALT-ADDRESS
- * where an address is not ASCII and the text of alternatives has one for it. */
+ * where an address is not ASCII and has a known alternative. */
 envelope_result add_envelope(buffer *to, const envelope_addresses *a,
-                             part alternatives);
+                             const alternatives *known);
 
 /* The path on a line of an outgoing envelope. */
 part path_at(part envelope, size_t line);

@@ -1,5 +1,9 @@
 #include "lines.h"
 
+#include <string.h>
+
+#include "characters.h"
+
 size_t next_crlf(part p, size_t at)
 {
     size_t i;
@@ -43,29 +47,13 @@ size_t count_lines(part p)
     return count;
 }
 
-/* The length of the character at `at` (RFC 3629, section 4); 1 for a byte that
- * belongs to none. */
+/* The length of the character at `at`; 1 for a byte that belongs to none. */
 static size_t character_len(part p, size_t at)
 {
-    uint8_t lead = p.bytes[at];
-    uint8_t low = lead == 0xE0 ? 0xA0 : lead == 0xF0 ? 0x90 : 0x80;
-    uint8_t high = lead == 0xED ? 0x9F : lead == 0xF4 ? 0x8F : 0xBF;
-    size_t len = lead < 0xC2 || lead > 0xF4 ? 1
-               : lead < 0xE0 ? 2
-               : lead < 0xF0 ? 3 : 4;
-    size_t i;
+    uint32_t number;
+    size_t len = character_at(p, at, &number);
 
-    if (len > p.len - at) {
-        return 1;
-    }
-    for (i = 1; i < len; i++) {
-        if (p.bytes[at + i] < low || p.bytes[at + i] > high) {
-            return 1;
-        }
-        low = 0x80;
-        high = 0xBF;
-    }
-    return len;
+    return len == 0 ? 1 : len;
 }
 
 size_t character_column(part text, size_t at)
@@ -80,6 +68,41 @@ size_t character_column(part text, size_t at)
         }
     }
     return column;
+}
+
+/* Characters past ASCII that a reader does not see, or that change the order in
+ * which others are seen: from the first of each row to its last. */
+static const uint32_t hidden[][2] = {
+    {0x80, 0xA0},        /* C1 controls, no-break space */
+    {0xAD, 0xAD},        /* soft hyphen */
+    {0x34F, 0x34F},      /* combining grapheme joiner */
+    {0x61C, 0x61C},      /* Arabic letter mark */
+    {0x115F, 0x1160},    /* Hangul fillers */
+    {0x17B4, 0x17B5},    /* Khmer inherent vowels */
+    {0x180B, 0x180F},    /* Mongolian variation selectors */
+    {0x2000, 0x200F},    /* spaces, zero width, left-to-right marks */
+    {0x2028, 0x202F},    /* line separators, embeddings and overrides */
+    {0x205F, 0x206F},    /* invisible operators, isolates */
+    {0x3000, 0x3000},    /* ideographic space */
+    {0x3164, 0x3164},    /* Hangul filler */
+    {0xE000, 0xF8FF},    /* private use */
+    {0xFE00, 0xFE0F},    /* variation selectors */
+    {0xFEFF, 0xFEFF},    /* byte order mark */
+    {0xFFA0, 0xFFA0},    /* halfwidth Hangul filler */
+    {0xFFF0, 0xFFFF},    /* specials */
+    {0xE0000, 0x10FFFF}  /* tags, variation selectors, private use */
+};
+
+static int is_hidden(uint32_t c)
+{
+    size_t i;
+
+    for (i = 0; i < sizeof hidden / sizeof hidden[0]; i++) {
+        if (c >= hidden[i][0] && c <= hidden[i][1]) {
+            return 1;
+        }
+    }
+    return 0;
 }
 
 /* How many columns a quoted byte takes: \xNN for one that is not printable
@@ -122,6 +145,44 @@ void add_quoted(buffer *b, part p, size_t columns)
         columns -= quoted_width(p.bytes[i]);
         spell(p.bytes[i], spelling);
         buffer_add_text(b, spelling);
+    }
+}
+
+/* Spells the character at `at`, and says how many bytes it has. */
+static size_t spell_readable(part p, size_t at, char spelling[16])
+{
+    uint32_t c;
+    size_t len = character_at(p, at, &c);
+
+    if (len < 2) {
+        len = 1;
+        spell(p.bytes[at], spelling);
+    } else if (is_hidden(c)) {
+        snprintf(spelling, 16, "\\u{%X}", (unsigned)c);
+    } else {
+        memcpy(spelling, p.bytes + at, len);
+        spelling[len] = '\0';
+    }
+    return len;
+}
+
+void add_readable(buffer *b, part p, size_t columns)
+{
+    char spelling[16];
+    size_t i = 0;
+
+    while (i < p.len) {
+        size_t len = spell_readable(p, i, spelling);
+        size_t width = len > 1 && spelling[0] != '\\' ? 1
+                                                       : strlen(spelling);
+
+        if (width > columns) {
+            buffer_add_text(b, "...");
+            return;
+        }
+        columns -= width;
+        buffer_add_text(b, spelling);
+        i += len;
     }
 }
 

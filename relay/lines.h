@@ -38,6 +38,13 @@ size_t character_column(part text, size_t at);
  * `columns` of them, and then three dots. */
 void add_quoted(buffer *b, part p, size_t columns);
 
+/* Adds a text as people read it, in UTF-8: what add_quoted would spell is spelled
+ * so where it is ASCII or no UTF-8, and a character that is not seen, or changes
+ * the order of others (controls, bidirectional ones, zero width), as \u{NNNN}.
+ * No more than `columns` characters, spellings counted in full, and then three
+ * dots. */
+void add_readable(buffer *b, part p, size_t columns);
+
 /* Writes a line in quotes, and below it a mark under the byte at `at`. What
  * follows the text is not quoted: the mark is then under the closing quote, and
  * says what it stands for. */

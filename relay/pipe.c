@@ -13,235 +13,187 @@
  */
 #define _XOPEN_SOURCE 700
 
-#include <errno.h>
-#include <fcntl.h>
 #include <signal.h>
 #include <stdio.h>
 #include <string.h>
-#include <syslog.h>
-#include <unistd.h>
+#include <sys/stat.h>
 
 #include "delivery.h"
 #include "lines.h"
-#include "message.h"
+#include "log.h"
+#include "settings.h"
+#include "whole_file.h"
 
 #define USAGE \
     "usage: hennelaku-pipe -n HOST:PORT [-a FILE | -s current] [-q ID] " \
     "[-t SECONDS] [-e NAME] [-l FILE] -f SENDER -- RECIPIENT.."
 
-/* Statuses of --check, which Postfix never sees. */
+/* Where --install puts a file that is given no other place. */
+#define INSTALLED "/etc/postfix/alternatives"
+
+/* Statuses of --check and --install, which Postfix never sees. */
 enum {
     STATUS_GOOD_FILE = 0,
     STATUS_BAD_FILE = 65,
-    STATUS_NO_FILE = 66
+    STATUS_NO_FILE = 66,
+    STATUS_NOT_WRITTEN = 73
 };
-
-typedef struct settings {
-    delivery_options delivery;
-    smtp_hop hop;
-    char own_name[256];
-    const char *log;  /* null for syslog */
-    int has_hop;
-    int has_sender;
-} settings;
 
 static void print_help(void)
 {
     puts(USAGE "\n"
          "       hennelaku-pipe --check FILE\n"
+         "       hennelaku-pipe --install FILE [TO]\n"
          "Downgrades a message from standard input to ASCII by RFC 5504 and "
          "delivers it by SMTP.\n"
          "  -n HOST:PORT  the next hop; also [HOST]:PORT\n"
          "  -a FILE       alternatives: an address and its ASCII address on "
-         "each line\n"
+         "each line, and a last\n"
+         "                line '" CLOSING_LINE "'; or cdb:NAME, a table by "
+         "postmap -f\n"
          "  -s SETTING    spool, as without this option, or current: no "
          "alternatives are taken,\n"
          "                and an address that is not ASCII is refused\n"
          "  -q ID         the queue's name of the message, for the log\n"
          "  -t SECONDS    wait for no answer longer than this\n"
          "  -e NAME       the name for EHLO, where not this machine's\n"
-         "  -l FILE       log to this file, not to syslog\n"
-         "  --check FILE  look at a file of alternatives, and deliver "
-         "nothing");
+         "  -l FILE       log to this file, not to the mail log\n"
+         "  --check FILE  look at a file or table of alternatives, and "
+         "deliver nothing\n"
+         "  --install FILE [TO]\n"
+         "                check a file of alternatives, and put it in the "
+         "place of TO by rename;\n"
+         "                TO is " INSTALLED " where it is not given");
 }
 
-/* A number from 1 to 86400. */
-static int read_seconds(const char *text, int *seconds)
+/* Tells what is wrong with a file. */
+static int tell_fault(const char *name, file_fault fault)
 {
-    int value = 0;
-
-    for (; *text >= '0' && *text <= '9' && value <= 86400; text++) {
-        value = value * 10 + (*text - '0');
+    if (fault.line > 0) {
+        fprintf(stderr, "%s:%zu: %s\n", name, fault.line, fault.reason);
+        return STATUS_BAD_FILE;
     }
-    *seconds = value;
-    return *text == '\0' && value >= 1 && value <= 86400;
+    fprintf(stderr, "%s: %s\n", name, fault.reason);
+    return STATUS_NO_FILE;
 }
 
-/* A name or an address in brackets, as EHLO takes it. */
-static int read_own_name(const char *text, char name[256])
+/* Opens alternatives and looks at all of them. Returns their number, or tells
+ * what is wrong and sets a status that is not 0. */
+static size_t check_all(alternatives *a, const char *name, int *status)
 {
-    size_t len = strlen(text);
+    file_fault fault;
+    size_t count = 0;
 
-    snprintf(name, 256, "%s", text);
-    return len > 0 && len < 256
-        && strspn(text, "abcdefghijklmnopqrstuvwxyz0123456789-.:[]"
-                        "ABCDEFGHIJKLMNOPQRSTUVWXYZ") == len;
-}
-
-/* pipe(8) puts MAILER-DAEMON for the null sender unless it is told not to; no
- * other sender has no domain. */
-static part read_sender(const char *text)
-{
-    return part_of(strcmp(text, "<>") == 0
-                   || strcmp(text, "MAILER-DAEMON") == 0 ? "" : text);
-}
-
-static int read_setting(const char *text, uint64_t *setting)
-{
-    *setting = strcmp(text, "spool") == 0 ? HENNELAKU_SPOOL
-                                          : HENNELAKU_CURRENT;
-    return *setting == HENNELAKU_SPOOL || strcmp(text, "current") == 0;
-}
-
-static int read_option(settings *s, char letter, const char *value)
-{
-    switch (letter) {
-    case 'n':
-        s->has_hop = read_hop(value, &s->hop);
-        return s->has_hop;
-    case 'a':
-        s->delivery.alternatives = value;
-        return 1;
-    case 's':
-        return read_setting(value, &s->delivery.setting);
-    case 'q':
-        s->delivery.queue_id = value;
-        return 1;
-    case 't':
-        return read_seconds(value, &s->delivery.smtp.max_seconds);
-    case 'e':
-        return read_own_name(value, s->own_name);
-    case 'l':
-        s->log = value;
-        return 1;
-    case 'f':
-        s->delivery.addresses.sender = read_sender(value);
-        s->has_sender = 1;
-        return 1;
-    default:
-        return 0;
+    *status = STATUS_GOOD_FILE;
+    if (alternatives_open(a, name, &fault)) {
+        count = check_alternatives(a, &fault);
     }
-}
-
-/* Returns 0 where the arguments are wrong: a current message has no
- * alternatives, among it. */
-static int read_settings(settings *s, int argc, char **argv)
-{
-    char machine[256] = "";
-    int i = 1;
-
-    memset(s, 0, sizeof *s);
-    s->delivery.smtp.max_seconds = 86400;
-    if (gethostname(machine, sizeof machine - 1) != 0
-        || !read_own_name(machine, s->own_name)) {
-        read_own_name("localhost", s->own_name);
+    if (fault.reason != NULL) {
+        *status = tell_fault(name, fault);
     }
-    while (i < argc && argv[i][0] == '-' && strcmp(argv[i], "--") != 0) {
-        if (strlen(argv[i]) != 2 || i + 1 == argc
-            || !read_option(s, argv[i][1], argv[i + 1])) {
-            return 0;
-        }
-        i += 2;
-    }
-    if (i < argc && strcmp(argv[i], "--") == 0) {
-        i++;
-    }
-    s->delivery.smtp.hop = &s->hop;
-    s->delivery.smtp.own_name = s->own_name;
-    s->delivery.addresses.recipients = (const char *const *)(argv + i);
-    s->delivery.addresses.recipient_count = (size_t)(argc - i);
-    return s->has_hop && s->has_sender && i < argc
-        && (s->delivery.setting == HENNELAKU_SPOOL
-            || s->delivery.alternatives == NULL);
-}
-
-/* Appends a line to a file in one write, so that lines of two processes do not
- * mix. */
-static int append_line(const char *file, buffer *line)
-{
-    int fd = open(file, O_WRONLY | O_APPEND | O_CREAT, 0640);
-    int is_written;
-
-    if (fd < 0) {
-        return 0;
-    }
-    buffer_add_text(line, "\n");
-    is_written = write(fd, line->bytes, line->len) == (ssize_t)line->len;
-    line->len--;
-    return close(fd) == 0 && is_written;
-}
-
-/* What the next hop has answered stands, also where it cannot be logged. */
-static void log_delivery(const delivery *d, const char *file)
-{
-    buffer line = {NULL, 0, 0, 0};
-
-    add_log_line(&line, d);
-    if (!line.failed && (file == NULL || !append_line(file, &line))) {
-        openlog("hennelaku-pipe", LOG_PID, LOG_MAIL);
-        syslog(LOG_INFO, "%.*s", (int)line.len, (const char *)line.bytes);
-        closelog();
-    }
-    buffer_clear(&line);
+    return count;
 }
 
 static int check_file(const char *name)
 {
-    buffer text = {NULL, 0, 0, 0};
-    FILE *in = fopen(name, "rb");
-    enum read_result r = in == NULL ? READ_FAILED
-                       : read_all(in, MAX_ALTERNATIVES, &text);
-    int status = STATUS_NO_FILE;
-    file_fault fault;
+    alternatives a;
+    int status;
     size_t count;
 
-    if (r != READ_DONE) {
-        fprintf(stderr, "%s: %s\n", name, r == READ_FAILED ? strerror(errno)
-                : r == READ_TOO_LONG ? "too long" : "no memory");
-    } else {
-        count = check_alternatives(buffer_part(&text), &fault);
-        if (fault.reason == NULL) {
-            check_differing(buffer_part(&text), &fault);
-        }
-        status = fault.reason == NULL ? STATUS_GOOD_FILE : STATUS_BAD_FILE;
-        if (fault.reason != NULL) {
-            fprintf(stderr, "%s:%zu: %s\n", name, fault.line, fault.reason);
-        } else {
-            printf("%s: %zu alternatives\n", name, count);
-        }
+    memset(&a, 0, sizeof a);
+    count = check_all(&a, name, &status);
+    if (status == STATUS_GOOD_FILE) {
+        printf("%s: %zu alternatives\n", name, count);
     }
-    if (in != NULL) {
-        fclose(in);
-    }
-    buffer_clear(&text);
+    alternatives_clear(&a);
     return status;
 }
 
-/* The next hop's answer stands, also where standard output is closed or full. */
+/* Puts a file in place that was looked at: the bytes that are written are those
+ * that were read. */
+static int install_file(const char *name, const char *to)
+{
+    const char *reason;
+    alternatives a;
+    int status;
+    size_t count;
+
+    memset(&a, 0, sizeof a);
+    count = check_all(&a, name, &status);
+    if (status == STATUS_GOOD_FILE && a.is_table) {
+        fprintf(stderr, "%s: a table is put in place by postmap -f\n", name);
+        status = STATUS_BAD_FILE;
+    } else if (status == STATUS_GOOD_FILE) {
+        reason = replace_file(to, buffer_part(&a.text));
+        if (reason != NULL) {
+            fprintf(stderr, "%s: %s\n", to, reason);
+            status = STATUS_NOT_WRITTEN;
+        } else {
+            printf("%s: %zu alternatives\n", to, count);
+        }
+    }
+    alternatives_clear(&a);
+    return status;
+}
+
+/* The next hop's answer stands, also where standard output is closed or full,
+ * or the log cannot be written. */
 static int deliver_message(const settings *s)
 {
+    buffer line = {NULL, 0, 0, 0};
     delivery d;
     int status;
 
     memset(&d, 0, sizeof d);
     deliver(&d, &s->delivery, stdin);
-    log_delivery(&d, s->log);
+    add_log_line(&line, &d);
+    write_log(s->log, &line);
     printf("%s %.*s\n", d.enhanced, (int)d.text.len,
            d.text.len == 0 ? "" : (const char *)d.text.bytes);
     fflush(stdout);
     status = d.status;
+    buffer_clear(&line);
     delivery_clear(&d);
     return status;
+}
+
+/* Whether standard error goes elsewhere than standard output: pipe(8) has one
+ * file for both. */
+static int has_own_errors(void)
+{
+    struct stat out;
+    struct stat errors;
+
+    return fstat(2, &errors) == 0
+        && (fstat(1, &out) != 0 || out.st_dev != errors.st_dev
+            || out.st_ino != errors.st_ino);
+}
+
+/* Names a wrong option, where it can be seen. */
+static int tell_usage(settings *s)
+{
+    const char *id = s->delivery.queue_id;
+    buffer line = {NULL, 0, 0, 0};
+
+    buffer_add_byte(&s->fault, 0);
+    if (s->fault.failed) {
+        puts("4.3.0 no memory");
+        return STATUS_LATER;
+    }
+    printf("4.3.5 %s; see hennelaku-pipe --help\n",
+           (const char *)s->fault.bytes);
+    if (has_own_errors()) {
+        fprintf(stderr, "hennelaku-pipe: %s\n" USAGE "\n",
+                (const char *)s->fault.bytes);
+    }
+    add_quoted(&line, part_of(id == NULL ? "NOQUEUE" : id), 200);
+    buffer_add_text(&line, ": status=deferred (4.3.5 ");
+    buffer_add_text(&line, (const char *)s->fault.bytes);
+    buffer_add_text(&line, ")");
+    write_log(s->log, &line);
+    buffer_clear(&line);
+    buffer_clear(&s->fault);
+    return STATUS_LATER;
 }
 
 int main(int argc, char **argv)
@@ -260,9 +212,9 @@ int main(int argc, char **argv)
     if (argc == 3 && strcmp(argv[1], "--check") == 0) {
         return check_file(argv[2]);
     }
-    if (!read_settings(&s, argc, argv)) {
-        puts("4.3.5 " USAGE);
-        return STATUS_LATER;
+    if ((argc == 3 || argc == 4) && strcmp(argv[1], "--install") == 0) {
+        return install_file(argv[2], argc == 4 ? argv[3] : INSTALLED);
     }
-    return deliver_message(&s);
+    return read_settings(&s, argc, argv) ? deliver_message(&s)
+                                         : tell_usage(&s);
 }

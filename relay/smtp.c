@@ -363,10 +363,12 @@ static void add_lines(buffer *to, part lines)
     }
 }
 
-void add_data(buffer *to, part header, part body)
+void add_data(buffer *to, part header, int has_empty_line, part body)
 {
     add_lines(to, header);
-    buffer_add_text(to, "\r\n");
+    if (has_empty_line) {
+        buffer_add_text(to, "\r\n");
+    }
     add_lines(to, body);
     buffer_add_text(to, ".\r\n");
 }

@@ -16,6 +16,9 @@ typedef struct smtp_hop {
  * where it is none of them. */
 int read_hop(const char *text, smtp_hop *hop);
 
+/* Whether the next hop is this machine, by its name or address. */
+int is_loopback(const smtp_hop *hop);
+
 typedef struct smtp_message {
     part envelope;   /* MAIL and RCPT lines without parameters */
     part data;       /* as it is sent, closed by the dot */
@@ -25,8 +28,8 @@ typedef struct smtp_message {
 
 /* Adds a message as it is sent after DATA: header, empty line, body, dots that
  * start a line doubled, the closing dot (RFC 5321, section 4.5.2). Every line
- * of header and body ends in CRLF. */
-void add_data(buffer *to, part header, part body);
+ * of header and body ends in CRLF; without an empty line there is no body. */
+void add_data(buffer *to, part header, int has_empty_line, part body);
 
 typedef struct smtp_options {
     const smtp_hop *hop;

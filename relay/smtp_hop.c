@@ -60,3 +60,12 @@ int read_hop(const char *text, smtp_hop *hop)
         && find(part_between(rest, 1, rest.len), ':') == rest.len - 1
         && copy(part_between(rest, 1, rest.len), hop->port, sizeof hop->port);
 }
+
+int is_loopback(const smtp_hop *hop)
+{
+    part host = part_of(hop->host);
+
+    return part_equal_in_any_case(host, part_of("localhost"))
+        || part_equal(host, part_of("::1"))
+        || strncmp(hop->host, "127.", 4) == 0;
+}

@@ -1,4 +1,4 @@
-//! Tells the linker where libhennelaku.a lies, for the feature `proved` alone.
+//! With the feature `proved`: says what to do where libhennelaku.a is missing. The crate `hennelaku` links it.
 
 use std::env;
 use std::path::PathBuf;
@@ -18,5 +18,4 @@ fn main() {
         std::process::exit(1);
     }
     println!("cargo:rerun-if-changed={}", library.display());
-    println!("cargo:rustc-link-search=native={}", folder.display());
 }

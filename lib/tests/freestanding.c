@@ -45,7 +45,15 @@ void run(void)
         HENNELAKU_SPOOL, (const uint8_t *)envelope, sizeof envelope - 1,
         (const uint8_t *)header, sizeof header - 1,
         out_envelope, sizeof out_envelope, out_header, sizeof out_header);
-    int right = a.number == HENNELAKU_OK && a.envelope_len == 54
+    hennelaku_mailbox_answer m = hennelaku_downgrade_mailbox(
+        (const uint8_t *)header, sizeof header - 1, out_header,
+        sizeof out_header);
+    hennelaku_read_answer r = hennelaku_read_downgraded(
+        (const uint8_t *)header, sizeof header - 1, 0, out_header,
+        sizeof out_header);
+    int right = m.number == HENNELAKU_OK && m.length == 41
+             && r.number == HENNELAKU_READ_NONE
+             && a.number == HENNELAKU_OK && a.envelope_len == 54
              && a.header_len == 140 && out_envelope[11] == 'e'
              && hennelaku_version() == HENNELAKU_VERSION
              && hennelaku_smtp_reply(a.number).code == 250

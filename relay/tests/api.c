@@ -10,7 +10,9 @@
 #include "batch.h"
 #include "cases.h"
 #include "check.h"
+#include "mailbox.h"
 #include "offset.h"
+#include "reader.h"
 #include "setting.h"
 
 #define WHOLE_ENVELOPE \
@@ -664,10 +666,10 @@ static void test_version(void)
         blame("the library is %u, its header %d",
               (unsigned)hennelaku_version(), HENNELAKU_VERSION);
     }
-    if (HENNELAKU_VERSION != 300) {
-        blame("0.3.0 is %d, not 300", HENNELAKU_VERSION);
+    if (HENNELAKU_VERSION != 400) {
+        blame("0.4.0 is %d, not 400", HENNELAKU_VERSION);
     }
-    report("version 0.3.0 of header and library");
+    report("version 0.4.0 of header and library");
 }
 
 static uint32_t next_random(uint32_t *state)
@@ -761,6 +763,8 @@ int main(void)
     test_offsets();
     test_settings();
     test_batches();
+    test_mailbox();
+    test_reader();
     test_recipients();
     test_line_lengths();
     test_word_lengths();

@@ -26,7 +26,7 @@ def alternatives():
     for port in PORTS:
         for local in (port.office, port.pilot):
             lines.append(f"{local}@{port.domain} {alternative(port, local)}")
-    return "\n".join(lines) + "\n"
+    return "\n".join([*lines, "# end"]) + "\n"
 
 
 def named(port, local, chosen):

@@ -40,6 +40,7 @@ class Server:
         self.plans = plans if isinstance(plans, list) else [plans]
         self.read_slowly = read_slowly
         self.commands = []      # of the last connection
+        self.asked = []         # RCPT lines of all connections
         self.taken = []         # messages that came in whole: data with dots doubled, without the closing dot
         self.acknowledged = []  # those of them that were answered by 2xx
         self.listening = socket.create_server(("127.0.0.1", 0))
@@ -124,6 +125,7 @@ class Session:
             verb = line.split(b" ")[0].strip().decode("ascii", "replace").upper()
             if verb == "RCPT":
                 self.recipients += 1
+                self.server.asked.append(line)
                 self.act(f"RCPT {self.recipients}", "RCPT")
             elif verb == "DATA":
                 if self.act("DATA").startswith(b"3"):
@@ -141,10 +143,13 @@ class Session:
         if "content" in self.plan:
             content = self.line()
             self.act("content")
-        while not (content.endswith(b"\r\n.\r\n") or content == b".\r\n"):
+        # Commands may follow the closing dot at once, from a client that was told 250 before its data.
+        while b"\r\n.\r\n" not in b"\r\n" + content:
             if not self.rest:
                 self.more()
             content, self.rest = content + self.rest, b""
+        end = (b"\r\n" + content).index(b"\r\n.\r\n")
+        content, self.rest = content[:end + 3], content[end + 3:]
         self.server.taken.append(content[:-3])
         # Before it is said: the other side may end as soon as it has read it.
         actions = self.plan.get("end", HONEST["end"])

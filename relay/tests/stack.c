@@ -21,7 +21,9 @@
 #define PLAIN "MAIL FROM:<a@x>\r\nRCPT TO:<b@x>\r\n"
 
 /* How a thread calls. */
-typedef enum way { NO_CALL, ONE_CALL, ONE_BATCH, WAYS } way;
+typedef enum way {
+    NO_CALL, ONE_CALL, ONE_BATCH, ONE_MAILBOX, ONE_READ, WAYS
+} way;
 
 typedef struct job {
     bytes envelope;
@@ -60,6 +62,13 @@ static void *run(void *argument)
             j->setting, input, j->envelope.len + j->header.len, record,
             HENNELAKU_RECORD_SIZE, envelope_buffer, sizeof envelope_buffer,
             header_buffer, sizeof header_buffer);
+    } else if (j->calls == ONE_MAILBOX) {
+        (void)hennelaku_downgrade_mailbox(j->header.at, j->header.len,
+                                          header_buffer,
+                                          sizeof header_buffer);
+    } else if (j->calls == ONE_READ) {
+        (void)hennelaku_read_downgraded(j->header.at, j->header.len, 0,
+                                        header_buffer, sizeof header_buffer);
     }
     return NULL;
 }
@@ -125,7 +134,7 @@ static const char *nested_field(char *at, const char *start)
 int main(void)
 {
     static char to[2048], subject[2048], unfit[2048], deep[2048], date[2048],
-        received[2048];
+        received[2048], parameter[2048];
     const char *const headers[] = {
         long_field(to, "To", " <" E_ACUTE "@x>"),
         long_field(subject, "Subject", ""),
@@ -138,6 +147,11 @@ int main(void)
         "Subject: " E_ACUTE "\r\n " E_ACUTE "\r\n",
         "X-Note: " E_ACUTE "\r\n " E_ACUTE "\r\n",
         "To: " E_ACUTE "\r\n " E_ACUTE "\r\n",
+        "Message-ID: <" E_ACUTE "@x>\r\n (" E_ACUTE ")\r\n",
+        "Content-Type: a/b; c=\"" E_ACUTE "\\\"\r\n d\"; e=f\r\n",
+        long_field(parameter, "Content-Disposition: a; b=\"c", "\""),
+        "Downgraded-A: =?UTF-8?Q?=C3=A9_a?=\r\n =?UTF-8?B?w6k=?= b\r\n",
+        "Downgraded-A: =?UTF-8?Q?=C3?= =?A?B?w6k=?= =?UTF-8?X?a?=\r\n"
     };
     job nothing = {{NULL, 0}, {NULL, 0}, HENNELAKU_SPOOL, NO_CALL};
     size_t least = used_by(&nothing);

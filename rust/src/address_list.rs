@@ -2,7 +2,7 @@
 //! Written from document 01, Address fields, and the requests named below.
 
 use crate::address::{address, word};
-use crate::call::Setting;
+use crate::call::Profile;
 use crate::comment::{self, comment_end, Part};
 use crate::header::is_blank;
 use crate::sink::Sink;
@@ -28,10 +28,10 @@ pub trait Parts {
 /// "The text must be a comma list of mailboxes or groups (`phrase : mailboxes ;`, perhaps none), with runs of spaces
 /// and TABs allowed around `, : ; <` and at the end." [1]: comments "at the start of an address list and wherever
 /// spaces may stand in it outside `< >` and phrases". None where the text does not fit.
-pub fn list(text: &[u8], setting: Setting, parts: &mut impl Parts) -> Option<()> {
+pub fn list(text: &[u8], profile: Profile, parts: &mut impl Parts) -> Option<()> {
     let mut at = gap(text, 0, parts)?;
     loop {
-        at = mailbox_or_group(text, at, setting, parts)?;
+        at = mailbox_or_group(text, at, profile, parts)?;
         at = gap(text, at, parts)?;
         if at == text.len() {
             return Some(());
@@ -40,19 +40,19 @@ pub fn list(text: &[u8], setting: Setting, parts: &mut impl Parts) -> Option<()>
     }
 }
 
-fn mailbox_or_group(text: &[u8], at: usize, setting: Setting, parts: &mut impl Parts) -> Option<usize> {
-    match mailbox(text, at, setting, parts)? {
+fn mailbox_or_group(text: &[u8], at: usize, profile: Profile, parts: &mut impl Parts) -> Option<usize> {
+    match mailbox(text, at, profile, parts)? {
         Mailbox::End(end) => Some(end),
-        Mailbox::Phrase(end) => group_from_colon(text, end, setting, parts),
+        Mailbox::Phrase(end) => group_from_colon(text, end, profile, parts),
     }
 }
 
 /// [4]: "If any member of a group has a non-ASCII address without an alternative, the whole group becomes the pieces
 /// before its colon", which have come, and what stands for its members. [4.2]: "The list must fit before the rule is
 /// used."
-fn group_from_colon(text: &[u8], colon: usize, setting: Setting, parts: &mut impl Parts) -> Option<usize> {
+fn group_from_colon(text: &[u8], colon: usize, profile: Profile, parts: &mut impl Parts) -> Option<usize> {
     let mut look = Look::default();
-    let semicolon = members(text, colon, setting, &mut look)?;
+    let semicolon = members(text, colon, profile, &mut look)?;
     if look.removed {
         // "everything between its colon and semicolon (spaces and TABs at both ends dropped)"
         let mut between = &text[colon + 1..semicolon];
@@ -62,18 +62,18 @@ fn group_from_colon(text: &[u8], colon: usize, setting: Setting, parts: &mut imp
         parts.removed_members(between);
         return gap(text, semicolon + 1, parts);
     }
-    members(text, colon, setting, parts)?;
+    members(text, colon, profile, parts)?;
     mark(text, semicolon, b';', parts)
 }
 
 /// From a group's colon to its semicolon. A member is a mailbox: no group stands inside a group.
-fn members(text: &[u8], colon: usize, setting: Setting, parts: &mut impl Parts) -> Option<usize> {
+fn members(text: &[u8], colon: usize, profile: Profile, parts: &mut impl Parts) -> Option<usize> {
     let mut at = mark(text, colon, b':', parts)?;
     if text.get(at) == Some(&b';') {
         return Some(at);
     }
     loop {
-        at = match mailbox(text, at, setting, parts)? {
+        at = match mailbox(text, at, profile, parts)? {
             Mailbox::End(end) => gap(text, end, parts)?,
             Mailbox::Phrase(_) => return None,
         };
@@ -93,7 +93,7 @@ enum Mailbox {
 
 /// "A mailbox is a bare address, or an optional phrase and `<address>`, or with an alternative
 /// `<address <ASCII address>>`, the first non-ASCII, at least one space or TAB between."
-fn mailbox(text: &[u8], at: usize, setting: Setting, parts: &mut impl Parts) -> Option<Mailbox> {
+fn mailbox(text: &[u8], at: usize, profile: Profile, parts: &mut impl Parts) -> Option<Mailbox> {
     // No phrase has an `@` outside a quoted string, so what begins as an address is one.
     if let Some(end) = address(text, at) {
         parts.bare(within(text, at, end)?);
@@ -108,11 +108,11 @@ fn mailbox(text: &[u8], at: usize, setting: Setting, parts: &mut impl Parts) -> 
             return Some(Mailbox::Phrase(at));
         }
     }
-    angle(text, at, setting, parts).map(Mailbox::End)
+    angle(text, at, profile, parts).map(Mailbox::End)
 }
 
 /// From `<` to behind its last `>`.
-fn angle(text: &[u8], at: usize, setting: Setting, parts: &mut impl Parts) -> Option<usize> {
+fn angle(text: &[u8], at: usize, profile: Profile, parts: &mut impl Parts) -> Option<usize> {
     let start = blanks(text, at + 1);
     let end = address(text, start)?;
     let first = within(text, start, end)?;
@@ -120,8 +120,7 @@ fn angle(text: &[u8], at: usize, setting: Setting, parts: &mut impl Parts) -> Op
         parts.angle(first);
         return Some(end + 1);
     }
-    // [13]: in a current message "an address with an inner alternative no longer fits an address field".
-    if setting == Setting::Current {
+    if !profile.has_alternatives() {
         return None;
     }
     let inner = blanks(text, end);
@@ -234,15 +233,16 @@ impl Parts for Look {
 }
 
 /// None where the text does not fit; else whether any address is replaced or removed.
-pub fn replaces(text: &[u8], setting: Setting) -> Option<bool> {
+pub fn replaces(text: &[u8], profile: Profile) -> Option<bool> {
     let mut look = Look::default();
-    list(text, setting, &mut look)?;
+    list(text, profile, &mut look)?;
     Some(look.replaced || look.removed)
 }
 
 /// "The rewritten value is a row of pieces, each written straight after the piece before it as CRLF, space, piece"
 struct Pieces<'a, S: Sink> {
     sink: &'a mut S,
+    profile: Profile,
     /// The text of a phrase.
     text: Vec<u8>,
 }
@@ -254,11 +254,18 @@ impl<S: Sink> Pieces<'_, S> {
     }
 
     /// "Non-ASCII address with no alternative: `Internationalized Address`, its encoded words, `Removed:;`." [4] has
-    /// the same words for the members of a group.
+    /// the same words for the members of a group. [12]: "A mailbox with a non-ASCII address becomes its phrase, if any, its
+    /// encoded address and `:;`", and "Groups follow [4] with `:;` and no other fixed words".
     fn removed(&mut self, text: &[u8]) {
-        self.piece(b"Internationalized Address");
+        let (before, behind): (&[u8], &[u8]) = match self.profile {
+            Profile::Relay(_) => (b"Internationalized Address", b"Removed:;"),
+            Profile::Mailbox => (b"", b":;"),
+        };
+        if !before.is_empty() {
+            self.piece(before);
+        }
         row(self.sink, text);
-        self.piece(b"Removed:;");
+        self.piece(behind);
     }
 }
 
@@ -354,6 +361,6 @@ fn add_unquoted(text: &mut Vec<u8>, word: &[u8]) {
 }
 
 /// The pieces of a text that fits.
-pub fn pieces(sink: &mut impl Sink, text: &[u8], setting: Setting) {
-    let _ = list(text, setting, &mut Pieces { sink, text: Vec::new() });
+pub fn pieces(sink: &mut impl Sink, text: &[u8], profile: Profile) {
+    let _ = list(text, profile, &mut Pieces { sink, profile, text: Vec::new() });
 }

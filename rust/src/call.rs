@@ -3,9 +3,10 @@
 
 use crate::address_list;
 use crate::comment;
-use crate::envelope::{self, Envelope};
+use crate::envelope;
 use crate::header::{self, Field, Kind};
 use crate::offset;
+use crate::parameter;
 use crate::received;
 use crate::sink::{Counter, Sink, Writer};
 use crate::utf8::find;
@@ -36,6 +37,30 @@ impl Setting {
             Setting::Spool
         } else {
             Setting::Current
+        }
+    }
+}
+
+/// Whose rules a header is downgraded by.
+#[derive(Clone, Copy, PartialEq, Eq, Debug)]
+pub enum Profile {
+    /// Document 01, and [13]'s setting.
+    Relay(Setting),
+    /// [12].
+    Mailbox,
+}
+
+impl Profile {
+    /// [13]: in a current message "an address with an inner alternative no longer fits an address field". [12]: "an inner
+    /// alternative does not fit".
+    pub fn has_alternatives(self) -> bool {
+        self == Profile::Relay(Setting::Spool)
+    }
+
+    pub fn kind(self, name: &[u8]) -> Kind {
+        match self {
+            Profile::Relay(_) => header::kind(name),
+            Profile::Mailbox => header::mailbox_kind(name),
         }
     }
 }
@@ -74,19 +99,18 @@ pub fn downgrade(
         Ok(envelope) => envelope,
         Err(refusal) => return refuse(refusal.number, ENVELOPE, refusal.line, refusal.offset),
     };
-    if let Err((line, start)) = header::check(header) {
-        let stop = offset::header_line(&header[start..], line, offset::LINE);
-        return refuse(5, HEADER, line, start + stop.expect("a malformed line stops somewhere").at);
+    if let Some((line, offset)) = malformed(header) {
+        return refuse(5, HEADER, line, offset);
     }
     if let Some((line, offset)) = envelope.held {
         return refuse(6, ENVELOPE, line, offset);
     }
     // Both outputs are counted before a byte is written.
-    let mut job = Job { setting, envelope: &envelope, header, scratch: Vec::new() };
+    let mut job = Job { profile: Profile::Relay(setting), header, scratch: Vec::new() };
     let mut header_count = Counter::default();
-    if let Err(start) = job.write_header(&mut header_count, held) {
-        // [8.5]: "the field's first non-ASCII byte"; the field has one.
-        return refuse(6, HEADER, header::line_number(header, start), find(header, start, |b| b >= 128));
+    envelope.first_fields(&mut header_count);
+    if let Err((line, offset)) = job.count(&mut header_count) {
+        return refuse(6, HEADER, line, offset);
     }
     let mut envelope_count = Counter::default();
     envelope.write(&mut envelope_count);
@@ -97,10 +121,48 @@ pub fn downgrade(
         return refuse(8, HEADER, header_count.len, 0);
     }
     envelope.write(&mut Writer { buffer: envelope_buffer, at: 0 });
-    // The count met no field that is held.
-    let _ = job.write_header(&mut Writer { buffer: header_buffer, at: 0 }, |_, _| false);
+    let mut writer = Writer { buffer: header_buffer, at: 0 };
+    envelope.first_fields(&mut writer);
+    job.write(&mut writer);
     let (envelope_len, header_len) = (envelope_count.len, header_count.len);
     Answer { number: 0, input: NEITHER, place: 0, offset: 0, envelope_len, header_len }
+}
+
+/// What the mailbox's call answers.
+#[derive(Clone, Copy, PartialEq, Eq, Debug)]
+pub struct MailboxAnswer {
+    pub number: u32,
+    pub place: usize,
+    pub offset: usize,
+    pub length: usize,
+}
+
+/// [12]: "header only". [12.11]: "The answers are 0, 1, 5, 6, 8, in this order, with [8]'s offset."
+pub fn downgrade_mailbox(header: &[u8], buffer: &mut [u8]) -> MailboxAnswer {
+    let refuse = |number, place, offset| MailboxAnswer { number, place, offset, length: 0 };
+    if header.len() > LONGEST_HEADER {
+        return refuse(1, 1, 0);
+    }
+    if let Some((line, offset)) = malformed(header) {
+        return refuse(5, line, offset);
+    }
+    let mut job = Job { profile: Profile::Mailbox, header, scratch: Vec::new() };
+    let mut count = Counter::default();
+    if let Err((line, offset)) = job.count(&mut count) {
+        return refuse(6, line, offset);
+    }
+    if count.len > buffer.len() {
+        return refuse(8, count.len, 0);
+    }
+    job.write(&mut Writer { buffer, at: 0 });
+    MailboxAnswer { number: 0, place: 0, offset: 0, length: count.len }
+}
+
+/// The first malformed line, and the byte that tells why.
+fn malformed(header: &[u8]) -> Option<(usize, usize)> {
+    let (line, start) = header::check(header).err()?;
+    let stop = offset::header_line(&header[start..], line, offset::LINE);
+    Some((line, start + stop.expect("a malformed line stops somewhere").at))
 }
 
 /// 6: "a held name [..] carries non-ASCII"; some of them in places that do not hold them.
@@ -109,7 +171,8 @@ fn held(kind: Kind, field: &Field) -> bool {
         Kind::Held => true,
         Kind::HeldOutsideComments => comment::non_ascii_outside(field.value),
         Kind::Received => received::check(field.name.len(), field.value).is_err(),
-        Kind::Address | Kind::Plain | Kind::Other => false,
+        Kind::Parameters => !cfg!(feature = "parameters") || parameter::check(field.value).is_err(),
+        Kind::Address | Kind::Plain | Kind::EncapsulatedOutsideComments | Kind::Other => false,
     }
 }
 
@@ -142,65 +205,82 @@ fn text<'a>(field: &Field<'a>, scratch: &'a mut Vec<u8>) -> &'a [u8] {
     scratch
 }
 
-/// What the outgoing header is made from.
+/// What the outgoing header is made from, but for the relay's new first fields.
 struct Job<'a> {
-    setting: Setting,
-    envelope: &'a Envelope<'a>,
+    profile: Profile,
     header: &'a [u8],
     /// For texts without their folds.
     scratch: Vec<u8>,
 }
 
 impl Job<'_> {
-    /// The new first fields, then each field downgraded. "A field whose value is ASCII is copied." Stops at a field that is
-    /// held, with its place.
+    /// The length of the outgoing header; where a field is held its line and, [8.5], "the field's first non-ASCII byte".
+    fn count(&mut self, count: &mut Counter) -> Result<(), (usize, usize)> {
+        self.write_header(count, held).map_err(|start| {
+            let line = header::line_number(self.header, start);
+            (line, find(self.header, start, |b| b >= 128))
+        })
+    }
+
+    /// No field is held.
+    fn write(&mut self, writer: &mut Writer) {
+        let _ = self.write_header(writer, |_, _| false);
+    }
+
+    /// Each field downgraded. "A field whose value is ASCII is copied." Stops at a field that is held, with its place.
     fn write_header(&mut self, sink: &mut impl Sink, held: impl Fn(Kind, &Field) -> bool) -> Result<(), usize> {
         let header = self.header;
-        self.envelope.first_fields(sink);
         let mut done = 0;
         while let Some(field) = header::next_non_ascii(header, done) {
             sink.put(&header[done..field.start]);
-            let kind = header::kind(field.name);
+            let kind = self.profile.kind(field.name);
             if held(kind, &field) {
                 return Err(field.start);
             }
-            match kind {
-                Kind::Address => write_address_field(sink, self.setting, &field, text(&field, &mut self.scratch)),
-                // "Plain text: name, colon, encoded words of the text."
-                Kind::Plain => write_words(sink, b"", &field, text(&field, &mut self.scratch)),
-                Kind::HeldOutsideComments => {
-                    write_name(sink, &field);
-                    comment::write_value(sink, field.value);
-                    sink.put(b"\r\n");
-                }
-                Kind::Received => {
-                    write_name(sink, &field);
-                    received::write_value(sink, field.value);
-                    sink.put(b"\r\n");
-                }
-                // Held above.
-                Kind::Held => {}
-                // "Every other name is encapsulated"
-                Kind::Other => encapsulate(sink, &field, text(&field, &mut self.scratch)),
-            }
+            self.write_field(sink, kind, &field);
             done = field.end;
         }
         sink.put(&header[done..]);
         Ok(())
     }
+
+    fn write_field(&mut self, sink: &mut impl Sink, kind: Kind, field: &Field) {
+        match kind {
+            Kind::Address => write_address_field(sink, self.profile, field, text(field, &mut self.scratch)),
+            // "Plain text: name, colon, encoded words of the text."
+            Kind::Plain => write_words(sink, b"", field, text(field, &mut self.scratch)),
+            // [12]: "Message-ID to References in document 01's list are encapsulated if non-ASCII stands outside comments"
+            Kind::EncapsulatedOutsideComments if comment::non_ascii_outside(field.value) => {
+                encapsulate(sink, field, text(field, &mut self.scratch));
+            }
+            Kind::EncapsulatedOutsideComments | Kind::HeldOutsideComments | Kind::Received | Kind::Parameters => {
+                write_name(sink, field);
+                match kind {
+                    Kind::Received => received::write_value(sink, field.value),
+                    Kind::Parameters => parameter::write_value(sink, field.value),
+                    _ => comment::write_value(sink, field.value),
+                }
+                sink.put(b"\r\n");
+            }
+            // Held before.
+            Kind::Held => {}
+            // "Every other name is encapsulated"
+            Kind::Other => encapsulate(sink, field, text(field, &mut self.scratch)),
+        }
+    }
 }
 
-fn write_address_field(sink: &mut impl Sink, setting: Setting, field: &Field, text: &[u8]) {
-    match address_list::replaces(text, setting) {
+fn write_address_field(sink: &mut impl Sink, profile: Profile, field: &Field, text: &[u8]) {
+    match address_list::replaces(text, profile) {
         // "Text that does not fit is encapsulated."
         None => encapsulate(sink, field, text),
         Some(replaces) => {
             write_name(sink, field);
-            address_list::pieces(sink, text, setting);
+            address_list::pieces(sink, text, profile);
             sink.put(b"\r\n");
             // "If any address was replaced or removed, a `Downgraded-` field with encoded words of the original
-            // text follows the rewritten field."
-            if replaces {
+            // text follows the rewritten field." [12]: "no copies of address fields are added"
+            if replaces && profile != Profile::Mailbox {
                 encapsulate(sink, field, text);
             }
         }

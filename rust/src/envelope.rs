@@ -209,23 +209,27 @@ impl Envelope<'_> {
     /// "New first fields: `Downgraded-Mail-From` when the MAIL path was replaced, then `Downgraded-Rcpt-To` when
     /// there is exactly one RCPT line and it was replaced."
     pub fn first_fields(&self, sink: &mut impl Sink) {
-        for swap in &self.swaps[..self.swapped] {
-            if swap.line == 0 {
-                self.old_and_new(sink, b"Downgraded-Mail-From", swap);
-            } else if self.lines == 2 {
-                self.old_and_new(sink, b"Downgraded-Rcpt-To", swap);
-            }
+        for (name, text) in self.first_texts() {
+            sink.put(name);
+            sink.put(b":");
+            row_after_name(sink, name.len(), &text);
+            sink.put(b"\r\n");
         }
     }
 
-    /// "They hold encoded words of `<old <new>>`, the new decoded."
-    fn old_and_new(&self, sink: &mut impl Sink, name: &[u8], swap: &Swap) {
-        let mut room = [0; LINE];
-        let new = decode_xtext(&self.bytes[swap.value..swap.value_end], &mut room).unwrap_or_default();
-        sink.put(name);
-        sink.put(b":");
-        let text = [b"<", &self.bytes[swap.path..swap.path_end], b" <", new, b">>"].concat();
-        row_after_name(sink, name.len(), &text);
-        sink.put(b"\r\n");
+    /// Their names and texts: "encoded words of `<old <new>>`, the new decoded".
+    pub fn first_texts(&self) -> Vec<(&'static [u8], Vec<u8>)> {
+        let mut texts = Vec::new();
+        for swap in &self.swaps[..self.swapped] {
+            let name: &[u8] = match swap.line {
+                0 => b"Downgraded-Mail-From",
+                _ if self.lines == 2 => b"Downgraded-Rcpt-To",
+                _ => continue,
+            };
+            let mut room = [0; LINE];
+            let new = decode_xtext(&self.bytes[swap.value..swap.value_end], &mut room).unwrap_or_default();
+            texts.push((name, [b"<", &self.bytes[swap.path..swap.path_end], b" <", new, b">>"].concat()));
+        }
+        texts
     }
 }

@@ -15,8 +15,12 @@ pub enum Kind {
     Held,
     /// [1]: "held only if non-ASCII stands outside their comments"
     HeldOutsideComments,
+    /// [12]: "encapsulated if non-ASCII stands outside comments"
+    EncapsulatedOutsideComments,
     /// [2]: held for its clauses and what stands outside them and its comments.
     Received,
+    /// [7]: held for its parameters' names and what stands outside their values and its comments.
+    Parameters,
     Other,
 }
 
@@ -47,9 +51,9 @@ static NAMES: [(&str, Kind); 32] = [
     ("In-Reply-To", Kind::HeldOutsideComments),
     ("References", Kind::HeldOutsideComments),
     ("MIME-Version", Kind::HeldOutsideComments),
-    ("Content-Type", Kind::Held),
+    ("Content-Type", Kind::Parameters),
     ("Content-ID", Kind::HeldOutsideComments),
-    ("Content-Disposition", Kind::Held),
+    ("Content-Disposition", Kind::Parameters),
     ("Content-Transfer-Encoding", Kind::HeldOutsideComments),
     ("Original-Recipient", Kind::Held),
     ("Final-Recipient", Kind::Held),
@@ -64,6 +68,24 @@ pub fn kind(name: &[u8]) -> Kind {
         }
     }
     Kind::Other
+}
+
+/// [12]: "Message-ID to References in document 01's list"
+const MESSAGE_IDS: [&str; 4] = ["Message-ID", "Resent-Message-ID", "In-Reply-To", "References"];
+
+/// [12.9]: "The names that RFC 6857 lists for comments (3.2.2) outside document 01's lists"
+const COMMENTED: [&str; 3] = ["Content-Language", "Accept-Language", "Auto-Submitted"];
+
+/// [12]: "names outside document 01's lists go as Date if RFC 6857 lists them for comments, else as plain text"
+pub fn mailbox_kind(name: &[u8]) -> Kind {
+    let is_one = |names: &[&str]| names.iter().any(|known| name.eq_ignore_ascii_case(known.as_bytes()));
+    match kind(name) {
+        _ if is_one(&MESSAGE_IDS) => Kind::EncapsulatedOutsideComments,
+        Kind::Other if is_one(&COMMENTED) => Kind::HeldOutsideComments,
+        Kind::Other => Kind::Plain,
+        // "Every other held name stays held as [1], [2] and [7] leave it."
+        kind => kind,
+    }
 }
 
 /// The first malformed line, its number and its start. "Each line ends in CRLF, has 1 to 998 bytes before it, holds no

@@ -6,28 +6,31 @@ pub mod address;
 pub mod address_list;
 pub mod batch;
 pub mod call;
+pub mod checks;
 pub mod comment;
 pub mod envelope;
-#[cfg(feature = "proved")]
 pub mod generate;
-#[cfg(feature = "proved")]
 pub mod generate_batch;
-#[cfg(feature = "proved")]
 pub mod harness;
 pub mod header;
-#[cfg(feature = "proved")]
 pub mod line_faults;
 pub mod offset;
+pub mod parameter;
 #[cfg(feature = "proved")]
 pub mod proved;
+pub mod reader;
 pub mod received;
+pub mod rfc2231;
 pub mod rfc5322;
+pub mod rows;
 pub mod sink;
 pub mod utf8;
+pub mod versions;
 pub mod words;
+pub mod worst;
 
 pub use batch::downgrade_batch;
-pub use call::{downgrade, Answer};
+pub use call::{downgrade, downgrade_mailbox, Answer, MailboxAnswer};
 
 #[cfg(test)]
 mod completions;

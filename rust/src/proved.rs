@@ -1,54 +1,14 @@
-//! The proved call, from the static library.
+//! The proved calls, through the C declarations of the crate `hennelaku`.
 
-use crate::Answer;
+use crate::reader::ReadAnswer;
+use crate::{Answer, MailboxAnswer};
+use hennelaku::c;
 
-/// `hennelaku_answer` of hennelaku.h, member by member.
-#[repr(C)]
-struct ProvedAnswer {
-    number: u32,
-    input: u32,
-    place: usize,
-    offset: usize,
-    envelope_len: usize,
-    header_len: usize,
-}
-
-#[link(name = "hennelaku", kind = "static")]
-extern "C" {
-    fn hennelaku_version() -> u32;
-    fn hennelaku_downgrade_slices(
-        setting: u64,
-        envelope: *const u8,
-        envelope_len: usize,
-        header: *const u8,
-        header_len: usize,
-        envelope_buffer: *mut u8,
-        envelope_room: usize,
-        header_buffer: *mut u8,
-        header_room: usize,
-    ) -> ProvedAnswer;
-    fn hennelaku_downgrade_batch_slices(
-        setting: u64,
-        input: *const u8,
-        input_len: usize,
-        records: *mut u32,
-        records_len: usize,
-        envelope_buffer: *mut u8,
-        envelope_room: usize,
-        header_buffer: *mut u8,
-        header_room: usize,
-    );
-}
-
-/// The first version whose call has a setting.
-const VERSION: u32 = 300;
-
-/// Ends the program if the library's calls are not those declared here.
+/// Ends the program if the library's calls are not those that the crate declares.
 pub fn check_version() {
-    // SAFETY: it takes nothing.
-    let version = unsafe { hennelaku_version() };
-    if version < VERSION {
-        eprintln!("libhennelaku.a has version {version}; {VERSION} or later is needed");
+    let version = hennelaku::version();
+    if version != hennelaku::VERSION {
+        eprintln!("libhennelaku.a has version {version}; {} is needed", hennelaku::VERSION);
         std::process::exit(2);
     }
 }
@@ -62,7 +22,7 @@ pub fn downgrade(
 ) -> Answer {
     // SAFETY: each pointer comes from a slice with its length; the two buffers are apart from all others.
     let answer = unsafe {
-        hennelaku_downgrade_slices(
+        c::hennelaku_downgrade(
             setting,
             envelope.as_ptr(),
             envelope.len(),
@@ -93,7 +53,7 @@ pub fn downgrade_batch(
 ) {
     // SAFETY: each pointer comes from a slice with its length; what is written to is apart from all others.
     unsafe {
-        hennelaku_downgrade_batch_slices(
+        c::hennelaku_downgrade_batch(
             setting,
             input.as_ptr(),
             input.len(),
@@ -105,4 +65,19 @@ pub fn downgrade_batch(
             header_buffer.len(),
         )
     }
+}
+
+pub fn downgrade_mailbox(header: &[u8], buffer: &mut [u8]) -> MailboxAnswer {
+    // SAFETY: each pointer comes from a slice with its length; the buffer is apart from the header.
+    let answer =
+        unsafe { c::hennelaku_downgrade_mailbox(header.as_ptr(), header.len(), buffer.as_mut_ptr(), buffer.len()) };
+    MailboxAnswer { number: answer.number, place: answer.place, offset: answer.offset, length: answer.length }
+}
+
+pub fn read(header: &[u8], place: usize, buffer: &mut [u8]) -> ReadAnswer {
+    // SAFETY: each pointer comes from a slice with its length; the buffer is apart from the header.
+    let answer = unsafe {
+        c::hennelaku_read_downgraded(header.as_ptr(), header.len(), place, buffer.as_mut_ptr(), buffer.len())
+    };
+    ReadAnswer { number: answer.number, start: answer.start, next: answer.next, length: answer.length }
 }

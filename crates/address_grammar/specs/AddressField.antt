@@ -21,9 +21,10 @@ use Rattle.encoded_word.specs.Segments.Segment.{raw, words}
 use Rattle.field.specs.Field.{encodedField, named as namedField}
 use Rattle.piece.specs.Piece.{piece}
 use Rattle.piece.specs.CommentPieces.{commentPieces}
-use Rattle.group.specs.Group.{trimmed}
+use Rattle.group.specs.Trimmed.{trimmed}
 use Rattle.address_pieces.specs.Pieces.{removed, inAngles, addressPieces}
-use Rattle.address_grammar.specs.PartGrammar.{WordText, AddressText, Blanks, SomeBlanks}
+use Rattle.address_pieces.specs.AddressField.{copyOf}
+use Rattle.address_grammar.specs.PartTexts.{WordText, AddressText, Blanks, SomeBlanks}
 
 -- "runs of spaces and TABs", and comments "wherever spaces may stand", perhaps none. In a comment every run "over 900 bytes" is one "of
 -- spaces and TABs only". Blanks are not written.
@@ -92,8 +93,8 @@ pub data ListText (rules : Rules) : List ℕ → List Segment → Bool → Type 
   list : {g is : List ℕ} {p q : List Segment} {changed : Bool} → Gap g p → Items rules is q changed → ListText rules (g ++ is) (p ++ q) changed
 
 -- What a field with this name and text becomes. "If any address was replaced or removed, a `Downgraded-` field with encoded words of
--- the original text follows the rewritten field." "Text that does not fit is encapsulated."
+-- the original text follows the rewritten field.", for a mailbox none. "Text that does not fit is encapsulated."
 pub data AddressField (rules : Rules) (name text : List ℕ) : List Segment → Type 0 where
-  without-copy : {pieces : List Segment} → ListText rules text pieces false → AddressField rules name text (namedField name pieces)
-  with-copy : {pieces : List Segment} → ListText rules text pieces true → AddressField rules name text (namedField name pieces ++ encodedField true name text)
+  none-replaced : {pieces : List Segment} → ListText rules text pieces false → AddressField rules name text (namedField name pieces)
+  some-replaced : {pieces : List Segment} → ListText rules text pieces true → AddressField rules name text (namedField name pieces ++ copyOf rules name text)
   encapsulated : ((pieces : List Segment) (c : Bool) → ListText rules text pieces c → ⊥) → AddressField rules name text (encodedField true name text)

@@ -80,13 +80,13 @@ module _ (rules : Rules) (name text : List ℕ) where
   field-made = go (examined rules text) refl
     where
       go : (e : Examined) → examined rules text ≡ e → AddressField rules name text (fieldBy e rules name text)
-      go Kept h = rw (← rewritten-pieces) (AddressField.without-copy (kept-value rules text h))
-      go Changed h = rw (← rewritten-pieces) (AddressField.with-copy (changed-value rules text h))
+      go Kept h = rw (← rewritten-pieces) (AddressField.none-replaced (kept-value rules text h))
+      go Changed h = rw (← rewritten-pieces) (AddressField.some-replaced (changed-value rules text h))
       go DoesNotFit h = AddressField.encapsulated (λ pieces c v. unfit-value rules text h v)
 
   -- and it makes nothing else
   pub field-only : {segments : List Segment} → AddressField rules name text segments → addressField rules name text ≡ segments
   unfolding addressField fieldBy
-  field-only (AddressField.without-copy v) = rw (value-examined v, ← rewritten-pieces, value-pieces v)
-  field-only (AddressField.with-copy v) = rw (value-examined v, ← rewritten-pieces, value-pieces v)
+  field-only (AddressField.none-replaced v) = rw (value-examined v, ← rewritten-pieces, value-pieces v)
+  field-only (AddressField.some-replaced v) = rw (value-examined v, ← rewritten-pieces, value-pieces v)
   field-only (AddressField.encapsulated none) = rw (value-unfit rules text none)

@@ -33,7 +33,8 @@ use Rattle.address_list.specs.declared.PartKind.the-variants.{Blank, Comment, C
 use Rattle.address_list.specs.declared.State.{State}
 use Rattle.address_list.specs.declared.State.the-variants.{ItemDue}
 use Rattle.address_list.specs.declared.Examined.the-variants.{DoesNotFit}
-use Rattle.address_grammar.specs.PartGrammar.{CommentText, AddressText, Blanks, SomeBlanks, PhraseText, AngledText, AlternativeText, OneByte, IsPart, EachIsPart, joinedParts, AddressList}
+use Rattle.address_grammar.specs.PartGrammar.{CommentText, PhraseText, AngledText, AlternativeText, OneByte, IsPart, EachIsPart, joinedParts, AddressList}
+use Rattle.address_grammar.specs.PartTexts.{AddressText, Blanks, SomeBlanks}
 use Rattle.address_grammar.specs.PartGrammarLaws.{parts-made, parts-joined}
 use Rattle.address_grammar.specs.GrammarLaws.{false-true, isMark, opensWithMark, markBetween, items-marked, fits-made, made-complete, made-fits, examined-unfit, unfit-examined}
 use Rattle.address_grammar.specs.FoundLaws.{starting, starts, ending, Ended, ended-apart, stops-blanks, apart-closed, run-whole, some-length, phrase-starts, phrase-no-address, phrase-found, phrase-some, address-starts, address-some, address-found}

@@ -23,7 +23,8 @@ use Rattle.address.specs.Grammar.{Atom, DotAtom, QuotedString, LocalPart, Addre
 use Rattle.address.specs.GrammarLaws.{Closed, quoted-string-complete, address-complete}
 use Rattle.phrase.specs.Words.{found, capped, isWordByte, addressLen, wordLen, nextWordLen, nextWordsLen, phraseLen}
 use Rattle.phrase.specs.WordsLaws.{capped-in, words-front, words-stop}
-use Rattle.address_grammar.specs.PartGrammar.{WordForm, WordText, AddressText, Blanks, SomeBlanks, PhraseText}
+use Rattle.address_grammar.specs.PartGrammar.{PhraseText}
+use Rattle.address_grammar.specs.PartTexts.{WordForm, WordText, AddressText, Blanks, SomeBlanks}
 
 -- ---- bytes
 

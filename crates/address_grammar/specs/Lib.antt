@@ -1,3 +1,4 @@
+pub mod PartTexts
 pub mod PartGrammar
 pub mod AddressField
 pub mod GrammarLaws

@@ -3,45 +3,21 @@
 use mathlib.Core.Path.{_≡_}
 use mathlib.Core.Bool.{not}
 use mathlib.Core.List.{List, [], _∷_, _++_}
-use Prim.Native.Nat.{ℕ, _+_, _≤_}
+use Prim.Native.Nat.{ℕ, _+_}
 use lib.Dec.{T}
 use lib.ListN.{length}
-use Rattle.lists.specs.Lists.{all, nonempty}
+use Rattle.lists.specs.Lists.{all}
 use Rattle.lists.specs.Byte.{isAscii}
 use Rattle.line.specs.Line.{blank}
-use Rattle.address.specs.Grammar.{QuotedString, Address as AddressForm}
 use Rattle.comment.specs.Grammar.{Comment as CommentForm}
 use Rattle.comment.specs.Parts.{parts, fits}
 use Rattle.rules.specs.Rules.{allowsAlternative}
 use Rattle.rules.specs.declared.Rules.{Rules}
-use Rattle.phrase.specs.Words.{isWordByte}
 use Rattle.address_list.specs.Parts.{Part}
 use Rattle.address_list.specs.Grammar.{Items, kindsOf}
 use Rattle.address_list.specs.declared.PartKind.{PartKind}
+use Rattle.address_grammar.specs.PartTexts.{WordText, AddressText, Blanks, SomeBlanks}
 use Rattle.address_list.specs.declared.PartKind.the-variants.{Blank, Comment, Comma, Colon, Semicolon, Phrase, Address, Angled, Alternative, Stray}
-
--- "a word is a quoted string or a run of atext, dots and non-ASCII characters"
-pub data WordForm : List ℕ → Type 0 where
-  string : {w : List ℕ} → QuotedString w → WordForm w
-  run : {w : List ℕ} → T (nonempty w) → T (all isWordByte w) → WordForm w
-
--- "No word or address exceeds 900 bytes."
-pub record WordText (w : List ℕ) : Type 0 where
-  pub form : WordForm w
-  pub size : length w ≤ 900
-
-pub record AddressText (a : List ℕ) : Type 0 where
-  pub form : AddressForm a
-  pub size : length a ≤ 900
-
--- "runs of spaces and TABs", perhaps none
-abbrev pub Blanks : List ℕ → Type 0
-Blanks gap = T (all blank gap)
-
--- "one or more spaces or TABs"
-pub record SomeBlanks (gap : List ℕ) : Type 0 where
-  pub some : T (nonempty gap)
-  pub blanks : Blanks gap
 
 -- "A phrase is words parted by one or more spaces or TABs"
 pub data PhraseText : List ℕ → Type 0 where

@@ -28,7 +28,8 @@ use Rattle.address_list.specs.Parts.{front, partAt, partsFrom, partsOf}
 use Rattle.address_list.specs.PartCasesLaws.{Opened, Replaced, part-has}
 use Rattle.address_list.specs.declared.PartKind.the-variants.{Angled, Alternative}
 use Rattle.address_list.specs.declared.Front.{Front}
-use Rattle.address_grammar.specs.PartGrammar.{WordForm, WordText, AddressText, SomeBlanks, PhraseText, AngledText, AlternativeText, IsPart, EachIsPart, joinedParts}
+use Rattle.address_grammar.specs.PartGrammar.{PhraseText, AngledText, AlternativeText, IsPart, EachIsPart, joinedParts}
+use Rattle.address_grammar.specs.PartTexts.{WordForm, WordText, AddressText, SomeBlanks}
 
 -- ---- words and addresses
 

@@ -14,7 +14,8 @@ use Rattle.address_list.specs.Parts.{Part, changes, anyChanges}
 use Rattle.address_list.specs.Grammar.{unlessGap, kindsOf}
 use Rattle.address_list.specs.declared.PartKind.{PartKind}
 use Rattle.address_list.specs.declared.PartKind.the-variants.{Blank, Comment, Comma, Colon, Semicolon, Phrase, Address, Angled, Alternative, Stray}
-use Rattle.group.specs.Group.{isColon, isSemicolon, isLost, inside, anyLost, textOf, trimmed, turnsFrom}
+use Rattle.group.specs.Group.{isColon, isSemicolon, isLost, inside, anyLost, textOf, turnsFrom}
+use Rattle.group.specs.Trimmed.{trimmed}
 use Rattle.address_pieces.specs.Pieces.{removed, pieces, turnPieces, piecesOf}
 use Rattle.address_grammar.specs.PartGrammar.{IsPart, EachIsPart, joinedParts}
 

@@ -13,7 +13,8 @@ use Rattle.line.specs.Line.{blank}
 use Rattle.unquote.specs.Unquote.{unquoted}
 use Rattle.phrase.specs.Phrase.{wordSize, wordsFrom, phraseWords, afterSpaces, joinedBySpaces, phraseText}
 use Rattle.phrase.specs.PhraseLaws.{phrase-words-front}
-use Rattle.address_grammar.specs.PartGrammar.{WordText, PhraseText}
+use Rattle.address_grammar.specs.PartGrammar.{PhraseText}
+use Rattle.address_grammar.specs.PartTexts.{WordText}
 use Rattle.address_grammar.specs.FoundLaws.{starts, ending, Apart, ended-apart, stops-blanks, run-whole, word-starts, word-some, word-found}
 use Rattle.address_grammar.specs.AddressField.{Words}
 

@@ -1,8 +1,9 @@
 -- What an address field becomes. Assumes nothing.
-use mathlib.Core.Bool.{true}
-use mathlib.Core.List.{List, _++_}
+use mathlib.Core.Bool.{Bool, true, false, cond}
+use mathlib.Core.List.{List, [], _++_}
 use Prim.Native.Nat.{ℕ}
 use Rattle.rules.specs.declared.Rules.{Rules}
+use Rattle.rules.specs.declared.Rules.the-variants.{Spool, Current, Mailbox}
 use Rattle.piece.specs.Piece.{fitting as fittingScratch}
 use Rattle.encoded_word.specs.Segments.{Segment}
 use Rattle.field.specs.Field.{encodedField, named}
@@ -17,12 +18,21 @@ use Rattle.address_pieces.specs.Pieces.{piecesOf}
 unfoldable pub rewrittenField : Rules → List ℕ → List ℕ → List Segment
 rewrittenField rules name text = named name (piecesOf rules (turnsOf (partsOf rules text)))
 
--- "Text that does not fit is encapsulated." "If any address was replaced or removed, a `Downgraded-` field with encoded words of the
--- original text follows the rewritten field."
+-- for a mailbox "no copies of address fields are added"
+abbrev pub addsCopy : Rules → Bool
+addsCopy Spool = true
+addsCopy Current = true
+addsCopy Mailbox = false
+
+-- the copy: "a `Downgraded-` field with encoded words of the original text"
+unfoldable pub copyOf : Rules → List ℕ → List ℕ → List Segment
+copyOf rules name text = cond (addsCopy rules) (encodedField true name text) []
+
+-- "Text that does not fit is encapsulated." "If any address was replaced or removed", the copy "follows the rewritten field".
 unfoldable pub fieldBy : Examined → Rules → List ℕ → List ℕ → List Segment
 fieldBy DoesNotFit rules name text = encodedField true name text
 fieldBy Kept rules name text = rewrittenField rules name text
-fieldBy Changed rules name text = rewrittenField rules name text ++ encodedField true name text
+fieldBy Changed rules name text = rewrittenField rules name text ++ copyOf rules name text
 
 -- the segments of an address field whose value is not ASCII, by its name and text
 unfoldable pub addressField : Rules → List ℕ → List ℕ → List Segment

@@ -19,6 +19,7 @@ use Rattle.row.specs.RowLaws.{length-row-le}
 use Rattle.encoded_word.specs.SegmentsLaws.{rendered-append}
 use Rattle.encoded_word.specs.Segments.{Segment, bytesOf, rendered}
 use Rattle.encoded_word.specs.Segments.Segment.{words}
+use Rattle.field.specs.Field.{encodedField}
 use Rattle.field.specs.FieldLaws.{length-encoded, length-named}
 use Rattle.address.specs.AddressLaws.{byte-within}
 use Rattle.address.specs.declared.Scan.{Scan}
@@ -38,13 +39,14 @@ use Rattle.address_list.specs.declared.Examined.{Examined}
 use Rattle.address_list.specs.declared.Examined.the-variants.{DoesNotFit, Kept, Changed}
 use Rattle.address_list.specs.declared.PartKind.{PartKind}
 use Rattle.address_list.specs.declared.PartKind.the-variants.{Blank, Comment, Comma, Colon, Semicolon, Phrase, Address, Angled, Alternative, Stray}
-use Rattle.group.specs.Group.{isLost, inside, anyLost, textOf, trimmed, Turn, turnsOf}
+use Rattle.group.specs.Group.{isLost, inside, anyLost, textOf, Turn, turnsOf}
+use Rattle.group.specs.Trimmed.{trimmed}
 use Rattle.group.specs.GroupLaws.{Each, each-inside, TurnCases, turns-have}
 use Rattle.group.specs.TrimmedLaws.{trimmed-le}
 use Rattle.piece.specs.Piece.{piece}
 use Rattle.address_pieces.specs.Pieces.{phrasePieces, removed, inAngles, addressPieces, pieces, turnPieces, piecesOf}
 use Rattle.piece.specs.PieceLaws.{rendered-one}
-use Rattle.address_pieces.specs.AddressField.{rewrittenField, fieldBy, addressField}
+use Rattle.address_pieces.specs.AddressField.{rewrittenField, addsCopy, copyOf, fieldBy, addressField}
 
 either-le : (b : Bool) (x y : List Segment) (n : ℕ) → length (rendered x) ≤ n → length (rendered y) ≤ n → length (rendered (cond b x y)) ≤ n
 either-le true x y n p q = p
@@ -247,11 +249,18 @@ module _ (rules : Rules) (name text : List ℕ) where
   unfolding rewrittenField
   rewritten-le = rw (length-named name (piecesOf rules (turnsOf (partsOf rules text)))) (omega (arith, value-le rules text))
 
+  copy-le : length (rendered (copyOf rules name text)) ≤ 42 + length name + 3 * length text
+  unfolding copyOf rendered
+  copy-le =
+      cond-has (λ (ss : List Segment). length (rendered ss) ≤ 42 + length name + 3 * length text) (addsCopy rules) (encodedField true name text) []
+      (λ t. length-encoded true name text)
+      (λ t. zero-le)
+
   by-le : (e : Examined) → length (rendered (fieldBy e rules name text)) ≤ 45 + 2 * length name + 28 * length text
   unfolding fieldBy
   by-le DoesNotFit = omega (arith, length-encoded true name text)
   by-le Kept = omega (arith, rewritten-le)
-  by-le Changed = rw (rendered-append, length-append) (omega (arith, rewritten-le, length-encoded true name text))
+  by-le Changed = rw (rendered-append, length-append) (omega (arith, rewritten-le, copy-le))
 
   -- of every name and text
   pub length-address-field : length (rendered (addressField rules name text)) ≤ 45 + 2 * length name + 28 * length text

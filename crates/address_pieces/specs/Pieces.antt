@@ -13,7 +13,8 @@ use Rattle.encoded_word.specs.Segments.Segment.{raw, words}
 use Rattle.phrase.specs.Phrase.{phraseWords, phraseText}
 use Rattle.piece.specs.Piece.{piece}
 use Rattle.piece.specs.CommentPieces.{commentPieces}
-use Rattle.group.specs.Group.{Turn, trimmed}
+use Rattle.group.specs.Group.{Turn}
+use Rattle.group.specs.Trimmed.{trimmed}
 use Rattle.address_list.specs.declared.PartKind.{PartKind}
 use Rattle.address_list.specs.declared.PartKind.the-variants.{Blank, Comment, Comma, Colon, Semicolon, Phrase, Address, Angled, Alternative, Stray}
 

@@ -22,7 +22,8 @@ use Rattle.address_list.specs.Parts.{innerEnd}
 use Rattle.address_list.specs.PartsLaws.{parts-end}
 use Rattle.address_list.specs.declared.PartKind.{PartKind}
 use Rattle.address_list.specs.declared.PartKind.the-variants.{Blank, Comment, Comma, Colon, Semicolon, Phrase, Address, Angled, Alternative, Stray}
-use Rattle.group.specs.Group.{isLost, trimmed, Turn, turnsFrom, turnFor, partsAt, NextAt}
+use Rattle.group.specs.Group.{isLost, Turn, turnsFrom, turnFor, partsAt, NextAt}
+use Rattle.group.specs.Trimmed.{trimmed}
 use Rattle.group.specs.NestingLaws.{isRemoved}
 use Rattle.group.specs.declared.Next.{Next}
 use Rattle.piece.specs.Piece.{piece}

@@ -38,12 +38,13 @@ use Rattle.address_list.specs.declared.State.{State}
 use Rattle.address_list.specs.declared.State.the-variants.{ItemDue}
 use Rattle.address_list.specs.declared.Examined.{Examined}
 use Rattle.address_list.specs.declared.Examined.the-variants.{DoesNotFit, Kept, Changed}
-use Rattle.group.specs.Group.{inside, textOf, trimmed, Turn, turnsFrom, turnsOf}
+use Rattle.group.specs.Group.{inside, textOf, Turn, turnsFrom, turnsOf}
+use Rattle.group.specs.Trimmed.{trimmed}
 use Rattle.group.specs.GroupLaws.{Each, each-inside, TurnCases, turns-have}
 use Rattle.group.specs.TrimmedLaws.{trimmed-utf8}
 use Rattle.piece.specs.Piece.{piece}
 use Rattle.address_pieces.specs.Pieces.{phrasePieces, removed, inAngles, addressPieces, pieces, turnPieces, piecesOf}
-use Rattle.address_pieces.specs.AddressField.{rewrittenField, fieldBy, addressField}
+use Rattle.address_pieces.specs.AddressField.{rewrittenField, addsCopy, copyOf, fieldBy, addressField}
 
 -- ---- a phrase
 
@@ -255,16 +256,20 @@ module _ (rules : Rules) (name text : List ℕ) (a : T (all isAscii name)) (u : 
       let ps = partsFrom rules 0 text in
       named-sound name (piecesOf rules (turnsFrom false ps)) a (turns-have (SoundTurns rules) (SoundTurns rules) (turns-sound rules) ps .0 (parts-known rules 0 text ItemDue u t))
 
+  copy-sound : T (all sound (copyOf rules name text))
+  unfolding copyOf
+  copy-sound = cond-has (λ (ss : List Segment). T (all sound ss)) (addsCopy rules) (encodedField true name text) [] (λ t. encoded-sound true name text a u) (λ t. tt)
+
   -- Every segment of an address field is sound.
   pub address-field-sound : T (all sound (addressField rules name text))
   unfolding addressField examined examinedFrom fieldBy
   address-field-sound =
       let ps = partsOf rules text in
       let by : Examined → Type 0 = (λ e. T (all sound (fieldBy e rules name text))) in
-      let copy = encoded-sound true name text a u in
+      let encoded = encoded-sound true name text a u in
       cond-has by (complete ItemDue ps) (cond (false || anyChanges ps) Changed Kept) DoesNotFit
       (λ t.
       cond-has by (false || anyChanges ps) Changed Kept
-      (λ v. all-append sound (rewrittenField rules name text) (encodedField true name text) (rewritten-sound t) copy)
+      (λ v. all-append sound (rewrittenField rules name text) (copyOf rules name text) (rewritten-sound t) copy-sound)
       (λ v. rewritten-sound t))
-      (λ t. copy)
+      (λ t. encoded)

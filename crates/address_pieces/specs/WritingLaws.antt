@@ -1,12 +1,12 @@
 -- The writing of an address field, step by step. Assumes nothing.
 use mathlib.Core.Path.{_≡_, ap, sym, _∙_}
-use mathlib.Core.Bool.{true}
+use mathlib.Core.Bool.{true, false}
 use mathlib.Core.List.{List, [], _∷_, _++_, map}
 use Prim.Native.Nat.{ℕ, _+_, _-_, _*_, _≤_}
 use native.Mathlib.Omega.{arith}
 use lib.ListN.{length, length-append}
 use Rattle.buffer.specs.Buffer.{Wrote, AppendedCapped, greatest}
-use Rattle.buffer.specs.BufferLaws.{appended-from, appended-of, appended-then, capped-then, capped-same, length-wrote, wrote-from}
+use Rattle.buffer.specs.BufferLaws.{appended-from, appended-of, appended-then, capped-none, capped-then, capped-same, length-wrote, wrote-from}
 use Rattle.rules.specs.Rules.{removalStart, removalEnd}
 use Rattle.rules.specs.declared.Rules.{Rules}
 use Rattle.row.specs.Row.{row, bounded}
@@ -26,7 +26,7 @@ use Rattle.piece.specs.Piece.{piece}
 use Rattle.address_pieces.specs.Pieces.{removed, piecesOf}
 use Rattle.piece.specs.PieceLaws.{rendered-one, wrote-same, MadeIn, made-in}
 pub use Rattle.piece.specs.PieceLaws.{fitting-short}
-use Rattle.address_pieces.specs.AddressField.{rewrittenField, fieldBy, addressField}
+use Rattle.address_pieces.specs.AddressField.{rewrittenField, addsCopy, copyOf, fieldBy, addressField}
 use Rattle.address_pieces.specs.LengthLaws.{removed-le}
 
 -- ---- two writings, one after the other
@@ -66,19 +66,29 @@ module _ (rules : Rules) (name text : List ℕ) where
   rewritten-added k a b d f = named-added name (piecesOf rules (turnsOf (partsOf rules text))) k a b d f
 
   module _ (h : length text ≤ 32768) where
-    copy-added : {before after : List ℕ} {at r : ℕ} → AppendedCapped (rendered (encodedField true name (bounded text))) at before after r
+    encoded-added : {before after : List ℕ} {at r : ℕ} → AppendedCapped (rendered (encodedField true name (bounded text))) at before after r
         → AppendedCapped (rendered (encodedField true name text)) at before after r
-    copy-added a = rw (bounded-short text (omega arith)) at a
+    encoded-added a = rw (bounded-short text (omega arith)) at a
 
-    pub with-copy : {before mid after : List ℕ} {at n r : ℕ} → length before ≤ greatest → AppendedCapped (rendered (rewrittenField rules name text)) at before mid n
-        → AppendedCapped (rendered (encodedField true name (bounded text))) n mid after r → AppendedCapped (rendered (fieldBy Changed rules name text)) at before after r
-    unfolding fieldBy
-    with-copy k w a = capped-same (sym (rendered-append (rewrittenField rules name text) (encodedField true name text))) (capped-then w (copy-added a) k)
+    -- the copy, where the rules add one
+    pub copy-added : {before after : List ℕ} {at r : ℕ} → addsCopy rules ≡ true → AppendedCapped (rendered (encodedField true name (bounded text))) at before after r
+        → AppendedCapped (rendered (copyOf rules name text)) at before after r
+    unfolding copyOf
+    copy-added e a = rw e (encoded-added a)
 
     pub by-encoded : {before after : List ℕ} {at r : ℕ} → AppendedCapped (rendered (encodedField true name (bounded text))) at before after r
         → AppendedCapped (rendered (fieldBy DoesNotFit rules name text)) at before after r
     unfolding fieldBy
-    by-encoded a = copy-added a
+    by-encoded a = encoded-added a
+
+  pub copy-none : (before : List ℕ) (at : ℕ) → addsCopy rules ≡ false → at ≤ greatest → AppendedCapped (rendered (copyOf rules name text)) at before before at
+  unfolding copyOf rendered
+  copy-none before at e h = rw e (capped-none at before h)
+
+  pub with-copy : {before mid after : List ℕ} {at n r : ℕ} → length before ≤ greatest → AppendedCapped (rendered (rewrittenField rules name text)) at before mid n
+      → AppendedCapped (rendered (copyOf rules name text)) n mid after r → AppendedCapped (rendered (fieldBy Changed rules name text)) at before after r
+  unfolding fieldBy
+  with-copy k w a = capped-same (sym (rendered-append (rewrittenField rules name text) (copyOf rules name text))) (capped-then w a k)
 
   pub by-kept : {before after : List ℕ} {at r : ℕ} → AppendedCapped (rendered (rewrittenField rules name text)) at before after r
       → AppendedCapped (rendered (fieldBy Kept rules name text)) at before after r

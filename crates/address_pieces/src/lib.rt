@@ -9,7 +9,7 @@ ghost use lib.ListN.{length};
 ghost use Rattle.buffer.specs.Buffer.{AppendedCapped};
 ghost use Rattle.encoded_word.specs.Segments.{rendered};
 ghost use Rattle.address_list.specs.declared.Examined.the-variants.{Changed};
-ghost use Rattle.address_pieces.specs.AddressField.{rewrittenField, fieldBy, addressField, fitting};
+ghost use Rattle.address_pieces.specs.AddressField.{rewrittenField, copyOf, fieldBy, addressField, fitting};
 use address_list::Examined;
 use rules::Rules;
 
@@ -31,7 +31,19 @@ fn add_rewritten(
     buffer::add_slice(out, end, b"\r\n")
 }
 
-// The same, and the field with its original text encoded after it.
+// The field with its original text encoded, where the rules add such a copy.
+fn add_copy(out: &mut [u8], at: usize, rules: Rules, name: &[u8], text: &[u8]) -> usize
+    requires { ⌜ length (now text) ≤ 32768 ⌝ }
+    ensures { λ r. ⌜ AppendedCapped (rendered (copyOf rules (now (name .entry)) (now (text .entry)))) at (now (out .entry)) (now (out .exit)) r ⌝ }
+{
+    match rules {
+        Rules::Spool => field::add_encoded(out, at, name, text, true),
+        Rules::Current => field::add_encoded(out, at, name, text, true),
+        Rules::Mailbox => at,
+    }
+}
+
+// The rewritten field, and the copy after it.
 fn add_with_copy(
     out: &mut [u8],
     at: usize,
@@ -44,7 +56,7 @@ fn add_with_copy(
     ensures { λ r. ⌜ AppendedCapped (rendered (fieldBy Changed rules (now (name .entry)) (now (text .entry)))) at (now (out .entry)) (now (out .exit)) r ⌝ }
 {
     let next = add_rewritten(out, at, rules, name, text, scratch);
-    field::add_encoded(out, next, name, text, true)
+    add_copy(out, next, rules, name, text)
 }
 
 // The field by what its text is found to be.

@@ -35,11 +35,16 @@ use Rattle.header_stop.specs.HeaderStopLaws.{line-stop}
 use Rattle.offset.specs.Offset.{frontLine, lineStart, lineAt, orcptByte, faultByte, faultOffset, orcptOffset, headerLineOffset, fieldOffset}
 use Rattle.offset.specs.OffsetLaws.{front-within, fault-inside, orcpt-inside}
 use Rattle.call.specs.declared.Refusal.{Refusal}
-use Rattle.call.specs.declared.Refusal.the-variants.{EnvelopeOver, HeaderOver, EnvelopeLine, HeaderLine, OrcptLine, HeldLine, EnvelopeNeeds, HeaderNeeds}
+use Rattle.call.specs.declared.Refusal.the-variants.{EnvelopeOver, EnvelopeLine, OrcptLine, EnvelopeNeeds, Header}
 use Rattle.call.specs.declared.Verdict.{Verdict}
 use Rattle.call.specs.declared.Verdict.the-variants.{Accept, Refuse}
-use Rattle.call.specs.OutgoingHeader.{outgoingHeader}
-use Rattle.call.specs.Outcome.{numberOf, inputOf, placeOf, offsetOf, over, ofEnvelope, ofLines, ofOrcpt, ofHeld, firstOf, verdict, Outcome, outcomeOf, outcome}
+use Rattle.outgoing_header.specs.declared.HeaderRefusal.the-variants.{Over, Line, Held, Needs}
+use Rattle.outgoing_header.specs.HeaderOutcome.{ofSize, ofLines, ofHeld, ofRoom, numberOf as headerNumber, placeOf as headerPlace, offsetOf as headerOffset}
+use Rattle.outgoing_header.specs.HeaderOutcomeLaws.{size-over, size-within, room-short, room-enough}
+use Rattle.outgoing_header.specs.HeaderBoundLaws.{malformed-le, header-line-le, held-le, field-offset-le}
+use Rattle.outgoing_field.specs.OwedLaws.{most-le}
+use Rattle.call.specs.OutgoingHeader.{newFieldsMost, outgoingHeader}
+use Rattle.call.specs.Outcome.{numberOf, inputOf, placeOf, offsetOf, over, ofEnvelope, ofHeader, ofOrcpt, firstOf, verdict, Outcome, outcomeOf, outcome}
 use Rattle.call.specs.OutputLaws.{over-yes, over-no, outgoing-le}
 
 -- ---- places and offsets
@@ -90,65 +95,6 @@ orcpt-offset-le : (e : List ℕ) (n : ℕ) → orcptOffset e n ≤ length e
 unfolding orcptOffset lineAt
 orcpt-offset-le e n = orcpt-inside e n (lineStart n e) refl refl refl (orcptByte (eqb n 0) (lineText (lineAt n e))) refl
 
--- a malformed header line, and where it starts
-data LineWithin (n m : ℕ) : LineCheck → Type 0 where
-  well-formed : LineWithin n m WellFormed
-  malformed : {line at : ℕ} → line ≤ n → at ≤ m → LineWithin n m (MalformedLine line at)
-
-lines-within : (n at i j : ℕ) (ls : List (List ℕ)) → n + length ls ≤ i → at + length (joined ls) ≤ j → LineWithin i j (linesFrom n at ls)
-unfolding linesFrom
-lines-within n at i j [] k l = well-formed
-lines-within n at i j (line ∷ more) k l =
-    let size = length-append line (joined more) in
-    cond-has (LineWithin i j) (lineOk (eqb n 0) line) (linesFrom (suc n) (at + length line) more) (MalformedLine n at)
-    (λ t. lines-within (suc n) (at + length line) i j more (omega arith) (omega arith))
-    (λ t. malformed (omega arith) (omega arith))
-
-malformed-line : {n m line at : ℕ} → LineWithin n m (MalformedLine line at) → (line ≤ n) × (at ≤ m)
-malformed-line (malformed k l) = (k, l)
-
-malformed-le : (h : List ℕ) (line at : ℕ) → checkedLines h ≡ MalformedLine line at → (line ≤ length h) × (at ≤ length h)
-unfolding checkedLines linesOf
-malformed-le h line at q =
-    let size : List ℕ → ℕ = λ rest. lineLen rest + 2 in
-    malformed-line (rw q at (lines-within 0 0 (length h) (length h) (linesOf h) (omega (arith, cut-few size h)) (omega (arith, ap length (cut-joined size h)))))
-
-header-line-le : (h : List ℕ) (n at : ℕ) → at ≤ length h → headerLineOffset h n at ≤ length h
-unfolding headerLineOffset
-header-line-le h n at k = omega (arith, line-stop (eqb n 0) (frontLine (drop at h)) .inside, front-within h at k)
-
--- a held field, and where it starts
-data HeldWithin (h : List ℕ) (n : ℕ) : HeldField → Type 0 where
-  absent : HeldWithin h n Absent
-  at-field : {at : ℕ} → at ≤ n → HeldWithin h n (HeldAt (lineCount (take at h)) at)
-
-held-within : (rules : Rules) (h : List ℕ) (at n : ℕ) (fields : List (List ℕ)) → at + length (joined fields) ≤ n → HeldWithin h n (heldFrom rules h at fields)
-unfolding heldFrom
-held-within rules h at n [] k = absent
-held-within rules h at n (field ∷ fields) k =
-    let size = length-append field (joined fields) in
-    cond-has (HeldWithin h n) (isHeld (fateOf rules field)) (HeldAt (lineCount (take at h)) at) (heldFrom rules h (at + length field) fields)
-    (λ t. at-field {at = at} (omega arith))
-    (λ t. held-within rules h (at + length field) n fields (omega arith))
-
-line-count-le : (s : List ℕ) → lineCount s ≤ length s
-unfolding lineCount
-line-count-le [] = omega arith
-line-count-le (b ∷ rest) =
-    let k = line-count-le rest in
-    cond-has (λ (n : ℕ). n ≤ suc (length rest)) (crlf (b ∷ rest)) (suc (lineCount rest)) (lineCount rest) (λ t. omega arith) (λ t. omega arith)
-
-held-place : {h : List ℕ} {n line at : ℕ} → HeldWithin h n (HeldAt line at) → (line ≤ length h) × (at ≤ n)
-held-place {h} (at-field {at} k) = (omega (arith, line-count-le (take at h), length-take at h), k)
-
-held-le : (rules : Rules) (h : List ℕ) (line at : ℕ) → heldOf rules h ≡ HeldAt line at → (line ≤ length h) × (at ≤ length h)
-unfolding heldOf fieldsOf
-held-le rules h line at q = held-place (rw q at (held-within rules h 0 (length h) (fieldsOf h) (omega (arith, ap length (cut-joined fieldLen h)))))
-
-field-offset-le : (h : List ℕ) (at : ℕ) → at ≤ length h → fieldOffset h at ≤ length h
-unfolding fieldOffset
-field-offset-le h at k = omega (arith, run-le isAscii (drop at h), length-drop at h)
-
 -- ---- by verdict
 
 -- a first verdict either accepts, and the next ones decide, or is the answer
@@ -170,13 +116,27 @@ module _ (rules : Rules) (P : Verdict → Type 0) (more : List Verdict) where
       go (Passed count) q = f count q
       go (Refused fault line) q = g fault line q
 
+  first-size : (h : List ℕ) → (length h ≤ 32768 → P (firstOf more)) → (32768 < length h → P (Refuse (Header Over))) → P (firstOf (ofHeader (ofSize h) ∷ more))
+  unfolding firstOf ofHeader
+  first-size h f g =
+      by-test (ltb 32768 (length h))
+      (λ t. let k = ltb-yes {a = 32768} {b = length h} t in rw (size-over h k) (g k))
+      (λ t. let k = ltb-no {a = 32768} {b = length h} t in rw (size-within h k) (f k))
+
+  first-room : (room size : ℕ) → (size ≤ room → P (firstOf more)) → (room < size → P (Refuse (Header (Needs size)))) → P (firstOf (ofHeader (ofRoom room size) ∷ more))
+  unfolding firstOf ofHeader
+  first-room room size f g =
+      by-test (ltb room size)
+      (λ t. let k = ltb-yes {a = room} {b = size} t in rw (room-short room size k) (g k))
+      (λ t. let k = ltb-no {a = room} {b = size} t in rw (room-enough room size k) (f k))
+
   first-lines : (h : List ℕ) → (checkedLines h ≡ WellFormed → P (firstOf more))
-      → ((line at : ℕ) → checkedLines h ≡ MalformedLine line at → P (Refuse (HeaderLine line (headerLineOffset h line at))))
-      → P (firstOf (ofLines h (checkedLines h) ∷ more))
-  unfolding firstOf ofLines
+      → ((line at : ℕ) → checkedLines h ≡ MalformedLine line at → P (Refuse (Header (Line line (headerLineOffset h line at)))))
+      → P (firstOf (ofHeader (ofLines h (checkedLines h)) ∷ more))
+  unfolding firstOf ofLines ofHeader
   first-lines h f g = go (checkedLines h) refl
     where
-      go : (r : LineCheck) → checkedLines h ≡ r → P (firstOf (ofLines h r ∷ more))
+      go : (r : LineCheck) → checkedLines h ≡ r → P (firstOf (ofHeader (ofLines h r) ∷ more))
       go WellFormed q = f q
       go (MalformedLine line at) q = g line at q
 
@@ -188,11 +148,11 @@ module _ (rules : Rules) (P : Verdict → Type 0) (more : List Verdict) where
       go Clean q = f
       go (At line) q = g line q
 
-  first-held : (h : List ℕ) → P (firstOf more) → ((line at : ℕ) → heldOf rules h ≡ HeldAt line at → P (Refuse (HeldLine line (fieldOffset h at)))) → P (firstOf (ofHeld h (heldOf rules h) ∷ more))
-  unfolding firstOf ofHeld
+  first-held : (h : List ℕ) → P (firstOf more) → ((line at : ℕ) → heldOf rules h ≡ HeldAt line at → P (Refuse (Header (Held line (fieldOffset h at))))) → P (firstOf (ofHeader (ofHeld h (heldOf rules h)) ∷ more))
+  unfolding firstOf ofHeld ofHeader
   first-held h f g = go (heldOf rules h) refl
     where
-      go : (r : HeldField) → heldOf rules h ≡ r → P (firstOf (ofHeld h r ∷ more))
+      go : (r : HeldField) → heldOf rules h ≡ r → P (firstOf (ofHeader (ofHeld h r) ∷ more))
       go Absent q = f
       go (HeldAt line at) q = g line at q
 
@@ -229,25 +189,25 @@ module _ (rules : Rules) (e h : List ℕ) (room₁ room₂ : ℕ) where
 
   -- where the envelope and the header pass
   rooms-bound : length e ≤ 16384 → length h ≤ 32768 → (count : ℕ) → checked rules e ≡ Passed count → checkedLines h ≡ WellFormed
-      → Bounds (firstOf (over room₁ (length (written e)) (EnvelopeNeeds (length (written e))) ∷ over room₂ (length (outgoingHeader rules e h)) (HeaderNeeds (length (outgoingHeader rules e h))) ∷ []))
-  unfolding firstOf numberOf placeOf offsetOf
+      → Bounds (firstOf (over room₁ (length (written e)) (EnvelopeNeeds (length (written e))) ∷ ofHeader (ofRoom room₂ (length (outgoingHeader rules e h))) ∷ []))
+  unfolding firstOf numberOf placeOf offsetOf headerNumber headerPlace headerOffset newFieldsMost
   rooms-bound k l count p w =
       let n : length (written e) ≤ greatest32 = omega (arith, written-le rules e count p) in
-      let m : length (outgoingHeader rules e h) ≤ greatest32 = omega (arith, outgoing-le rules e h count p l w) in
-      let last : Verdict = over room₂ (length (outgoingHeader rules e h)) (HeaderNeeds (length (outgoingHeader rules e h))) in
+      let m : length (outgoingHeader rules e h) ≤ greatest32 = omega (arith, outgoing-le rules e h count p l w, most-le h l) in
+      let last : Verdict = ofHeader (ofRoom room₂ (length (outgoingHeader rules e h))) in
       first-over rules Bounds (last ∷ []) room₁ (length (written e)) (EnvelopeNeeds (length (written e)))
       (λ f.
-      first-over rules Bounds [] room₂ (length (outgoingHeader rules e h)) (HeaderNeeds (length (outgoingHeader rules e h)))
+      first-room rules Bounds [] room₂ (length (outgoingHeader rules e h))
       (λ g. fitting (record { fits₁ = f; fits₂ = g; small₁ = n; small₂ = m }))
       (λ g. small (record { number = omega arith; place = m; offset = omega arith })))
       (λ f. small (record { number = omega arith; place = n; offset = omega arith }))
 
   verdict-bound : Bounds (verdict rules e h room₁ room₂)
-  unfolding verdict numberOf placeOf offsetOf
+  unfolding verdict numberOf placeOf offsetOf headerNumber headerPlace headerOffset
   verdict-bound =
       first-over rules Bounds _ 16384 (length e) EnvelopeOver
       (λ k.
-      first-over rules Bounds _ 32768 (length h) HeaderOver
+      first-size rules Bounds _ h
       (λ l.
       first-envelope rules Bounds _ e
       (λ count p.

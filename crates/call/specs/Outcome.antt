@@ -10,16 +10,15 @@ use Rattle.envelope.specs.declared.Checked.the-variants.{Passed, Refused}
 use Rattle.envelope.specs.declared.Orcpt.{Orcpt}
 use Rattle.envelope.specs.declared.Orcpt.the-variants.{Clean, At}
 use Rattle.envelope.specs.Envelope.{checked, faultNumber, orcptLine, written}
-use Rattle.header_line.specs.declared.LineCheck.{LineCheck}
-use Rattle.header_line.specs.declared.LineCheck.the-variants.{WellFormed, Malformed}
-use Rattle.outgoing_field.specs.declared.HeldField.{HeldField}
-use Rattle.outgoing_field.specs.declared.HeldField.the-variants.{Absent, At as HeldAt}
 use Rattle.header_line.specs.Lines.{checkedLines}
 use Rattle.rules.specs.declared.Rules.{Rules}
 use Rattle.outgoing_field.specs.Fate.{heldOf}
-use Rattle.offset.specs.Offset.{faultOffset, orcptOffset, headerLineOffset, fieldOffset}
+use Rattle.offset.specs.Offset.{faultOffset, orcptOffset}
+use Rattle.outgoing_header.specs.declared.HeaderVerdict.{HeaderVerdict}
+use Rattle.outgoing_header.specs.declared.HeaderVerdict.the-variants.{Accept as HeaderAccept, Refuse as HeaderRefuse}
+use Rattle.outgoing_header.specs.HeaderOutcome.{ofSize, ofLines, ofHeld, ofRoom, numberOf as headerNumber, placeOf as headerPlace, offsetOf as headerOffset}
 use Rattle.call.specs.declared.Refusal.{Refusal}
-use Rattle.call.specs.declared.Refusal.the-variants.{EnvelopeOver, HeaderOver, EnvelopeLine, HeaderLine, OrcptLine, HeldLine, EnvelopeNeeds, HeaderNeeds}
+use Rattle.call.specs.declared.Refusal.the-variants.{EnvelopeOver, EnvelopeLine, OrcptLine, EnvelopeNeeds, Header}
 use Rattle.call.specs.declared.Verdict.{Verdict}
 use Rattle.call.specs.declared.Verdict.the-variants.{Accept, Refuse}
 use Rattle.call.specs.declared.Answer.{Answer}
@@ -30,46 +29,34 @@ use Rattle.call.specs.OutgoingHeader.{outgoingHeader}
 -- the paper's number for each refusal
 unfoldable pub numberOf : Refusal → ℕ
 numberOf EnvelopeOver = 1
-numberOf HeaderOver = 1
 numberOf (EnvelopeLine fault line offset) = faultNumber fault
-numberOf (HeaderLine line offset) = 5
 numberOf (OrcptLine line offset) = 6
-numberOf (HeldLine line offset) = 6
 numberOf (EnvelopeNeeds size) = 7
-numberOf (HeaderNeeds size) = 8
+numberOf (Header refusal) = headerNumber refusal
 
--- and its place: "0 envelope, 1 header", a line, or the "length needed"
+-- and its place: "0 envelope", a line, or the "length needed"
 unfoldable pub placeOf : Refusal → ℕ
 placeOf EnvelopeOver = 0
-placeOf HeaderOver = 1
 placeOf (EnvelopeLine fault line offset) = line
-placeOf (HeaderLine line offset) = line
 placeOf (OrcptLine line offset) = line
-placeOf (HeldLine line offset) = line
 placeOf (EnvelopeNeeds size) = size
-placeOf (HeaderNeeds size) = size
+placeOf (Header refusal) = headerPlace refusal
 
 -- and its offset: a byte, "from the start of the envelope or header". "For 0, 1, 7 and 8 it is 0."
 unfoldable pub offsetOf : Refusal → ℕ
 offsetOf EnvelopeOver = 0
-offsetOf HeaderOver = 0
 offsetOf (EnvelopeLine fault line offset) = offset
-offsetOf (HeaderLine line offset) = offset
 offsetOf (OrcptLine line offset) = offset
-offsetOf (HeldLine line offset) = offset
 offsetOf (EnvelopeNeeds size) = 0
-offsetOf (HeaderNeeds size) = 0
+offsetOf (Header refusal) = headerOffset refusal
 
 -- and which input it is about: 1 the envelope, 2 the header
 unfoldable pub inputOf : Refusal → ℕ
 inputOf EnvelopeOver = 1
-inputOf HeaderOver = 2
 inputOf (EnvelopeLine fault line offset) = 1
-inputOf (HeaderLine line offset) = 2
 inputOf (OrcptLine line offset) = 1
-inputOf (HeldLine line offset) = 2
 inputOf (EnvelopeNeeds size) = 1
-inputOf (HeaderNeeds size) = 2
+inputOf (Header refusal) = 2
 
 -- ---- the order of refusals
 
@@ -82,20 +69,15 @@ unfoldable pub ofEnvelope : List ℕ → Checked → Verdict
 ofEnvelope e (Passed count) = Accept
 ofEnvelope e (Refused fault line) = Refuse (EnvelopeLine fault line (faultOffset e fault line))
 
--- "then the first 5"
-unfoldable pub ofLines : List ℕ → LineCheck → Verdict
-ofLines h WellFormed = Accept
-ofLines h (Malformed line at) = Refuse (HeaderLine line (headerLineOffset h line at))
-
 -- 6 of an ORCPT
 unfoldable pub ofOrcpt : List ℕ → Orcpt → Verdict
 ofOrcpt e Clean = Accept
 ofOrcpt e (At line) = Refuse (OrcptLine line (orcptOffset e line))
 
--- 6 of a held field
-unfoldable pub ofHeld : List ℕ → HeldField → Verdict
-ofHeld h Absent = Accept
-ofHeld h (HeldAt line at) = Refuse (HeldLine line (fieldOffset h at))
+-- 1, 5, 6 and 8 of the header
+unfoldable pub ofHeader : HeaderVerdict → Verdict
+ofHeader HeaderAccept = Accept
+ofHeader (HeaderRefuse refusal) = Refuse (Header refusal)
 
 -- the first refusal of these
 unfoldable pub firstOf : List Verdict → Verdict
@@ -109,13 +91,13 @@ unfoldable pub verdict : Rules → List ℕ → List ℕ → ℕ → ℕ → Ver
 verdict rules e h room₁ room₂ =
     firstOf
     (over 16384 (length e) EnvelopeOver
-    ∷ over 32768 (length h) HeaderOver
+    ∷ ofHeader (ofSize h)
     ∷ ofEnvelope e (checked rules e)
-    ∷ ofLines h (checkedLines h)
+    ∷ ofHeader (ofLines h (checkedLines h))
     ∷ ofOrcpt e (orcptLine e)
-    ∷ ofHeld h (heldOf rules h)
+    ∷ ofHeader (ofHeld h (heldOf rules h))
     ∷ over room₁ (length (written e)) (EnvelopeNeeds (length (written e)))
-    ∷ over room₂ (length (outgoingHeader rules e h)) (HeaderNeeds (length (outgoingHeader rules e h)))
+    ∷ ofHeader (ofRoom room₂ (length (outgoingHeader rules e h)))
     ∷ [])
 
 -- ---- the call

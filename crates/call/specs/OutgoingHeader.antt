@@ -18,6 +18,10 @@ newField label (b ∷ text) = labelledField label (b ∷ text)
 unfoldable pub newFields : List ℕ → List Segment
 newFields e = newField (bytes "Downgraded-Mail-From:") (mailReplacement e) ++ newField (bytes "Downgraded-Rcpt-To:") (rcptReplacement e)
 
+-- the most bytes of both: two addresses of lines of 998 bytes, in `< < >>`
+unfoldable pub newFieldsMost : ℕ
+newFieldsMost = 20600
+
 -- the new first fields, then what becomes of each field of the header
 unfoldable pub outgoingSegments : Rules → List ℕ → List ℕ → List Segment
 outgoingSegments rules e h = newFields e ++ headerSegments rules h

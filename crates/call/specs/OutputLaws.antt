@@ -3,7 +3,6 @@ use mathlib.Core.Path.{_≡_, refl, sym, ap, _∙_}
 use mathlib.Core.List.{List, [], _∷_, _++_}
 use Prim.Native.Nat.{ℕ, _+_, _*_, _≤_, _<_, min}
 use native.Mathlib.Omega.{arith}
-use native.Mathlib.Nat.{not-suc-le-zero}
 use lib.ListN.{length, length-append}
 use borrow.Author.Tests.{lt-ltb, le-ltb}
 use Rattle.buffer.specs.Buffer.{Wrote, AppendedCapped, greatest}
@@ -25,15 +24,19 @@ use Rattle.header_line.specs.Lines.{checkedLines}
 use Rattle.rules.specs.declared.Rules.{Rules}
 use Rattle.outgoing_field.specs.Fate.{segmentsOf, headerSegments, limited, heldOf}
 use Rattle.outgoing_field.specs.FateLaws.{limited-short}
-use Rattle.outgoing_field.specs.OwedLaws.{owed-header}
+use Rattle.outgoing_field.specs.Most.{mostOf}
+use Rattle.outgoing_field.specs.OwedLaws.{owed-header, most-le}
 use Rattle.call.specs.declared.Refusal.{Refusal}
-use Rattle.call.specs.declared.Refusal.the-variants.{EnvelopeOver, HeaderOver, EnvelopeLine, EnvelopeNeeds, HeaderNeeds}
+use Rattle.call.specs.declared.Refusal.the-variants.{EnvelopeOver, EnvelopeLine, EnvelopeNeeds, Header}
 use Rattle.call.specs.declared.Verdict.{Verdict}
 use Rattle.call.specs.declared.Verdict.the-variants.{Accept, Refuse}
 use Rattle.call.specs.declared.Answer.{Answer}
-use Rattle.call.specs.OutgoingHeader.{newField, newFields, outgoingSegments, outgoingHeader}
-use Rattle.call.specs.Outcome.{over, ofEnvelope, ofLines, ofOrcpt, ofHeld, firstOf, verdict, outcomeOf, outcome, observed}
+use Rattle.call.specs.OutgoingHeader.{newField, newFields, newFieldsMost, outgoingSegments, outgoingHeader}
+use Rattle.call.specs.Outcome.{over, ofEnvelope, ofHeader, ofOrcpt, firstOf, verdict, outcomeOf, outcome, observed}
 use Rattle.offset.specs.Offset.{faultOffset}
+use Rattle.outgoing_header.specs.declared.HeaderRefusal.the-variants.{Over, Needs}
+use Rattle.outgoing_header.specs.HeaderOutcome.{ofSize, ofLines, ofHeld, ofRoom}
+use Rattle.outgoing_header.specs.HeaderOutcomeLaws.{size-over, size-within, room-short, room-enough, Needed, needed-none}
 use Rattle.call.specs.OutcomeLaws.{RefusedBy}
 use Rattle.call.specs.NewFieldLaws.{length-new-field}
 
@@ -58,26 +61,26 @@ module _ (rules : Rules) (e h : List ℕ) (room₁ room₂ : ℕ) where
   envelope-over k = rw (over-yes 16384 (length e) EnvelopeOver k)
 
   module _ (short₁ : length e ≤ 16384) where
-    pub header-over : 32768 < length h → verdict rules e h room₁ room₂ ≡ Refuse HeaderOver
-    unfolding verdict firstOf
-    header-over k = rw (over-no 16384 (length e) EnvelopeOver short₁, over-yes 32768 (length h) HeaderOver k)
+    pub header-over : 32768 < length h → verdict rules e h room₁ room₂ ≡ Refuse (Header Over)
+    unfolding verdict firstOf ofHeader
+    header-over k = rw (over-no 16384 (length e) EnvelopeOver short₁, size-over h k)
 
     module _ (short₂ : length h ≤ 32768) where
       pub envelope-line : (fault : Fault) (line offset : ℕ) → checked rules e ≡ Refused fault line → offset ≡ faultOffset e fault line → verdict rules e h room₁ room₂ ≡ Refuse (EnvelopeLine fault line offset)
-      unfolding verdict firstOf ofEnvelope
-      envelope-line fault line offset k q = rw (over-no 16384 (length e) EnvelopeOver short₁, over-no 32768 (length h) HeaderOver short₂, k, q)
+      unfolding verdict firstOf ofEnvelope ofHeader
+      envelope-line fault line offset k q = rw (over-no 16384 (length e) EnvelopeOver short₁, size-within h short₂, k, q)
 
       module _ (count : ℕ) (passed : checked rules e ≡ Passed count) where
         past-envelope : verdict rules e h room₁ room₂
             ≡ firstOf
-            (ofLines h (checkedLines h)
+            (ofHeader (ofLines h (checkedLines h))
             ∷ ofOrcpt e (orcptLine e)
-            ∷ ofHeld h (heldOf rules h)
+            ∷ ofHeader (ofHeld h (heldOf rules h))
             ∷ over room₁ (length (written e)) (EnvelopeNeeds (length (written e)))
-            ∷ over room₂ (length (outgoingHeader rules e h)) (HeaderNeeds (length (outgoingHeader rules e h)))
+            ∷ ofHeader (ofRoom room₂ (length (outgoingHeader rules e h)))
             ∷ [])
-        unfolding verdict firstOf ofEnvelope
-        past-envelope = rw (over-no 16384 (length e) EnvelopeOver short₁, over-no 32768 (length h) HeaderOver short₂, passed)
+        unfolding verdict firstOf ofEnvelope ofHeader
+        past-envelope = rw (over-no 16384 (length e) EnvelopeOver short₁, size-within h short₂, passed)
 
 -- of verdicts one after another
 first-refused : (a b : List Verdict) (refusal : Refusal) → firstOf a ≡ Refuse refusal → firstOf (a ++ b) ≡ Refuse refusal
@@ -96,11 +99,11 @@ first-accepted (Refuse r ∷ a) b k = absurd (let z : _≡_ {A = ℕ} 0 1 = cc i
 abbrev pub ofInput : Rules → List ℕ → List ℕ → List Verdict
 ofInput rules e h =
     over 16384 (length e) EnvelopeOver
-    ∷ over 32768 (length h) HeaderOver
+    ∷ ofHeader (ofSize h)
     ∷ ofEnvelope e (checked rules e)
-    ∷ ofLines h (checkedLines h)
+    ∷ ofHeader (ofLines h (checkedLines h))
     ∷ ofOrcpt e (orcptLine e)
-    ∷ ofHeld h (heldOf rules h)
+    ∷ ofHeader (ofHeld h (heldOf rules h))
     ∷ []
 
 -- an input that none of them refuses is decided by the buffers
@@ -108,33 +111,37 @@ module _ (rules : Rules) (e h : List ℕ) (room₁ room₂ : ℕ) (q : firstOf (
   by-rooms : verdict rules e h room₁ room₂
       ≡ firstOf
       (over room₁ (length (written e)) (EnvelopeNeeds (length (written e)))
-      ∷ over room₂ (length (outgoingHeader rules e h)) (HeaderNeeds (length (outgoingHeader rules e h)))
+      ∷ ofHeader (ofRoom room₂ (length (outgoingHeader rules e h)))
       ∷ [])
   unfolding verdict
   by-rooms = first-accepted (ofInput rules e h) _ q
 
+  pub envelope-short : room₁ < length (written e) → verdict rules e h room₁ room₂ ≡ Refuse (EnvelopeNeeds (length (written e)))
+  unfolding firstOf
+  envelope-short l = by-rooms ∙ rw (over-yes room₁ (length (written e)) (EnvelopeNeeds (length (written e))) l)
+
   module _ (k : length (written e) ≤ room₁) where
     pub both-fit : length (outgoingHeader rules e h) ≤ room₂ → verdict rules e h room₁ room₂ ≡ Accept
-    unfolding firstOf
+    unfolding firstOf ofHeader
     both-fit l =
         by-rooms
-        ∙ rw (over-no room₁ (length (written e)) (EnvelopeNeeds (length (written e))) k, over-no room₂ (length (outgoingHeader rules e h)) (HeaderNeeds (length (outgoingHeader rules e h))) l)
+        ∙ rw (over-no room₁ (length (written e)) (EnvelopeNeeds (length (written e))) k, room-enough room₂ (length (outgoingHeader rules e h)) l)
 
-    pub header-short : room₂ < length (outgoingHeader rules e h) → verdict rules e h room₁ room₂ ≡ Refuse (HeaderNeeds (length (outgoingHeader rules e h)))
-    unfolding firstOf
+    pub header-short : room₂ < length (outgoingHeader rules e h) → verdict rules e h room₁ room₂ ≡ Refuse (Header (Needs (length (outgoingHeader rules e h))))
+    unfolding firstOf ofHeader
     header-short l =
         by-rooms
-        ∙ rw (over-no room₁ (length (written e)) (EnvelopeNeeds (length (written e))) k, over-yes room₂ (length (outgoingHeader rules e h)) (HeaderNeeds (length (outgoingHeader rules e h))) l)
+        ∙ rw (over-no room₁ (length (written e)) (EnvelopeNeeds (length (written e))) k, room-short room₂ (length (outgoingHeader rules e h)) l)
 
 -- no header line is malformed, and no ORCPT and no held field carries non-ASCII
 pub record Accepted (rules : Rules) (e h : List ℕ) : Type 0 where
-  pub content : firstOf (ofLines h (checkedLines h) ∷ ofOrcpt e (orcptLine e) ∷ ofHeld h (heldOf rules h) ∷ []) ≡ Accept
+  pub content : firstOf (ofHeader (ofLines h (checkedLines h)) ∷ ofOrcpt e (orcptLine e) ∷ ofHeader (ofHeld h (heldOf rules h)) ∷ []) ≡ Accept
 
 pub accepted-lines : {rules : Rules} {e h : List ℕ} → Accepted rules e h → checkedLines h ≡ WellFormed
-unfolding firstOf ofLines
+unfolding firstOf ofLines ofHeader
 accepted-lines {rules} {e} {h} ok = go (checkedLines h) refl (ok .content)
   where
-    go : (l : LineCheck) → checkedLines h ≡ l → firstOf (ofLines h l ∷ ofOrcpt e (orcptLine e) ∷ ofHeld h (heldOf rules h) ∷ []) ≡ Accept → checkedLines h ≡ WellFormed
+    go : (l : LineCheck) → checkedLines h ≡ l → firstOf (ofHeader (ofLines h l) ∷ ofOrcpt e (orcptLine e) ∷ ofHeader (ofHeld h (heldOf rules h)) ∷ []) ≡ Accept → checkedLines h ≡ WellFormed
     go WellFormed q k = q
     go (Malformed line at) q k = absurd (let z : _≡_ {A = ℕ} 0 1 = cc in omega arith)
 
@@ -144,7 +151,7 @@ unfoldable pub headerOf : Rules → List ℕ → List ℕ → List ℕ → List 
 headerOf rules mail rcpt h =
     rendered ((newField (bytes "Downgraded-Mail-From:") mail ++ newField (bytes "Downgraded-Rcpt-To:") rcpt) ++ headerSegments rules h)
 
-header-le : (rules : Rules) (h : List ℕ) → checkedLines h ≡ WellFormed → length (rendered (headerSegments rules h)) ≤ 30 * length h
+header-le : (rules : Rules) (h : List ℕ) → checkedLines h ≡ WellFormed → length (rendered (headerSegments rules h)) ≤ mostOf h
 unfolding segmentsOf
 header-le rules h w = owed-header rules h w .short
 
@@ -154,8 +161,8 @@ pub record Short (mail rcpt h : List ℕ) : Type 0 where
   pub of-rcpt : length rcpt ≤ 2048
   pub of-header : length h ≤ 32768
 
-header-of-le : (rules : Rules) {mail rcpt h : List ℕ} → Short mail rcpt h → checkedLines h ≡ WellFormed → length (headerOf rules mail rcpt h) ≤ 30 * length h + 20600
-unfolding headerOf bytes
+header-of-le : (rules : Rules) {mail rcpt h : List ℕ} → Short mail rcpt h → checkedLines h ≡ WellFormed → length (headerOf rules mail rcpt h) ≤ mostOf h + newFieldsMost
+unfolding headerOf bytes newFieldsMost
 header-of-le rules {mail} {rcpt} {h} s w =
     let first = newField (bytes "Downgraded-Mail-From:") mail in
     let second = newField (bytes "Downgraded-Rcpt-To:") rcpt in
@@ -177,31 +184,29 @@ pub header-wrote : (rules : Rules) {mail rcpt h before mid rest after : List ℕ
     → AppendedCapped (rendered (newField (bytes "Downgraded-Rcpt-To:") rcpt)) n mid rest m
     → AppendedCapped (rendered (headerSegments rules (limited h))) m rest after k
     → Wrote (headerOf rules mail rcpt h) before after k
-unfolding headerOf
+unfolding headerOf newFieldsMost
 header-wrote rules {mail} {rcpt} {h} s w room a b d =
     let first = newField (bytes "Downgraded-Mail-From:") mail in
     let second = newField (bytes "Downgraded-Rcpt-To:") rcpt in
     let last = headerSegments rules h in
     let whole = capped-then (capped-then a b room) (rw (limited-short h (s .of-header)) at d) room in
     let same : (rendered first ++ rendered second) ++ rendered last ≡ rendered ((first ++ second) ++ last) = rw (rendered-append (first ++ second) last, rendered-append first second) in
-    wrote-of (capped-same same whole) (omega (arith, header-of-le rules s w, s .of-header))
+    wrote-of (capped-same same whole) (omega (arith, header-of-le rules s w, most-le h (s .of-header)))
 
 -- ---- room
 
--- r tells whether so many bytes fit a room: where r fits it they do, else r is how many they are.
-pub record Needed (size room r : ℕ) : Type 0 where
-  pub enough : r ≤ room → size ≤ room
-  pub exact : room < r → r ≡ size
+-- the most of the outgoing header, as code adds it up
+most-given : (h : List ℕ) {n : ℕ} → length h ≤ 32768 → n ≡ mostOf (limited h) → n ≡ mostOf h
+most-given h k e = rw (limited-short h k) at e
 
-pub needed-size : {size room r : ℕ} → r ≡ size → Needed size room r
-needed-size e = record { enough = λ k. rw e at k; exact = λ k. e }
+pub most-small : (h : List ℕ) {n : ℕ} → length h ≤ 32768 → n ≡ mostOf (limited h) → n ≤ 2621440
+most-small h k e = rw (most-given h k e) (most-le h k)
 
--- a room that holds every outgoing header of a well-formed header of this length
-pub ample : (rules : Rules) {mail rcpt h : List ℕ} {room : ℕ} → Short mail rcpt h → checkedLines h ≡ WellFormed → 30 * length h + 20600 ≤ room → Needed (length (headerOf rules mail rcpt h)) room 0
-ample rules {mail} {rcpt} {h} {room} s w k = record { enough = λ z. fits; exact = λ z. absurd (not-suc-le-zero z) }
-  where
-    fits : length (headerOf rules mail rcpt h) ≤ room
-    fits = omega (arith, header-of-le rules s w)
+-- a room that holds whatever the outgoing header of a well-formed header can be
+pub ample : (rules : Rules) {mail rcpt h : List ℕ} {room n : ℕ} → Short mail rcpt h → checkedLines h ≡ WellFormed → n ≡ mostOf (limited h) → n + 20600 ≤ room
+    → Needed (length (headerOf rules mail rcpt h)) room 0
+unfolding newFieldsMost
+ample rules {h = h} s w e k = needed-none (omega (arith, header-of-le rules s w, most-given h (s .of-header) e))
 
 -- these are the texts of the new first fields
 pub record Texts (e mail rcpt : List ℕ) : Type 0 where
@@ -212,9 +217,9 @@ pub header-of : (rules : Rules) {e mail rcpt : List ℕ} → Texts e mail rcpt �
 unfolding headerOf outgoingHeader outgoingSegments newFields
 header-of rules t h = rw (t .of-mail, t .of-rcpt)
 
--- the outgoing header has at most 30 bytes for each byte of a well-formed header, and 20,600 for the new first fields
+-- the outgoing header has at most the most of a well-formed header, and that of the new first fields
 pub outgoing-le : (rules : Rules) (e h : List ℕ) (count : ℕ) → checked rules e ≡ Passed count → length h ≤ 32768 → checkedLines h ≡ WellFormed
-    → length (outgoingHeader rules e h) ≤ 30 * length h + 20600
+    → length (outgoingHeader rules e h) ≤ mostOf h + newFieldsMost
 outgoing-le rules e h count p k w =
     let t : Texts e (mailReplacement e) (rcptReplacement e) = record { of-mail = refl; of-rcpt = refl } in
     let s : Short (mailReplacement e) (rcptReplacement e) h =
@@ -246,11 +251,11 @@ unfolding written
 starts-written s a = wrote-of (rw (s .starts) at a) (omega (arith, s .size))
 
 module _ {rules : Rules} {e h array : List ℕ} {count : ℕ} (r : Ready rules e h array count) where
-  pub content-refused : (room₁ room₂ : ℕ) {refusal : Refusal} → firstOf (ofLines h (checkedLines h) ∷ ofOrcpt e (orcptLine e) ∷ ofHeld h (heldOf rules h) ∷ []) ≡ Refuse refusal
+  pub content-refused : (room₁ room₂ : ℕ) {refusal : Refusal} → firstOf (ofHeader (ofLines h (checkedLines h)) ∷ ofOrcpt e (orcptLine e) ∷ ofHeader (ofHeld h (heldOf rules h)) ∷ []) ≡ Refuse refusal
       → verdict rules e h room₁ room₂ ≡ Refuse refusal
   content-refused room₁ room₂ {refusal} k =
       past-envelope rules e h room₁ room₂ (r .short₁) (r .short₂) count (r .passed)
-      ∙ first-refused (ofLines h (checkedLines h) ∷ ofOrcpt e (orcptLine e) ∷ ofHeld h (heldOf rules h) ∷ []) _ refusal k
+      ∙ first-refused (ofHeader (ofLines h (checkedLines h)) ∷ ofOrcpt e (orcptLine e) ∷ ofHeader (ofHeld h (heldOf rules h)) ∷ []) _ refusal k
 
   pub mail-short : length (mailReplacement e) ≤ 2048
   mail-short = omega (arith, mail-replacement-short rules e count (r .passed))
@@ -278,11 +283,11 @@ module _ {rules : Rules} {e h array : List ℕ} {count : ℕ} (r : Ready rules e
     past-content : verdict rules e h (length b) (length c)
         ≡ firstOf
         (over (length b) (length (written e)) (EnvelopeNeeds (length (written e)))
-        ∷ over (length c) (length (outgoingHeader rules e h)) (HeaderNeeds (length (outgoingHeader rules e h)))
+        ∷ ofHeader (ofRoom (length c) (length (outgoingHeader rules e h)))
         ∷ [])
     past-content =
         past-envelope rules e h (length b) (length c) (r .short₁) (r .short₂) count (r .passed)
-        ∙ first-accepted (ofLines h (checkedLines h) ∷ ofOrcpt e (orcptLine e) ∷ ofHeld h (heldOf rules h) ∷ []) _ (ok .content)
+        ∙ first-accepted (ofHeader (ofLines h (checkedLines h)) ∷ ofOrcpt e (orcptLine e) ∷ ofHeader (ofHeld h (heldOf rules h)) ∷ []) _ (ok .content)
 
     pub envelope-needs : {n : ℕ} {a : Answer} → n ≡ length (written e) → length b < n → RefusedBy (EnvelopeNeeds n) a → observed a b c ≡ outcome rules e h b c
     unfolding firstOf
@@ -290,24 +295,24 @@ module _ {rules : Rules} {e h array : List ℕ} {count : ℕ} (r : Ready rules e
         refused-observed rules e h b c (past-content ∙ rw (over-yes (length b) (length (written e)) (EnvelopeNeeds (length (written e))) (rw q at k))) (rw q at f)
 
     pub header-needs : {mail rcpt : List ℕ} {n m : ℕ} {a : Answer} → Texts e mail rcpt → n ≡ length (written e) → n ≤ length b → Needed (length (headerOf rules mail rcpt h)) (length c) m → length c < m
-        → RefusedBy (HeaderNeeds m) a → observed a b c ≡ outcome rules e h b c
-    unfolding firstOf
+        → RefusedBy (Header (Needs m)) a → observed a b c ≡ outcome rules e h b c
+    unfolding firstOf ofHeader
     header-needs {mail} {rcpt} {n} {m} {a} t q k d l f =
         let p : m ≡ length (outgoingHeader rules e h) = d .exact l ∙ ap length (header-of rules t h) in
         refused-observed rules e h b c
         (past-content
-        ∙ rw (over-no (length b) (length (written e)) (EnvelopeNeeds (length (written e))) (rw q at k), over-yes (length c) (length (outgoingHeader rules e h)) (HeaderNeeds (length (outgoingHeader rules e h))) (rw p at l)))
+        ∙ rw (over-no (length b) (length (written e)) (EnvelopeNeeds (length (written e))) (rw q at k), room-short (length c) (length (outgoingHeader rules e h)) (rw p at l)))
         (rw p at f)
 
     -- both fit
     pub downgraded : {mail rcpt : List ℕ} {n m : ℕ} {b′ c′ : List ℕ} {a : Answer} → Texts e mail rcpt → n ≡ length (written e) → n ≤ length b → Needed (length (headerOf rules mail rcpt h)) (length c) m → m ≤ length c
         → a .number ≡ 0 → a .input ≡ 0 → a .place ≡ 0 → a .offset ≡ 0 → Wrote (written e) b b′ (a .«envelope_len») → Wrote (headerOf rules mail rcpt h) c c′ (a .«header_len»)
         → observed a b′ c′ ≡ outcome rules e h b c
-    unfolding firstOf outcome outcomeOf
+    unfolding firstOf outcome outcomeOf ofHeader
     downgraded {mail} {rcpt} {n} {m} {b′} {c′} {a} t q k d l x i y z v u =
         let p : length (outgoingHeader rules e h) ≤ length c = rw (header-of rules t h) at (d .enough l) in
         let w : Wrote (outgoingHeader rules e h) c c′ (a .«header_len») = rw (header-of rules t h) at u in
         let fine : verdict rules e h (length b) (length c) ≡ Accept =
         past-content
-        ∙ rw (over-no (length b) (length (written e)) (EnvelopeNeeds (length (written e))) (rw q at k), over-no (length c) (length (outgoingHeader rules e h)) (HeaderNeeds (length (outgoingHeader rules e h))) p) in
+        ∙ rw (over-no (length b) (length (written e)) (EnvelopeNeeds (length (written e))) (rw q at k), room-enough (length c) (length (outgoingHeader rules e h)) p) in
         rw (fine, x, i, y, z, v .size, w .size, v .bytes, w .bytes)

@@ -8,19 +8,18 @@ ghost use Rattle.call.specs.Outcome.{observed, outcome};
 ghost use Rattle.call.specs.OutputLaws.{Ready};
 use envelope::Checked;
 use envelope_line::Fault;
+use outgoing_header::HeaderRefusal;
 use refusals::refused;
 use rules::Rules;
 
-// Why a call is refused, with the paper's place: a line, and the byte in it that tells why, or the length needed.
+// Why a call is refused, with the paper's place: of the envelope a line, and the byte that tells why, or the length needed; of the header
+// a refusal of its own.
 pub enum Refusal {
     EnvelopeOver,
-    HeaderOver,
     EnvelopeLine(Fault, usize, usize),
-    HeaderLine(usize, usize),
     OrcptLine(usize, usize),
-    HeldLine(usize, usize),
     EnvelopeNeeds(usize),
-    HeaderNeeds(usize),
+    Header(HeaderRefusal),
 }
 
 pub enum Verdict {
@@ -83,7 +82,7 @@ pub fn downgrade(
         return refused(Refusal::EnvelopeOver);
     }
     if 32768 < header.len() {
-        return refused(Refusal::HeaderOver);
+        return refused(Refusal::Header(HeaderRefusal::Over));
     }
     let mut starts = [0usize; 100];
     match envelope::check(rules, envelope, &mut starts) {

@@ -6,15 +6,20 @@ ghost use Rattle.envelope.specs.Envelope.{written};
 ghost use Rattle.call.specs.Outcome.{observed, outcome};
 ghost use Rattle.header_line.specs.declared.LineCheck.the-variants.{WellFormed};
 ghost use Rattle.header_line.specs.Lines.{checkedLines};
-ghost use Rattle.call.specs.OutputLaws.{Short, headerOf, Needed, Ready, StartsOf, Accepted, Texts};
+ghost use Rattle.outgoing_header.specs.HeaderOutcomeLaws.{Needed};
+ghost use Rattle.call.specs.OutputLaws.{Short, headerOf, Ready, StartsOf, Accepted, Texts};
 use crate::Answer;
 use crate::Refusal;
 use crate::new_fields::add_new_field;
 use crate::refusals::refused;
+use outgoing_header::HeaderRefusal;
 use rules::Rules;
 
 // The text of a new first field has at most 2,001 bytes: two addresses of lines of 998, in `< < >>`.
 const ROOM: usize = 2048;
+
+// The most bytes of both new first fields.
+const NEW_FIELDS_MOST: usize = 20600;
 
 // Writes the outgoing header to the front of out, as far as it fits; answers its whole length. `mail` and `rcpt` are the texts of
 // the new first fields.
@@ -35,13 +40,12 @@ fn header_len(rules: Rules, mail: &[u8], rcpt: &[u8], header: &[u8]) -> usize
     put_header(&mut none, rules, mail, rcpt, header)
 }
 
-// The length of the outgoing header; or 0 where the room holds every outgoing header of a header of this length, which then need
-// not be measured.
+// The length of the outgoing header; or 0 where the room holds whatever the outgoing header can be, which then need not be measured.
 fn header_needs(rules: Rules, mail: &[u8], rcpt: &[u8], header: &[u8], room: usize) -> usize
     requires { ⌜ Short (now mail) (now rcpt) (now header) × (checkedLines (now header) ≡ WellFormed) ⌝ }
     ensures { λ r. ⌜ Needed (length (headerOf rules (now (mail .entry)) (now (rcpt .entry)) (now (header .entry)))) room r ⌝ }
 {
-    if 30 * header.len() + 20600 <= room {
+    if outgoing_header::most(header) + NEW_FIELDS_MOST <= room {
         return 0;
     }
     header_len(rules, mail, rcpt, header)
@@ -76,7 +80,7 @@ fn fill_with(
     }
     let m = header_needs(rules, mail, rcpt, header, header_buffer.len());
     if header_buffer.len() < m {
-        return refused(Refusal::HeaderNeeds(m));
+        return refused(Refusal::Header(HeaderRefusal::Needs(m)));
     }
     Answer {
         number: 0,

@@ -4,15 +4,15 @@ ghost use mathlib.Core.List.{[], _∷_};
 ghost use Rattle.envelope.specs.Envelope.{faultNumber, orcptLine};
 ghost use Rattle.header_line.specs.Lines.{checkedLines};
 ghost use Rattle.outgoing_field.specs.Fate.{heldOf};
-ghost use Rattle.call.specs.Outcome.{numberOf, placeOf, offsetOf, inputOf, firstOf, ofLines, ofOrcpt, ofHeld};
+ghost use Rattle.outgoing_header.specs.HeaderOutcome.{ofLines, ofHeld};
+ghost use Rattle.call.specs.Outcome.{numberOf, placeOf, offsetOf, inputOf, firstOf, ofHeader, ofOrcpt};
 ghost use Rattle.call.specs.OutcomeLaws.{RefusedBy};
 use crate::Answer;
 use crate::Refusal;
 use crate::Verdict;
 use envelope::Orcpt;
 use envelope_line::Fault;
-use header_line::LineCheck;
-use outgoing_field::HeldField;
+use outgoing_header::HeaderVerdict;
 use rules::Rules;
 
 fn fault_number(fault: Fault) -> u32
@@ -32,13 +32,10 @@ fn number(refusal: Refusal) -> u32
 {
     match refusal {
         Refusal::EnvelopeOver => 1,
-        Refusal::HeaderOver => 1,
         Refusal::EnvelopeLine(fault, line, offset) => fault_number(fault),
-        Refusal::HeaderLine(line, offset) => 5,
         Refusal::OrcptLine(line, offset) => 6,
-        Refusal::HeldLine(line, offset) => 6,
         Refusal::EnvelopeNeeds(size) => 7,
-        Refusal::HeaderNeeds(size) => 8,
+        Refusal::Header(of_header) => outgoing_header::number_of(of_header),
     }
 }
 
@@ -47,13 +44,10 @@ fn place(refusal: Refusal) -> usize
 {
     match refusal {
         Refusal::EnvelopeOver => 0,
-        Refusal::HeaderOver => 1,
         Refusal::EnvelopeLine(fault, line, offset) => line,
-        Refusal::HeaderLine(line, offset) => line,
         Refusal::OrcptLine(line, offset) => line,
-        Refusal::HeldLine(line, offset) => line,
         Refusal::EnvelopeNeeds(size) => size,
-        Refusal::HeaderNeeds(size) => size,
+        Refusal::Header(of_header) => outgoing_header::place_of(of_header),
     }
 }
 
@@ -63,13 +57,10 @@ fn offset(refusal: Refusal) -> usize
 {
     match refusal {
         Refusal::EnvelopeOver => 0,
-        Refusal::HeaderOver => 0,
         Refusal::EnvelopeLine(fault, line, offset) => offset,
-        Refusal::HeaderLine(line, offset) => offset,
         Refusal::OrcptLine(line, offset) => offset,
-        Refusal::HeldLine(line, offset) => offset,
         Refusal::EnvelopeNeeds(size) => 0,
-        Refusal::HeaderNeeds(size) => 0,
+        Refusal::Header(of_header) => outgoing_header::offset_of(of_header),
     }
 }
 
@@ -79,13 +70,10 @@ fn input(refusal: Refusal) -> u32
 {
     match refusal {
         Refusal::EnvelopeOver => 1,
-        Refusal::HeaderOver => 2,
         Refusal::EnvelopeLine(fault, line, offset) => 1,
-        Refusal::HeaderLine(line, offset) => 2,
         Refusal::OrcptLine(line, offset) => 1,
-        Refusal::HeldLine(line, offset) => 2,
         Refusal::EnvelopeNeeds(size) => 1,
-        Refusal::HeaderNeeds(size) => 2,
+        Refusal::Header(of_header) => 2,
     }
 }
 
@@ -103,24 +91,22 @@ pub(crate) fn refused(refusal: Refusal) -> Answer
     }
 }
 
-// A held field with non-ASCII.
-fn held(rules: Rules, header: &[u8]) -> Verdict
-    ensures { λ r. ⌜ r ≡ firstOf (ofHeld (now (header .entry)) (heldOf rules (now (header .entry))) ∷ []) ⌝ }
+// A verdict on the header.
+fn of_header(verdict: HeaderVerdict) -> Verdict
+    ensures { λ r. ⌜ r ≡ ofHeader verdict ⌝ }
 {
-    match outgoing_field::first_held(rules, header) {
-        HeldField::Absent => Verdict::Accept,
-        HeldField::At(line, at) => {
-            Verdict::Refuse(Refusal::HeldLine(line, offset::of_field(header, at)))
-        }
+    match verdict {
+        HeaderVerdict::Accept => Verdict::Accept,
+        HeaderVerdict::Refuse(refusal) => Verdict::Refuse(Refusal::Header(refusal)),
     }
 }
 
 // Non-ASCII in an ORCPT, or else in a held field.
 fn non_ascii(rules: Rules, envelope: &[u8], header: &[u8]) -> Verdict
-    ensures { λ r. ⌜ r ≡ firstOf (ofOrcpt (now (envelope .entry)) (orcptLine (now (envelope .entry))) ∷ ofHeld (now (header .entry)) (heldOf rules (now (header .entry))) ∷ []) ⌝ }
+    ensures { λ r. ⌜ r ≡ firstOf (ofOrcpt (now (envelope .entry)) (orcptLine (now (envelope .entry))) ∷ ofHeader (ofHeld (now (header .entry)) (heldOf rules (now (header .entry)))) ∷ []) ⌝ }
 {
     match envelope::orcpt_line(envelope) {
-        Orcpt::Clean => held(rules, header),
+        Orcpt::Clean => of_header(outgoing_header::of_held(rules, header)),
         Orcpt::At(line) => {
             Verdict::Refuse(Refusal::OrcptLine(line, offset::of_orcpt(envelope, line)))
         }
@@ -129,13 +115,10 @@ fn non_ascii(rules: Rules, envelope: &[u8], header: &[u8]) -> Verdict
 
 // A malformed header line, or else non-ASCII that cannot be passed on.
 pub(crate) fn of_content(rules: Rules, envelope: &[u8], header: &[u8]) -> Verdict
-    ensures { λ r. ⌜ r ≡ firstOf (ofLines (now (header .entry)) (checkedLines (now (header .entry))) ∷ ofOrcpt (now (envelope .entry)) (orcptLine (now (envelope .entry))) ∷ ofHeld (now (header .entry)) (heldOf rules (now (header .entry))) ∷ []) ⌝ }
+    ensures { λ r. ⌜ r ≡ firstOf (ofHeader (ofLines (now (header .entry)) (checkedLines (now (header .entry)))) ∷ ofOrcpt (now (envelope .entry)) (orcptLine (now (envelope .entry))) ∷ ofHeader (ofHeld (now (header .entry)) (heldOf rules (now (header .entry)))) ∷ []) ⌝ }
 {
-    match header_line::check(header) {
-        LineCheck::WellFormed => non_ascii(rules, envelope, header),
-        LineCheck::Malformed(line, at) => {
-            let offset = offset::of_header_line(header, line, at);
-            Verdict::Refuse(Refusal::HeaderLine(line, offset))
-        }
+    match outgoing_header::of_lines(header) {
+        HeaderVerdict::Accept => non_ascii(rules, envelope, header),
+        HeaderVerdict::Refuse(refusal) => Verdict::Refuse(Refusal::Header(refusal)),
     }
 }

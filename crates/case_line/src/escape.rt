@@ -32,11 +32,11 @@ fn escaped(text: &[u8], at: usize, turn: usize) -> Said
     }
 }
 
-// The byte that the two hex digits after a place say.
+// The byte that the two hex digits after a place say; another byte there counts as 0.
 fn hex_byte(text: &[u8], at: usize) -> u8 {
     let high = hex::value(line::byte_at(text, buffer::place_after(at, 1)));
     let low = hex::value(line::byte_at(text, buffer::place_after(at, 2)));
-    high * 16 + low
+    high % 16 * 16 + low % 16
 }
 
 // The byte that a text says at a place.

@@ -1,6 +1,6 @@
 -- The checked examples that the paper marks P, as one table under one theorem about the definitions: "Document 01's cases are spool messages."
 -- Assumes nothing.
-use mathlib.Core.Path.{_≡_, refl}
+use mathlib.Core.Path.{_≡_, refl, _∙_}
 use mathlib.Core.List.{List, [], _∷_, _++_, map}
 use Prim.Native.Nat.{ℕ, _≤_, _<_}
 use native.Mathlib.Omega.{arith}
@@ -27,15 +27,17 @@ use Rattle.xtext.specs.Xtext.{isXchar, isHexchar, unitLen, unitByte, decodingAf
 use Rattle.hex.specs.Hex.{hexDigit, isHexDigit, hexValue}
 use Rattle.envelope_line.specs.EnvelopeLine.{verb, hasVerb, pathScan, pathLen, path, hasPath, tail, wellFormed as wellFormedLine, valueFault, altFault, lineFault, orcptFault, newPath, withoutAlt, writtenLine, replacement}
 use Rattle.header.specs.Fields.{fold, fieldLen, fieldsOf, nameOf, valueOf, unfoldedAfter, trimmed, textOf, lineCount}
-use Rattle.header_name.specs.Names.{groups, among, kindAmong, kindOf}
+use Rattle.header_name.specs.Names.{groups, among, otherCommented, otherKind, kindAmong, kindOf}
+use Rattle.field_method.specs.FieldMethod.{methodOf}
 use Rattle.field.specs.Field.{labelledField, prefix, encodedField}
-use Rattle.outgoing_field.specs.Fate.{kindFate, fateOf, segmentsOf, fieldSegments, headerSegments, isHeld, heldFrom, heldOf}
+use Rattle.outgoing_field.specs.Fate.{methodFate, fateOf, segmentsOf, fieldSegments, headerSegments, isHeld, heldFrom, heldOf}
 use Rattle.encoded_word.specs.Segments.{rendered}
 use Rattle.rules.specs.declared.Rules.the-variants.{Spool}
 use Rattle.call.specs.declared.Verdict.the-variants.{Accept}
 use Rattle.call.specs.OutgoingHeader.{newField, newFields, outgoingSegments, outgoingHeader}
-use Rattle.call.specs.Outcome.{numberOf, placeOf, over, ofEnvelope, ofLines, ofOrcpt, ofHeld, firstOf, verdict, Outcome, outcomeOf, outcome}
-use Rattle.call.specs.OutputLaws.{ofInput, both-fit, header-short}
+use Rattle.outgoing_header.specs.HeaderOutcome.{ofSize, ofLines, ofHeld, ofRoom, numberOf as headerNumber, placeOf as headerPlace}
+use Rattle.call.specs.Outcome.{numberOf, placeOf, over, ofEnvelope, ofHeader, ofOrcpt, firstOf, verdict, Outcome, outcomeOf, outcome}
+use Rattle.call.specs.OutputLaws.{ofInput, both-fit, envelope-short, header-short}
 use Rattle.parameter.specs.Parameter.{params, spaced, isKeywordByte, keywordLen, keyword, hasValue, value, isOrcpt, isAlt, isValueByte, isParam, alts, altsOk, alt, altPlace, orcptClean}
 
 -- a case and its answer
@@ -46,7 +48,8 @@ pub data Case : Type 0 where
   refused : List ℕ → List ℕ → ℕ → ℕ → Case
   -- an envelope and a header that it takes, where each buffer has 1,000 bytes or more
   taken : List ℕ → List ℕ → Case
-  -- an envelope and a header that it takes where the buffers have these lengths or more; where the header's has less, 8 at that length
+  -- an envelope and a header that it takes where the buffers have these lengths or more, which it answers; where the envelope's has less 7 at that
+  -- length, and else where the header's has less 8 at that length
   needs : List ℕ → List ℕ → ℕ → ℕ → Case
 
 -- how many characters each word of a text's row in Q holds, and its length between opening and closing: "Document 01's word cases stay as
@@ -54,16 +57,22 @@ pub data Case : Type 0 where
 abbrev pub wordSizes : List ℕ → List (ℕ × ℕ)
 wordSizes text = map (λ (run : List (List ℕ)). (length run, length (spell (joined run)))) (runs (Q ∷ []) 63 (chars text))
 
--- the number and the place of a call's outcome
+-- the number and the place of a call's outcome, "number and place"
 abbrev pub answer : Outcome → ℕ × ℕ
 answer o = (o .number, o .place)
+
+-- and with both lengths, "number and lengths"
+abbrev pub lengths : Outcome → ℕ × ℕ × ℕ × ℕ
+lengths o = (o .number, o .place, o .envelopeLen, o .headerLen)
 
 -- what a case says
 abbrev pub Right : Case → Type 0
 Right (cutsTo text sizes) = wordSizes text ≡ sizes
 Right (refused e h number place) = (b c : List ℕ) → answer (outcome Spool e h b c) ≡ (number, place)
-Right (needs e h n m) = (b c : List ℕ) → n ≤ length b
-    → (m ≤ length c → answer (outcome Spool e h b c) ≡ (0, 0)) × (length c < m → answer (outcome Spool e h b c) ≡ (8, m))
+Right (needs e h n m) = (b c : List ℕ)
+    → (n ≤ length b → m ≤ length c → lengths (outcome Spool e h b c) ≡ (0, 0, n, m))
+    × (length b < n → lengths (outcome Spool e h b c) ≡ (7, n, 0, 0))
+    × (n ≤ length b → length c < m → lengths (outcome Spool e h b c) ≡ (8, m, 0, 0))
 Right (taken e h) = (b c : List ℕ) → 1000 ≤ length b → 1000 ≤ length c → answer (outcome Spool e h b c) ≡ (0, 0)
 
 -- each of these cases is right
@@ -129,7 +138,8 @@ cases =
     -- "name of 76 bytes taken; 77 is 5."
     ∷ Case.taken (mailed (bytes "a@x") []) (headerNamed 76)
     ∷ Case.refused (mailed (bytes "a@x") []) (headerNamed 77) 5 0
-    -- the whole case, worked out again by request 10, not marked P: a header of 140 bytes; a room of 140 is enough, 139 gives 8, place 140
+    -- the whole case, worked out again by request 10, not marked P: `0 54 140`; a room of 53 for the envelope gives 7, place 54, one of 139 for
+    -- the header 8, place 140
     ∷ Case.needs wholeEnvelope wholeHeader 54 140
     ∷ []
 
@@ -144,14 +154,15 @@ taken-by e h q n m b c k l =
 
 -- an input that no number from 1 to 6 refuses, whose outputs have these lengths
 needs-by : (e h : List ℕ) (n m : ℕ) → firstOf (ofInput Spool e h) ≡ Accept → length (written e) ≡ n → length (outgoingHeader Spool e h) ≡ m → Right (Case.needs e h n m)
-unfolding outcome outcomeOf numberOf placeOf
-needs-by e h n m q p r b c k = (
-  λ l. rw (both-fit Spool e h (length b) (length c) q (omega arith) (omega arith)),
-  λ l. rw (header-short Spool e h (length b) (length c) q (omega arith) (omega arith), r),
+unfolding outcome outcomeOf numberOf placeOf headerNumber headerPlace
+needs-by e h n m q p r b c = (
+  λ k l. rw (both-fit Spool e h (length b) (length c) q (omega arith) (omega arith), p, r),
+  λ k. rw (envelope-short Spool e h (length b) (length c) q (omega arith), p),
+  λ k l. rw (header-short Spool e h (length b) (length c) q (omega arith) (omega arith), r),
 )
 
 pub cases-right : AllRight cases
-unfolding alt altPlace orcptClean newPath withoutAlt rowAfterIn runsAfter linesAfter nameOf unfoldedAfter trimmed textOf groups among kindAmong kindOf labelledField prefix encodedField kindFate lineCount rowIn runs chosen cut lines word digit64 inBase64 spell spellByte bare hexDigit bytes lower sameAnyCase crlf lineLen later byteThen scanThen isAtext isAtomByte isQuotedByte isLiteralByte dotAtomFrom dotAtomScan quotedFrom quotedScan literalFrom literalScan domainScan localScan addressScan isAddress isAsciiAddress run utf8 chars cutBy cutAfter charLen leadingZeros isChar secondLow secondHigh isXchar isHexDigit hexValue isHexchar unitLen unitByte decodingAfter decoding isXtext decoded isAltAddress verb hasVerb pathScan pathLen path hasPath tail params spaced isKeywordByte keywordLen keyword hasValue value isOrcpt isAlt isValueByte isParam alts altsOk wellFormed valueFault altFault lineFault envelopeLines lineText endedFault faultOf faultNumber isFine counted checkedFrom checked lineByte blank nameByte nameLen named continuation lineOk linesOf linesFrom checkedLines wellFormedLine numberOf placeOf over ofEnvelope ofLines ofOrcpt ofHeld firstOf verdict outcomeOf outcome texts orcptFrom orcptLine orcptFault writtenEnded writtenOf written writtenLine heldFrom heldOf isHeld fateOf fold fieldLen fieldsOf valueOf newField newFields outgoingSegments outgoingHeader mailOf mailReplacement onlyRcptOf rcptReplacement replacement segmentsOf fieldSegments headerSegments rendered
+unfolding alt altPlace orcptClean newPath withoutAlt rowAfterIn runsAfter linesAfter nameOf unfoldedAfter trimmed textOf groups among otherCommented otherKind kindAmong kindOf methodOf labelledField prefix encodedField methodFate lineCount rowIn runs chosen cut lines word digit64 inBase64 spell spellByte bare hexDigit bytes lower sameAnyCase crlf lineLen later byteThen scanThen isAtext isAtomByte isQuotedByte isLiteralByte dotAtomFrom dotAtomScan quotedFrom quotedScan literalFrom literalScan domainScan localScan addressScan isAddress isAsciiAddress run utf8 chars cutBy cutAfter charLen leadingZeros isChar secondLow secondHigh isXchar isHexDigit hexValue isHexchar unitLen unitByte decodingAfter decoding isXtext decoded isAltAddress verb hasVerb pathScan pathLen path hasPath tail params spaced isKeywordByte keywordLen keyword hasValue value isOrcpt isAlt isValueByte isParam alts altsOk wellFormed valueFault altFault lineFault envelopeLines lineText endedFault faultOf faultNumber isFine counted checkedFrom checked lineByte blank nameByte nameLen named continuation lineOk linesOf linesFrom checkedLines wellFormedLine numberOf placeOf headerNumber headerPlace over ofSize ofEnvelope ofHeader ofLines ofOrcpt ofHeld ofRoom firstOf verdict outcomeOf outcome texts orcptFrom orcptLine orcptFault writtenEnded writtenOf written writtenLine heldFrom heldOf isHeld fateOf fold fieldLen fieldsOf valueOf newField newFields outgoingSegments outgoingHeader mailOf mailReplacement onlyRcptOf rcptReplacement replacement segmentsOf fieldSegments headerSegments rendered
 cases-right = (
   refl,
   (

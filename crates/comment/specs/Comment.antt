@@ -39,6 +39,10 @@ unfoldable pub runTo : (ℕ → Bool) → Bool → List ℕ → ℕ
 runTo f escaped [] = 0
 runTo f escaped (b ∷ s) = cond (f b && not escaped) 0 (suc (runTo f (escapes escaped b) s))
 
+-- a byte that neither passes a test nor escapes the next
+abbrev pub isText : (ℕ → Bool) → ℕ → Bool
+isText f b = not (f b || eqb b 92)
+
 -- "a run of text between parentheses"
 unfoldable pub runLen : List ℕ → ℕ
 runLen s = runTo isParen false s

@@ -1,5 +1,6 @@
 pub mod Comment
 pub mod CommentLaws
+pub mod RunLaws
 pub mod Grammar
 pub mod GrammarLaws
 pub mod Parts

@@ -4,22 +4,49 @@ ghost use Prim.Native.Nat.{_+_};
 ghost use lib.ListN.{drop};
 ghost use Rattle.lists.specs.Lists.{all};
 ghost use Rattle.buffer.specs.Buffer.{AppendedCapped};
-ghost use Rattle.comment.specs.Comment.{runLen};
+ghost use Rattle.lists.specs.Run.{run};
+ghost use Rattle.comment.specs.Comment.{isParen, isText, runLen};
 ghost use Rattle.comment.specs.Parts.{partLen, parts, runText, isBlankRun, fits};
+
+// Whether a byte of a comment is neither a parenthesis nor a backslash.
+fn is_text(b: u8) -> bool
+    ensures { λ r. ⌜ r ≡ isText isParen b ⌝ }
+{
+    !((b == b'(') | (b == b')') | (b == b'\\'))
+}
+
+// The place of the first parenthesis or backslash from `at` on.
+fn text_end(s: &[u8], at: usize) -> usize
+    ensures { λ r. ⌜ r ≡ at + run (isText isParen) (drop at (now (s .entry))) ⌝ }
+{
+    let mut i = at;
+    while i < s.len() {
+        if !is_text(s[i]) {
+            return i;
+        }
+        i += 1;
+    }
+    i
+}
 
 // Where the run of text from `at` ends: at the first parenthesis that is not escaped, or at the end.
 pub fn run_end(s: &[u8], at: usize) -> usize
     ensures { λ r. ⌜ r ≡ at + runLen (drop at (now (s .entry))) ⌝ }
 {
-    let mut escaped = false;
     let mut i = at;
     while i < s.len() {
-        let b = s[i];
-        if ((b == b'(') | (b == b')')) & !escaped {
-            return i;
+        let p = text_end(s, i);
+        if s.len() <= p {
+            return p;
         }
-        escaped = unquote::escapes(escaped, b);
-        i += 1;
+        if s[p] != b'\\' {
+            return p;
+        }
+        let escaped = p + 1;
+        if s.len() <= escaped {
+            return escaped;
+        }
+        i = escaped + 1;
     }
     i
 }

@@ -1,11 +1,11 @@
 -- What becomes of a header's fields, by relations, is what is written for them and what is held. Assumes nothing.
 use mathlib.Core.Path.{_≡_, refl, sym, ap, _∙_}
-use mathlib.Core.Bool.{Bool, not, cond, _&&_}
+use mathlib.Core.Bool.{Bool, true, not, cond, _&&_}
 use mathlib.Core.List.{List, [], _∷_, _++_, append-nil, map}
 use Prim.Native.Nat.{ℕ, suc, _+_}
 use native.Mathlib.Nat.{add-zero, zero-add}
 use native.Mathlib.Omega.{arith}
-use lib.Dec.{T}
+use lib.Dec.{T, T-not}
 use mir.Facts.{and-yes, yes-and}
 use lib.ListN.{length, take, drop, length-append}
 use lib.Seq.{take-at, drop-at}
@@ -19,23 +19,24 @@ use Rattle.encoded_word.specs.Segments.Segment.{raw}
 use Rattle.header.specs.Fields.{fieldsOf, nameOf, valueOf, textOf, lineCount}
 use Rattle.header.specs.FieldLaws.{fields-joined}
 use Rattle.header.specs.AsciiFieldsLaws.{value-ascii}
-use Rattle.header_name.specs.declared.Kind.{Kind}
-use Rattle.header_name.specs.declared.Kind.the-variants.{Address, PlainText, Received, Commented, Parameterized, Held as HeldKind, Other}
+use Rattle.field_method.specs.declared.Method.{Method}
+use Rattle.field_method.specs.declared.Method.the-variants.{Pieces, PlainText, Encapsulated, Received, CommentsOrHeld, CommentsOrEncapsulated, Parameters, Held as HeldMethod}
+use Rattle.field_method.specs.FieldMethod.{methodOf}
 use Rattle.header_name.specs.Names.{kindOf}
+use Rattle.field.specs.Field.{encodedField}
 use Rattle.address_grammar.specs.AddressFieldLaws.{field-made, field-only}
-use Rattle.structured_field.specs.Tokens.{asciiOutsideComments}
-use Rattle.structured_field.specs.StructuredField.{structuredField}
+use Rattle.structured_field.specs.StructuredField.{asciiOutsideComments, valueSegments, structuredField}
 use Rattle.structured_field.specs.GrammarLaws.{made-reads as structured-reads, reads-made as reads-structured}
-use Rattle.received_token.specs.Tokens.{tokens as receivedTokens}
-use Rattle.received.specs.Received.{isClear, linesFit, passes, receivedField}
+use Rattle.received.specs.Received.{valueClear, linesFit, passes, receivedField}
 use Rattle.received.specs.LinesLaws.{lines-fit, fit-lines}
 use Rattle.received.specs.GrammarLaws.{made-reads as received-reads, reads-made as reads-received}
-use Rattle.outgoing_field.specs.Fate.{Fate, kindFate, fateOf, segmentsOf, fieldSegments, headerSegments, isHeld, heldFrom, heldOf}
+use Rattle.outgoing_field.specs.Fate.{Fate, commentsOrEncapsulated, methodFate, fateOf, segmentsOf, fieldSegments, headerSegments, isHeld, heldFrom, heldOf}
 use Rattle.outgoing_field.specs.Fate.Fate.{held, written}
 use Rattle.outgoing_field.specs.declared.HeldField.{HeldField}
 use Rattle.outgoing_field.specs.declared.HeldField.the-variants.{Absent, At}
 use Rattle.offset.specs.Offset.{fieldOffset}
-use Rattle.demands.specs.Downgraded.{KindBecomes, Becomes, FieldsBecome}
+use Rattle.demands.specs.Downgraded.{MethodBecomes, Becomes, FieldsBecome}
+use Rattle.demands.specs.HeaderGiven.{HeldHeader}
 
 -- a field is held that becomes nothing
 abbrev Held : Rules → List ℕ → Type 0
@@ -52,55 +53,67 @@ fated-written : {Written : List Segment → Type 0} {segments : List Segment} �
 fated-written (Fated.something w) = w
 
 module _ (rules : Rules) (field : List ℕ) where
-  kind-fated : (kind : Kind) → Fated (KindBecomes rules field kind) (kindFate rules kind field)
-  unfolding kindFate structuredField receivedField passes
-  kind-fated Address = Fated.something (KindBecomes.address (field-made rules (nameOf field) (textOf field)))
-  kind-fated PlainText = Fated.something KindBecomes.plain-text
-  kind-fated Received =
-      cond-has (Fated (KindBecomes rules field Received)) (passes (nameOf field) (valueOf field)) (written (receivedField (nameOf field) (valueOf field))) held
-      (λ t. let b = and-yes (all isClear (receivedTokens (valueOf field))) (linesFit (rendered (receivedField (nameOf field) (valueOf field)))) t in
-      Fated.something (KindBecomes.received (reads-received (record { clear = b .0; is = refl })) (lines-fit (rendered (receivedField (nameOf field) (valueOf field))) (b .1))))
+  method-fated : (method : Method) → Fated (MethodBecomes rules field method) (methodFate rules method field)
+  unfolding methodFate commentsOrEncapsulated structuredField receivedField passes
+  method-fated Pieces = Fated.something (MethodBecomes.pieces (field-made rules (nameOf field) (textOf field)))
+  method-fated PlainText = Fated.something MethodBecomes.plain-text
+  method-fated Encapsulated = Fated.something MethodBecomes.encapsulated
+  method-fated Received =
+      cond-has (Fated (MethodBecomes rules field Received)) (passes (nameOf field) (valueOf field)) (written (receivedField (nameOf field) (valueOf field))) held
+      (λ t. let b = and-yes (valueClear (valueOf field)) (linesFit (rendered (receivedField (nameOf field) (valueOf field)))) t in
+      Fated.something (MethodBecomes.received (reads-received (record { clear-all = b .0; is = refl })) (lines-fit (rendered (receivedField (nameOf field) (valueOf field))) (b .1))))
       (λ t. Fated.nothing)
-  kind-fated Commented =
-      cond-has (Fated (KindBecomes rules field Commented)) (asciiOutsideComments (valueOf field)) (written (structuredField (nameOf field) (valueOf field))) held
-      (λ t. Fated.something (KindBecomes.commented (reads-structured (record { ascii = t; is = refl }))))
+  method-fated CommentsOrHeld =
+      cond-has (Fated (MethodBecomes rules field CommentsOrHeld)) (asciiOutsideComments (valueOf field)) (written (structuredField (nameOf field) (valueOf field))) held
+      (λ t. Fated.something (MethodBecomes.comments (reads-structured (record { ascii = t; is = refl }))))
       (λ t. Fated.nothing)
-  kind-fated Parameterized = Fated.nothing
-  kind-fated HeldKind = Fated.nothing
-  kind-fated Other = Fated.something KindBecomes.other
+  method-fated CommentsOrEncapsulated =
+      Fated.something
+      (cond-has (MethodBecomes rules field CommentsOrEncapsulated) (asciiOutsideComments (valueOf field)) (structuredField (nameOf field) (valueOf field)) (encodedField true (nameOf field) (textOf field))
+      (λ t. MethodBecomes.comments-alone (reads-structured (record { ascii = t; is = refl })))
+      (λ t. MethodBecomes.outside-comments (λ segments v. T-not (asciiOutsideComments (valueOf field)) t (structured-reads v .ascii))))
+  method-fated Parameters = Fated.nothing
+  method-fated HeldMethod = Fated.nothing
 
-  by-kind : {fate : Fate} → T (not (all isAscii (valueOf field))) → Fated (KindBecomes rules field (kindOf (nameOf field))) fate → Fated (Becomes rules field) fate
-  by-kind t (Fated.nothing) = Fated.nothing
-  by-kind t (Fated.something k) = Fated.something (Becomes.rewritten t k)
+  by-method : {fate : Fate} → T (not (all isAscii (valueOf field))) → Fated (MethodBecomes rules field (methodOf rules (kindOf (nameOf field)))) fate → Fated (Becomes rules field) fate
+  by-method t (Fated.nothing) = Fated.nothing
+  by-method t (Fated.something k) = Fated.something (Becomes.rewritten t k)
 
   fated : Fated (Becomes rules field) (fateOf rules field)
   unfolding fateOf
   fated =
-      let kind = kindOf (nameOf field) in
-      cond-has (Fated (Becomes rules field)) (all isAscii (valueOf field)) (written (raw field ∷ [])) (kindFate rules kind field)
-      (λ t. Fated.something (Becomes.copied t)) (λ t. by-kind t (kind-fated kind))
+      let method = methodOf rules (kindOf (nameOf field)) in
+      cond-has (Fated (Becomes rules field)) (all isAscii (valueOf field)) (written (raw field ∷ [])) (methodFate rules method field)
+      (λ t. Fated.something (Becomes.copied t)) (λ t. by-method t (method-fated method))
 
   pub becomes : {segments : List Segment} → fateOf rules field ≡ written segments → Becomes rules field segments
   becomes e = fated-written (rw e at fated)
 
-  kind-exact : {kind : Kind} {segments : List Segment} → KindBecomes rules field kind segments → kindFate rules kind field ≡ written segments
-  unfolding kindFate structuredField receivedField passes
-  kind-exact (KindBecomes.address a) = ap written (field-only rules (nameOf field) (textOf field) a)
-  kind-exact (KindBecomes.plain-text) = refl
-  kind-exact (KindBecomes.other) = refl
-  kind-exact (KindBecomes.commented v) =
+  method-exact : {method : Method} {segments : List Segment} → MethodBecomes rules field method segments → methodFate rules method field ≡ written segments
+  unfolding methodFate commentsOrEncapsulated structuredField receivedField passes
+  method-exact (MethodBecomes.pieces a) = ap written (field-only rules (nameOf field) (textOf field) a)
+  method-exact (MethodBecomes.plain-text) = refl
+  method-exact (MethodBecomes.encapsulated) = refl
+  method-exact (MethodBecomes.comments v) =
       let r = structured-reads v in
       rw (r .is, yes-true (asciiOutsideComments (valueOf field)) (r .ascii))
-  kind-exact (KindBecomes.received v fit) =
+  method-exact (MethodBecomes.comments-alone v) =
+      let r = structured-reads v in
+      rw (r .is, yes-true (asciiOutsideComments (valueOf field)) (r .ascii))
+  method-exact (MethodBecomes.outside-comments none) =
+      by-test (asciiOutsideComments (valueOf field))
+      (λ t. absurd (none (valueSegments (valueOf field)) (reads-structured (record { ascii = t; is = refl }))))
+      (λ t. rw (no-false (asciiOutsideComments (valueOf field)) t))
+  method-exact (MethodBecomes.received v fit) =
       let r = received-reads v in
       let short = rw (r .is) at fit in
       let lines = linesFit (rendered (receivedField (nameOf field) (valueOf field))) in
-      rw (r .is, yes-true (all isClear (receivedTokens (valueOf field)) && lines) (yes-and (all isClear (receivedTokens (valueOf field))) lines (r .clear) (fit-lines (rendered (receivedField (nameOf field) (valueOf field))) short)))
+      rw (r .is, yes-true (valueClear (valueOf field) && lines) (yes-and (valueClear (valueOf field)) lines (r .clear-all) (fit-lines (rendered (receivedField (nameOf field) (valueOf field))) short)))
 
   pub becomes-exact : {segments : List Segment} → Becomes rules field segments → fateOf rules field ≡ written segments
   unfolding fateOf
   becomes-exact (Becomes.copied t) = rw (yes-true (all isAscii (valueOf field)) t)
-  becomes-exact (Becomes.rewritten t k) = rw (no-false (all isAscii (valueOf field)) t) (kind-exact k)
+  becomes-exact (Becomes.rewritten t k) = rw (no-false (all isAscii (valueOf field)) t) (method-exact k)
 
   -- nothing is written for a field just where its fate is to be held
   is-held : fateOf rules field ≡ held → Held rules field
@@ -177,18 +190,6 @@ fields-exact {rules} h b = (rw (append-nil (fieldsOf h)) at (held-past rules h 0
 
 -- ---- the first held field
 
--- it is the field before which all others become something, at the line and with the first non-ASCII byte that a refusal points to
-pub record HeldFound (rules : Rules) (h : List ℕ) (line offset : ℕ) : Type 0 where
-  pub before : List (List ℕ)
-  pub field : List ℕ
-  pub after : List (List ℕ)
-  pub segments : List Segment
-  pub is : fieldsOf h ≡ before ++ (field ∷ after)
-  pub become : FieldsBecome rules before segments
-  pub held : Held rules field
-  pub line-is : line ≡ lineCount (joined before)
-  pub offset-is : offset ≡ length (joined before) + run isAscii field
-
 -- a byte that fails the test ends a run, whatever follows
 run-inside : (f : ℕ → Bool) (a b : List ℕ) → T (not (all f a)) → run f (a ++ b) ≡ run f a
 unfolding run
@@ -213,20 +214,22 @@ module _ (h : List ℕ) (before : List (List ℕ)) (field : List ℕ) (after : L
       let rest : drop n h ≡ field ++ joined after = ap (drop n) parts ∙ drop-at (joined before) (field ++ joined after) n refl in
       rw (rest, run-inside isAscii field (joined after) (held-not-ascii rules field none))
 
-pub held-exact : {rules : Rules} (h : List ℕ) {field : List ℕ} {before : List (List ℕ)} {segments : List Segment} (after : List (List ℕ)) → fieldsOf h ≡ before ++ (field ∷ after)
-    → FieldsBecome rules before segments → Held rules field
-    → (heldOf rules h ≡ At (lineCount (joined before)) (length (joined before))) × (fieldOffset h (length (joined before)) ≡ length (joined before) + run isAscii field)
+pub held-exact : {rules : Rules} (h : List ℕ) {line offset : ℕ} (x : HeldHeader rules h line offset)
+    → (heldOf rules h ≡ At line (length (joined (x .before)))) × (offset ≡ fieldOffset h (length (joined (x .before))))
 unfolding heldOf heldFrom isHeld
-held-exact {rules} h {field} {before} after is b none =
+held-exact {rules} h x =
+    let before = x .before in
+    let field = x .field in
+    let after = x .after in
     let n = length (joined before) in
-    let found : heldFrom rules h 0 (fieldsOf h) ≡ At (lineCount (take n h)) n = rw is (held-past rules h 0 (field ∷ after) b ∙ rw (zero-add n, held-fate rules field none)) in
-    (rw (line-at h before field after is) at found, offset-at h before field after is rules none)
+    let found : heldFrom rules h 0 (fieldsOf h) ≡ At (lineCount (take n h)) n = rw (x .is) (held-past rules h 0 (field ∷ after) (x .become) ∙ rw (zero-add n, held-fate rules field (x .held))) in
+    (found ∙ rw (line-at h before field after (x .is), x .line-is), x .offset-is ∙ sym (offset-at h before field after (x .is) rules (x .held)))
 
-pub field-held : (rules : Rules) (h : List ℕ) (line at : ℕ) → heldOf rules h ≡ At line at → HeldFound rules h line (fieldOffset h at)
+pub field-held : (rules : Rules) (h : List ℕ) (line at : ℕ) → heldOf rules h ≡ At line at → HeldHeader rules h line (fieldOffset h at)
 unfolding heldOf
 field-held rules h line at e = there (rw e at (found rules h 0 (fieldsOf h)))
   where
-    there : {line at : ℕ} → Found rules h 0 (fieldsOf h) (At line at) → HeldFound rules h line (fieldOffset h at)
+    there : {line at : ℕ} → Found rules h 0 (fieldsOf h) (At line at) → HeldHeader rules h line (fieldOffset h at)
     there (Found.first {segments} before field after is b none) =
         let free = is-held rules field none in
         let zero-at = zero-add (length (joined before)) in

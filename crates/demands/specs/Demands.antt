@@ -9,7 +9,7 @@ use mathlib.Core.Option.{Option}
 use lib.Dec.{T, eqb}
 use lib.ListN.{length, take, drop}
 use Rattle.lists.specs.Byte.{isAscii}
-use Rattle.lists.specs.Lists.{all, joined}
+use Rattle.lists.specs.Lists.{all}
 use Rattle.lists.specs.Run.{run}
 use Rattle.row.specs.Demand3.{Demand3}
 use Rattle.row.specs.FieldRow.{FieldDemand3}
@@ -18,11 +18,12 @@ use Rattle.encoded_word.specs.Segments.Segment.{words, labelled}
 use Rattle.envelope_line.specs.LineGrammar.{Line, LineRefused}
 use Rattle.line_stop.specs.FirstBad.{MalformedAt}
 use Rattle.envelope.specs.EnvelopeDemand.{WellFormedAt, Any, Ascii, EnvelopeLines}
-use Rattle.header.specs.Fields.{fieldsOf, lineCount}
+use Rattle.header.specs.Fields.{fieldsOf}
 use Rattle.rules.specs.declared.Rules.{Rules}
 use Rattle.rules.specs.Rules.{allowsAlternative}
 use Rattle.call.specs.declared.Answer.{Answer}
-use Rattle.demands.specs.Downgraded.{EnvelopePasses, HeaderFormedAt, HeaderLines, Becomes, FieldsBecome, Downgraded}
+use Rattle.demands.specs.Downgraded.{EnvelopePasses, HeaderLines, FieldsBecome, Downgraded}
+use Rattle.demands.specs.HeaderGiven.{MalformedHeader, HeldHeader}
 
 -- ---- demand 1: "Every input of bytes is taken: downgraded, or refused by one of the numbers 1 to 8 under the exact condition of
 -- that number. A refusal writes to neither buffer. A success gives both lengths and touches nothing past them." "10 ..; demand 1 gains it."
@@ -38,17 +39,13 @@ pub data Given (rules : Rules) (e h b c : List ℕ) : (number input place offset
   -- 3, 4 and 10
   line-refused : {n number byte : ℕ} {start line out : List ℕ} {texts : List (List ℕ)} (more : List ℕ) → length e ≤ 16384 → length h ≤ 32768 → e ≡ start ++ (line ++ (13 ∷ 10 ∷ more))
       → EnvelopeLines rules Any n start out texts → n ≤ 100 → LineRefused rules (eqb n 0) line number byte → Given rules e h b c number 1 n (length start + byte)
-  header-malformed : {n offset : ℕ} {start rest out : List ℕ} {texts : List (List ℕ)} → EnvelopePasses rules Any e h out texts → h ≡ start ++ rest → HeaderLines n start
-      → (rest ≡ [] → ⊥) → MalformedAt (HeaderFormedAt n) start rest offset → Given rules e h b c 5 2 n offset
+  header-malformed : {n offset : ℕ} {out : List ℕ} {texts : List (List ℕ)} → EnvelopePasses rules Any e h out texts → MalformedHeader h n offset → Given rules e h b c 5 2 n offset
   -- "For 6 .. the first non-ASCII byte of an ORCPT value": the first after the path, where only an ORCPT may have it
   orcpt-non-ascii : {n m : ℕ} {start line path out start-out : List ℕ} {alternative : Option (List ℕ)} {texts start-texts : List (List ℕ)} (more : List ℕ) → EnvelopePasses rules Any e h out texts → HeaderLines m h
       → e ≡ start ++ (line ++ (13 ∷ 10 ∷ more)) → EnvelopeLines rules Ascii n start start-out start-texts → (l : Line (eqb n 0) path alternative line) → (Ascii (l .tail) → ⊥)
       → Given rules e h b c 6 1 n (length start + (length (l .front) + (length path + suc (run isAscii (l .tail)))))
-  -- a field is held that becomes nothing. "a field's place is its first line": its number is how many lines end before it. "For 6 it is the first
-  -- non-ASCII byte .. of the field"
-  held-non-ascii : {m : ℕ} {field out : List ℕ} {before texts : List (List ℕ)} {segments : List Segment} (after : List (List ℕ)) → EnvelopePasses rules Ascii e h out texts → HeaderLines m h
-      → fieldsOf h ≡ before ++ (field ∷ after) → FieldsBecome rules before segments → ((new : List Segment) → Becomes rules field new → ⊥)
-      → Given rules e h b c 6 2 (lineCount (joined before)) (length (joined before) + run isAscii field)
+  held-non-ascii : {m line offset : ℕ} {out : List ℕ} {texts : List (List ℕ)} → EnvelopePasses rules Ascii e h out texts → HeaderLines m h → HeldHeader rules h line offset
+      → Given rules e h b c 6 2 line offset
   envelope-longer : {out : List ℕ} {segments : List Segment} → Downgraded rules e h out segments → length b < length out → Given rules e h b c 7 1 (length out) 0
   header-longer : {out : List ℕ} {segments : List Segment} → Downgraded rules e h out segments → length out ≤ length b → length c < length (rendered segments)
       → Given rules e h b c 8 2 (length (rendered segments)) 0
@@ -90,14 +87,14 @@ pub record Demand2 (rules : Rules) (e h e′ h′ : List ℕ) : Type 0 where
 -- encoded words of something, that something .. is a text, and the bytes written there for it are its row. Each such occurrence
 -- counts by itself."
 
--- Demand 3 for the outgoing header: wherever its segments ask for the encoded words of a text, the bytes there are a row of which demand 3 holds,
--- which `Demand3` and `FieldDemand3` state for one text and its row.
-pub record DemandThree (rules : Rules) (e h e′ h′ : List ℕ) : Type 0 where
-  pub alone : (before : List Segment) (text : List ℕ) (after : List Segment) → Downgraded rules e h e′ (before ++ (words text ∷ after))
+-- Demand 3 for an outgoing header h′ that is rendered of segments which are `Written`: wherever they ask for the encoded words of a text,
+-- the bytes there are a row of which demand 3 holds, which `Demand3` and `FieldDemand3` state for one text and its row.
+pub record DemandThree (Written : List Segment → Type 0) (h′ : List ℕ) : Type 0 where
+  pub alone : (before : List Segment) (text : List ℕ) (after : List Segment) → Written (before ++ (words text ∷ after))
       → (row : List ℕ) × (h′ ≡ rendered before ++ (row ++ rendered after)) × Demand3 text row
   -- The rows of plain text fields and of all Downgraded fields are set after a label, the name with its colon: "Demand 3 for these fields
   -- now speaks of the fewest lines of the field, among rows set as ours are".
-  pub after-label : (before : List Segment) (label text : List ℕ) (after : List Segment) → Downgraded rules e h e′ (before ++ (labelled label text ∷ after))
+  pub after-label : (before : List Segment) (label text : List ℕ) (after : List Segment) → Written (before ++ (labelled label text ∷ after))
       → (row : List ℕ) × (h′ ≡ rendered before ++ (label ++ (row ++ rendered after))) × FieldDemand3 (length label) text row
 
 -- ---- all three
@@ -105,4 +102,4 @@ pub record DemandThree (rules : Rules) (e h e′ h′ : List ℕ) : Type 0 where
 pub record Demands (rules : Rules) (e h b c : List ℕ) (r : Answer) (b′ c′ : List ℕ) : Type 0 where
   pub demand-1 : Demand1 rules e h b c r b′ c′
   pub demand-2 : r .number ≡ 0 → Demand2 rules e h (take (r .«envelope_len») b′) (take (r .«header_len») c′)
-  pub demand-3 : r .number ≡ 0 → DemandThree rules e h (take (r .«envelope_len») b′) (take (r .«header_len») c′)
+  pub demand-3 : r .number ≡ 0 → DemandThree (Downgraded rules e h (take (r .«envelope_len») b′)) (take (r .«header_len») c′)

@@ -2,7 +2,7 @@
 use mathlib.Core.Path.{_≡_, refl, sym, ap, _∙_}
 use mathlib.Core.Logic.{_≢_}
 use mathlib.Core.Bool.{Bool, true, not}
-use mathlib.Core.List.{List, [], _∷_, _++_, append-assoc, append-nil, List·Memᴰ, List·Memᴰ·head, List·Memᴰ·tail}
+use mathlib.Core.List.{List, [], _∷_, _++_, append-nil}
 use Prim.Native.Nat.{ℕ, suc, pred, _≤_}
 use native.Mathlib.Omega.{arith}
 use lib.Dec.{T, eqb, ltb, eqb→eq}
@@ -13,11 +13,9 @@ use Rattle.utf8.specs.Utf8.{utf8}
 use Rattle.lists.specs.Lists.{all}
 use Rattle.lists.specs.ListsLaws.{by-test, all-append}
 use Rattle.buffer.specs.Buffer.{overlay}
-use Rattle.buffer.specs.BufferLaws.{length-overlay, overlay-front, overlay-past}
-use Rattle.row.specs.Row.{row, rowAfter}
-use Rattle.encoded_word.specs.Segments.{Segment, bytesOf, rendered, sound}
-use Rattle.encoded_word.specs.Segments.Segment.{words, labelled}
-use Rattle.encoded_word.specs.SegmentsLaws.{rendered-append, rendered-ascii, words-demand-3, labelled-demand-3}
+use Rattle.buffer.specs.BufferLaws.{overlay-front}
+use Rattle.encoded_word.specs.Segments.{Segment, rendered, sound}
+use Rattle.encoded_word.specs.SegmentsLaws.{rendered-ascii}
 use Rattle.letter_case.specs.LetterCase.{bytes}
 use Rattle.envelope_line.specs.declared.Fault.{Fault}
 use Rattle.envelope_line.specs.declared.Fault.the-variants.{Fine, Malformed, NoAlternative, BadAlternative, RetiredAlternative}
@@ -42,21 +40,26 @@ use Rattle.field.specs.FieldLaws.{labelled-sound}
 use Rattle.outgoing_field.specs.Fate.{segmentsOf, headerSegments, heldOf}
 use Rattle.outgoing_field.specs.OwedLaws.{owed-header}
 use Rattle.call.specs.declared.Answer.{Answer}
-use Rattle.call.specs.declared.Refusal.the-variants.{EnvelopeOver, HeaderOver, EnvelopeNeeds, HeaderNeeds}
+use Rattle.call.specs.declared.Refusal.the-variants.{EnvelopeOver, EnvelopeNeeds}
 use Rattle.call.specs.declared.Verdict.{Verdict}
 use Rattle.call.specs.declared.Verdict.the-variants.{Accept, Refuse}
 use Rattle.call.specs.OutgoingHeader.{newField, newFields, outgoingSegments, outgoingHeader}
-use Rattle.call.specs.Outcome.{numberOf, inputOf, placeOf, offsetOf, ofEnvelope, ofLines, ofOrcpt, ofHeld, firstOf, verdict, Outcome, outcomeOf, outcome, observed}
+use Rattle.call.specs.Outcome.{numberOf, inputOf, placeOf, offsetOf, ofEnvelope, ofHeader, ofOrcpt, firstOf, verdict, Outcome, outcomeOf, outcome, observed}
 use Rattle.call.specs.OutputLaws.{over-yes, over-no}
+use Rattle.outgoing_header.specs.HeaderOutcome.{ofLines, ofHeld, numberOf as headerNumber, placeOf as headerPlace, offsetOf as headerOffset}
+use Rattle.outgoing_header.specs.HeaderOutcomeLaws.{size-over, size-within, room-short, room-enough}
 use Rattle.envelope_line.specs.LineGrammar.{LineRefused}
 use Rattle.envelope.specs.EnvelopeDemand.{Any, Ascii}
 use Rattle.envelope.specs.EnvelopeDemandLaws.{replacementsOf, replacements, envelope-passed, envelope-clean, lines-passed, lines-clean, written-kept}
 use Rattle.offset.specs.EnvelopeRefusalLaws.{envelope-malformed-found, malformed-exact, envelope-refused, refused-exact, envelope-orcpt, orcpt-exact}
 use Rattle.demands.specs.Downgraded.{EnvelopePasses, firstFields, FieldsBecome, Downgraded}
 use Rattle.demands.specs.Downgraded.EnvelopePasses.{none-refused}
+use Rattle.demands.specs.Downgraded.HeaderBecomes.{all-become}
 use Rattle.demands.specs.Downgraded.Downgraded.{both-pass}
 use Rattle.demands.specs.HeaderLaws.{header-lines, lines-header, header-malformed-found, header-malformed-exact}
 use Rattle.demands.specs.BecomesLaws.{fields-become, fields-exact, field-held, held-exact}
+use Rattle.demands.specs.RowsLaws.{rows-right}
+use Rattle.demands.specs.KeptLaws.{kept-all, kept-past}
 use Rattle.demands.specs.Demands.{Given, KeptPast, Demand1, Demand2, DemandThree, Demands}
 use Rattle.demands.specs.Demands.Given.{envelope-over, header-over, envelope-malformed, line-refused, header-malformed, orcpt-non-ascii, held-non-ascii, envelope-longer, header-longer, none-holds}
 
@@ -108,7 +111,7 @@ module _ (rules : Rules) (e h : List ℕ) where
 
   computed : {out : List ℕ} {segments : List Segment} → Downgraded rules e h out segments → Computed out segments
   unfolding outgoingSegments
-  computed (both-pass (none-refused {n} s t enough lines) header-lines fields) =
+  computed (both-pass (none-refused {n} s t enough lines) (all-become header-lines fields)) =
       let x = lines-passed lines enough in
       let y = fields-exact h fields in
       record {
@@ -141,8 +144,7 @@ module _ (rules : Rules) (e h : List ℕ) where
         rw (← first-new e)
         (both-pass
         (none-refused (p .limits .0) (p .limits .1) enough-lines (envelope-clean rules e (p .recipients) (p .envelope) (p .orcpt)))
-        (header-lines h (p .header) .1)
-        (fields-become rules h (p .held)))
+        (all-become (header-lines h (p .header) .1) (fields-become rules h (p .held))))
 
     no-first-fields : T (not (allowsAlternative rules)) → FieldsBecome rules (fieldsOf h) (outgoingSegments rules e h)
     unfolding outgoingSegments newFields newField
@@ -163,42 +165,42 @@ module _ (rules : Rules) (e h b c : List ℕ) where
 
   -- each condition gives its verdict
   exactly : (number input place offset : ℕ) → Given rules e h b c number input place offset → Answers (verdict rules e h (length b) (length c)) number input place offset
-  unfolding verdict firstOf outcomeOf numberOf inputOf placeOf offsetOf faultNumber ofEnvelope ofLines ofOrcpt ofHeld
+  unfolding verdict firstOf outcomeOf numberOf inputOf placeOf offsetOf faultNumber ofEnvelope ofHeader ofLines ofOrcpt ofHeld headerNumber headerPlace headerOffset
   exactly number input place offset (envelope-over k) = rw (over-yes 16384 (length e) EnvelopeOver k) (refl, refl, refl, refl)
-  exactly number input place offset (header-over k l) = rw (over-no 16384 (length e) EnvelopeOver k, over-yes 32768 (length h) HeaderOver l) (refl, refl, refl, refl)
+  exactly number input place offset (header-over k l) = rw (over-no 16384 (length e) EnvelopeOver k, size-over h l) (refl, refl, refl, refl)
   exactly number input place offset (envelope-malformed s t k ls m f) =
       let x = malformed-exact k ls m f in
-      rw (over-no 16384 (length e) EnvelopeOver s, over-no 32768 (length h) HeaderOver t, x .0) (refl, refl, refl, x .1)
+      rw (over-no 16384 (length e) EnvelopeOver s, size-within h t, x .0) (refl, refl, refl, x .1)
   exactly number input place offset (line-refused more s t k ls m f) =
       let x = refused-exact more k ls m f in
-      rw (over-no 16384 (length e) EnvelopeOver s, over-no 32768 (length h) HeaderOver t, x .1) (x .2, refl, refl, x .3)
-  exactly number input place offset (header-malformed (none-refused s t enough all) k ls m f) =
-      let x = header-malformed-exact k ls m f in
-      rw (over-no 16384 (length e) EnvelopeOver s, over-no 32768 (length h) HeaderOver t, lines-passed all enough .0, x .0) (refl, refl, refl, x .1)
+      rw (over-no 16384 (length e) EnvelopeOver s, size-within h t, x .1) (x .2, refl, refl, x .3)
+  exactly number input place offset (header-malformed (none-refused s t enough all) m) =
+      let x = header-malformed-exact m in
+      rw (over-no 16384 (length e) EnvelopeOver s, size-within h t, lines-passed all enough .0, x .0) (refl, refl, refl, x .1)
   exactly number input place offset (orcpt-non-ascii more (none-refused s t enough all) q k ls l m) =
       let passed = lines-passed all enough .0 in
       let x = orcpt-exact more k ls l m in
-      rw (over-no 16384 (length e) EnvelopeOver s, over-no 32768 (length h) HeaderOver t, passed, lines-header q, x .0) (refl, refl, refl, sym (x .1))
-  exactly number input place offset (held-non-ascii after (none-refused s t enough all) q k ls m) =
-      let x = held-exact h after k ls m in
-      rw (over-no 16384 (length e) EnvelopeOver s, over-no 32768 (length h) HeaderOver t, lines-passed all enough .0, lines-header q, lines-clean all, x .0) (refl, refl, refl, sym (x .1))
+      rw (over-no 16384 (length e) EnvelopeOver s, size-within h t, passed, lines-header q, x .0) (refl, refl, refl, sym (x .1))
+  exactly number input place offset (held-non-ascii (none-refused s t enough all) q m) =
+      let x = held-exact h m in
+      rw (over-no 16384 (length e) EnvelopeOver s, size-within h t, lines-passed all enough .0, lines-header q, lines-clean all, x .0) (refl, refl, refl, x .1)
   exactly number input place offset (envelope-longer d k) =
       let p = downgraded-passes rules e h d in
       let s = p .limits in
       let k′ = rw (downgraded-out rules e h d) at k in
-      rw (over-no 16384 (length e) EnvelopeOver (s .0), over-no 32768 (length h) HeaderOver (s .1), p .envelope, p .header, p .orcpt, p .held, over-yes (length b) (length (written e)) (EnvelopeNeeds (length (written e))) k′) (refl, refl, ap length (downgraded-out rules e h d), refl)
+      rw (over-no 16384 (length e) EnvelopeOver (s .0), size-within h (s .1), p .envelope, p .header, p .orcpt, p .held, over-yes (length b) (length (written e)) (EnvelopeNeeds (length (written e))) k′) (refl, refl, ap length (downgraded-out rules e h d), refl)
   exactly number input place offset (header-longer d k l) =
       let p = downgraded-passes rules e h d in
       let s = p .limits in
       let k′ = rw (downgraded-out rules e h d) at k in
       let l′ = rw (downgraded-header rules e h d) at l in
-      rw (over-no 16384 (length e) EnvelopeOver (s .0), over-no 32768 (length h) HeaderOver (s .1), p .envelope, p .header, p .orcpt, p .held, over-no (length b) (length (written e)) (EnvelopeNeeds (length (written e))) k′, over-yes (length c) (length (outgoingHeader rules e h)) (HeaderNeeds (length (outgoingHeader rules e h))) l′) (refl, refl, ap length (downgraded-header rules e h d), refl)
+      rw (over-no 16384 (length e) EnvelopeOver (s .0), size-within h (s .1), p .envelope, p .header, p .orcpt, p .held, over-no (length b) (length (written e)) (EnvelopeNeeds (length (written e))) k′, room-short (length c) (length (outgoingHeader rules e h)) l′) (refl, refl, ap length (downgraded-header rules e h d), refl)
   exactly number input place offset (none-holds d k l) =
       let p = downgraded-passes rules e h d in
       let s = p .limits in
       let k′ = rw (downgraded-out rules e h d) at k in
       let l′ = rw (downgraded-header rules e h d) at l in
-      rw (over-no 16384 (length e) EnvelopeOver (s .0), over-no 32768 (length h) HeaderOver (s .1), p .envelope, p .header, p .orcpt, p .held, over-no (length b) (length (written e)) (EnvelopeNeeds (length (written e))) k′, over-no (length c) (length (outgoingHeader rules e h)) (HeaderNeeds (length (outgoingHeader rules e h))) l′) (refl, refl, refl, refl)
+      rw (over-no 16384 (length e) EnvelopeOver (s .0), size-within h (s .1), p .envelope, p .header, p .orcpt, p .held, over-no (length b) (length (written e)) (EnvelopeNeeds (length (written e))) k′, room-enough (length c) (length (outgoingHeader rules e h)) l′) (refl, refl, refl, refl)
 
   -- some condition holds
   record Some : Type 0 where
@@ -240,8 +242,7 @@ module _ (rules : Rules) (e h b c : List ℕ) where
           some-held : (held : HeldField) → heldOf rules h ≡ held → Some
           some-held Absent k = some-room (record { limits = s; recipients = m; envelope = p; header = q; orcpt = r; held = k })
           some-held (HeldAt line at) k =
-              let x = field-held rules h line at k in
-              found (held-non-ascii (x .after) clean (header-lines h q .1) (x .is) (x .become) (x .held))
+              found (held-non-ascii clean (header-lines h q .1) (field-held rules h line at k))
 
         some-orcpt : (orcpt : Orcpt) → orcptLine e ≡ orcpt → Some
         some-orcpt Clean k = some-held k (heldOf rules h) refl
@@ -251,7 +252,7 @@ module _ (rules : Rules) (e h b c : List ℕ) where
 
       some-header : (check : LineCheck) → checkedLines h ≡ check → Some
       some-header WellFormed k = some-orcpt k (orcptLine e) refl
-      some-header (MalformedLine line at) k = let x = header-malformed-found h line at k in found (header-malformed passed (x .is) (x .lines) (x .some) (x .at))
+      some-header (MalformedLine line at) k = found (header-malformed passed (header-malformed-found h line at k))
 
     some-refused : (fault : Fault) (line : ℕ) → (fault ≡ Malformed → ⊥) → checked rules e ≡ Refused fault line → Some
     some-refused fault line n k =
@@ -289,10 +290,6 @@ module _ (rules : Rules) (e h b c : List ℕ) where
   refusal-none Accept k = absurd (k refl)
   refusal-none (Refuse refusal) k = (refl, refl)
 
-  -- nothing was written
-  kept-all : (before : List ℕ) → KeptPast 0 before before
-  kept-all before = record { inside = omega arith; size = refl; past = refl }
-
   refusal-kept : (v : Verdict) → (outcomeOf rules v e h b c .number ≡ 0 → ⊥) → KeptPast (outcomeOf rules v e h b c .envelopeLen) b (outcomeOf rules v e h b c .envelopeBuffer) × KeptPast (outcomeOf rules v e h b c .headerLen) c (outcomeOf rules v e h b c .headerBuffer)
   unfolding outcomeOf
   refusal-kept Accept k = absurd (k refl)
@@ -309,9 +306,9 @@ module _ (rules : Rules) (e h b c : List ℕ) where
   taken number input place offset (header-over k l) z = absurd (omega arith)
   taken number input place offset (envelope-malformed s t k ls m f) z = absurd (omega arith)
   taken number input place offset (line-refused more s t k ls m f) z = absurd (refusal-number f z (omega arith) (omega arith) (omega arith))
-  taken number input place offset (header-malformed p k ls m f) z = absurd (omega arith)
+  taken number input place offset (header-malformed p m) z = absurd (omega arith)
   taken number input place offset (orcpt-non-ascii more p q k ls l m) z = absurd (omega arith)
-  taken number input place offset (held-non-ascii after p q k ls m) z = absurd (omega arith)
+  taken number input place offset (held-non-ascii p q m) z = absurd (omega arith)
   taken number input place offset (envelope-longer d k) z = absurd (omega arith)
   taken number input place offset (header-longer d k l) z = absurd (omega arith)
   taken number input place offset (none-holds d k l) z = record {
@@ -322,19 +319,15 @@ module _ (rules : Rules) (e h b c : List ℕ) where
 
   module _ (t : Taken) where
     accepted : verdict rules e h (length b) (length c) ≡ Accept
-    unfolding verdict firstOf ofEnvelope ofLines ofOrcpt ofHeld
+    unfolding verdict firstOf ofEnvelope ofHeader ofLines ofOrcpt ofHeld
     accepted =
         let p = t .passes in
         let s = p .limits in
-        rw (over-no 16384 (length e) EnvelopeOver (s .0), over-no 32768 (length h) HeaderOver (s .1), p .envelope, p .header, p .orcpt, p .held, over-no (length b) (length (written e)) (EnvelopeNeeds (length (written e))) (t .envelope-fits), over-no (length c) (length (outgoingHeader rules e h)) (HeaderNeeds (length (outgoingHeader rules e h))) (t .header-fits))
+        rw (over-no 16384 (length e) EnvelopeOver (s .0), size-within h (s .1), p .envelope, p .header, p .orcpt, p .held, over-no (length b) (length (written e)) (EnvelopeNeeds (length (written e))) (t .envelope-fits), room-enough (length c) (length (outgoingHeader rules e h)) (t .header-fits))
 
     outcome-is : outcomeOf rules Accept e h b c ≡ o
     unfolding outcome
     outcome-is = rw accepted
-
-    -- what was written over a buffer
-    kept-past : (text before : List ℕ) → length text ≤ length before → KeptPast (length text) before (overlay text before)
-    kept-past text before k = record { inside = k; size = length-overlay text before; past = overlay-past text before }
 
     success-kept : KeptPast (o .envelopeLen) b (o .envelopeBuffer) × KeptPast (o .headerLen) c (o .headerBuffer)
     unfolding outcomeOf
@@ -364,16 +357,7 @@ unfolding newField
 new-field-sound label [] a u = tt
 new-field-sound label (x ∷ text) a u = labelled-sound label (x ∷ text) a u
 
-mem-at : (before : List Segment) (s : Segment) (after : List Segment) → List·Memᴰ s (before ++ (s ∷ after))
-mem-at [] s after = List·Memᴰ·head refl
-mem-at (x ∷ before) s after = List·Memᴰ·tail (mem-at before s after)
-
 module _ (rules : Rules) (e h : List ℕ) (p : Passes rules e h) where
-  rendered-at : (before : List Segment) (s : Segment) (after : List Segment) → outgoingSegments rules e h ≡ before ++ (s ∷ after)
-      → outgoingHeader rules e h ≡ rendered before ++ (bytesOf s ++ rendered after)
-  unfolding outgoingHeader rendered
-  rendered-at before s after q = ap rendered q ∙ rendered-append before (s ∷ after)
-
   segments-sound : T (all sound (outgoingSegments rules e h))
   unfolding outgoingSegments newFields bytes segmentsOf
   segments-sound =
@@ -408,22 +392,9 @@ module _ (rules : Rules) (e h : List ℕ) (p : Passes rules e h) where
     unfolding outcomeOf
     header-is = rw (← outcome-is rules e h b c t) (overlay-front (outgoingHeader rules e h) c (t .header-fits))
 
-    segment-there : (before : List Segment) (s : Segment) (after : List Segment) → outgoingSegments rules e h ≡ before ++ (s ∷ after)
-        → headerOut (outcome rules e h b c) ≡ rendered before ++ (bytesOf s ++ rendered after)
-    segment-there before s after q = header-is ∙ rendered-at before s after q
-
-    outcome-demand-3 : DemandThree rules e h (envelopeOut (outcome rules e h b c)) (headerOut (outcome rules e h b c))
-    outcome-demand-3 = record {
-      alone = λ before text after d.
-          let q = sym (downgraded-segments rules e h d) in
-          let demand = words-demand-3 (outgoingSegments rules e h) text segments-sound (rw q (mem-at before (words text) after)) in
-          (row text, segment-there before (words text) after q, demand);
-      after-label = λ before label text after d.
-          let q = sym (downgraded-segments rules e h d) in
-          let demand = labelled-demand-3 (outgoingSegments rules e h) label text segments-sound (rw q (mem-at before (labelled label text) after)) in
-          let there = segment-there before (labelled label text) after q ∙ ap (λ (l : List ℕ). rendered before ++ l) (append-assoc label (rowAfter (length label) text) (rendered after)) in
-          (rowAfter (length label) text, there, demand);
-    }
+    outcome-demand-3 : DemandThree (Downgraded rules e h (envelopeOut (outcome rules e h b c))) (headerOut (outcome rules e h b c))
+    unfolding outgoingHeader
+    outcome-demand-3 = rows-right (outgoingSegments rules e h) segments-sound header-is (λ ss d. downgraded-segments rules e h d)
 
 -- after 0
 after-zero : (rules : Rules) (e h b c : List ℕ) → outcome rules e h b c .number ≡ 0 → Taken rules e h b c

@@ -1,17 +1,16 @@
 -- The demands leave nothing open: what meets them is observed as the outcome. So no program that refuses all, answers a fixed envelope, writes
 -- nothing or invents lengths meets them. Assumes nothing.
-use mathlib.Core.Path.{_≡_, refl, ap, sym, _∙_}
-use mathlib.Core.List.{List, _++_}
+use mathlib.Core.Path.{_≡_, refl, sym, _∙_}
+use mathlib.Core.List.{List}
 use Prim.Native.Nat.{ℕ}
-use native.Mathlib.Omega.{arith}
 use lib.Dec.{eqb, eqb→eq}
 use mir.Facts.{eqb-no}
-use lib.ListN.{length, take, drop, take-append-drop, length-take}
 use Rattle.lists.specs.ListsLaws.{by-test}
 use Rattle.rules.specs.declared.Rules.{Rules}
 use Rattle.call.specs.declared.Answer.{Answer}
 use Rattle.call.specs.Outcome.{Outcome, outcome, observed}
-use Rattle.demands.specs.Demands.{KeptPast, Demands}
+use Rattle.demands.specs.Demands.{Demands}
+use Rattle.demands.specs.KeptLaws.{same-buffer, same-length, untouched}
 use Rattle.demands.specs.DemandsLaws.{envelopeOut, headerOut, downgraded-out, downgraded-header, OutcomeDemands, demands}
 
 same-outcome : {o p : Outcome} → o .number ≡ p .number → o .input ≡ p .input → o .place ≡ p .place → o .offset ≡ p .offset → o .envelopeLen ≡ p .envelopeLen → o .headerLen ≡ p .headerLen
@@ -24,21 +23,6 @@ same-outcome {o} {p} a i b k c d e f = same
     same : made (o .number) (o .input) (o .place) (o .offset) (o .envelopeLen) (o .headerLen) (o .envelopeBuffer) (o .headerBuffer)
         ≡ made (p .number) (p .input) (p .place) (p .offset) (p .envelopeLen) (p .headerLen) (p .envelopeBuffer) (p .headerBuffer)
     same = rw (a, i, b, k, c, d, e, f)
-
--- a buffer is what was written and what stayed
-same-buffer : (text before after : List ℕ) (len : ℕ) → take len after ≡ text → KeptPast len before after → after ≡ text ++ drop len before
-same-buffer text before after len e k = sym (take-append-drop len after) ∙ rw (e, k .past)
-
--- what is written in two buffers of one length is as long in both
-len-written : {len : ℕ} {before after : List ℕ} → KeptPast len before after → length (take len after) ≡ len
-len-written {len} {before} {after} k = rw length-take (omega (arith, k .inside, k .size))
-
-same-length : {len len′ : ℕ} {before before′ after after′ : List ℕ} → KeptPast len before after → KeptPast len′ before′ after′ → take len after ≡ take len′ after′ → len ≡ len′
-same-length k l e = sym (len-written k) ∙ ap length e ∙ len-written l
-
--- where nothing is written a buffer is as before
-untouched : {len : ℕ} {before after : List ℕ} → len ≡ 0 → KeptPast len before after → after ≡ before
-untouched z k = rw z at (k .past)
 
 module _ (rules : Rules) (e h b c : List ℕ) (r : Answer) (b′ c′ : List ℕ) (d : Demands rules e h b c r b′ c′) where
   abbrev o : Outcome

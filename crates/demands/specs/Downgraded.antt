@@ -14,8 +14,9 @@ use Rattle.line_stop.specs.FirstBad.{WithCrlf}
 use Rattle.envelope.specs.EnvelopeDemand.{Ascii, EnvelopeLines}
 use Rattle.header_line.specs.Lines.{wellFormed}
 use Rattle.header.specs.Fields.{fieldsOf, nameOf, valueOf, textOf}
-use Rattle.header_name.specs.declared.Kind.{Kind}
-use Rattle.header_name.specs.declared.Kind.the-variants.{Address, PlainText, Received, Commented, Other}
+use Rattle.field_method.specs.declared.Method.{Method}
+use Rattle.field_method.specs.declared.Method.the-variants.{Pieces, PlainText, Encapsulated, Received, CommentsOrHeld, CommentsOrEncapsulated}
+use Rattle.field_method.specs.FieldMethod.{methodOf}
 use Rattle.header_name.specs.Names.{kindOf}
 use Rattle.field.specs.Field.{encodedField, named}
 use Rattle.address_grammar.specs.AddressField.{AddressField}
@@ -48,21 +49,25 @@ pub data HeaderLines : ℕ → List ℕ → Type 0 where
   none : HeaderLines 0 []
   then : {n : ℕ} {before line : List ℕ} → HeaderLines n before → WithCrlf (HeaderFormedAt n) line → HeaderLines (suc n) (before ++ line)
 
--- What becomes of a field whose value is not ASCII, by the kind of its name. "Plain text: name, colon, encoded words of the text. Every other name is
--- encapsulated: `Downgraded-` before the name". Date and the others with comments "are held only if non-ASCII stands outside their comments". A
--- Received field is held too "with a line grown past 998 bytes". Of the kinds Parameterized and Held there is no rule: such a field is held.
-pub data KindBecomes (rules : Rules) (field : List ℕ) : Kind → List Segment → Type 0 where
-  address : {segments : List Segment} → AddressField rules (nameOf field) (textOf field) segments → KindBecomes rules field Address segments
-  plain-text : KindBecomes rules field PlainText (encodedField false (nameOf field) (textOf field))
-  other : KindBecomes rules field Other (encodedField true (nameOf field) (textOf field))
-  commented : {segments : List Segment} → StructuredValue (valueOf field) segments → KindBecomes rules field Commented (named (nameOf field) segments)
+-- What becomes of a field whose value is not ASCII, by the method for it. "Plain text: name, colon, encoded words of the text."
+-- "encapsulated: `Downgraded-` before the name". Date and the others with comments "are held only if non-ASCII stands outside their
+-- comments"; in a mailbox Message-ID to References "are encapsulated" then. A Received field is held too "with a line grown past 998
+-- bytes". For the methods Parameters and Held there is no rule: such a field is held.
+pub data MethodBecomes (rules : Rules) (field : List ℕ) : Method → List Segment → Type 0 where
+  pieces : {segments : List Segment} → AddressField rules (nameOf field) (textOf field) segments → MethodBecomes rules field Pieces segments
+  plain-text : MethodBecomes rules field PlainText (encodedField false (nameOf field) (textOf field))
+  encapsulated : MethodBecomes rules field Encapsulated (encodedField true (nameOf field) (textOf field))
+  comments : {segments : List Segment} → StructuredValue (valueOf field) segments → MethodBecomes rules field CommentsOrHeld (named (nameOf field) segments)
+  comments-alone : {segments : List Segment} → StructuredValue (valueOf field) segments → MethodBecomes rules field CommentsOrEncapsulated (named (nameOf field) segments)
+  outside-comments : ((segments : List Segment) → StructuredValue (valueOf field) segments → ⊥)
+      → MethodBecomes rules field CommentsOrEncapsulated (encodedField true (nameOf field) (textOf field))
   received : {segments : List Segment} → ReceivedValue (valueOf field) segments → LinesFit (rendered (named (nameOf field) segments))
-      → KindBecomes rules field Received (named (nameOf field) segments)
+      → MethodBecomes rules field Received (named (nameOf field) segments)
 
 -- "A field whose value is ASCII is copied."
 pub data Becomes (rules : Rules) (field : List ℕ) : List Segment → Type 0 where
   copied : T (all isAscii (valueOf field)) → Becomes rules field (raw field ∷ [])
-  rewritten : {segments : List Segment} → T (not (all isAscii (valueOf field))) → KindBecomes rules field (kindOf (nameOf field)) segments → Becomes rules field segments
+  rewritten : {segments : List Segment} → T (not (all isAscii (valueOf field))) → MethodBecomes rules field (methodOf rules (kindOf (nameOf field))) segments → Becomes rules field segments
 
 -- what becomes of fields, one after another
 pub data FieldsBecome (rules : Rules) : List (List ℕ) → List Segment → Type 0 where
@@ -70,9 +75,14 @@ pub data FieldsBecome (rules : Rules) : List (List ℕ) → List Segment → Typ
   then : {field : List ℕ} {fields : List (List ℕ)} {segments more : List Segment} → Becomes rules field segments → FieldsBecome rules fields more
       → FieldsBecome rules (field ∷ fields) (segments ++ more)
 
+-- What becomes of a header whose lines are well formed.
+pub data HeaderBecomes (rules : Rules) (h : List ℕ) (segments : List Segment) : Type 0 where
+  all-become : {n : ℕ} → HeaderLines n h → FieldsBecome rules (fieldsOf h) segments → HeaderBecomes rules h segments
+
 -- ---- both
 
--- Both pass: `out` is the outgoing envelope, and the outgoing header is these segments, the new first fields before what becomes of the others.
+-- Both pass: `out` is the outgoing envelope, and the outgoing header is these segments, the new first fields before what becomes of the
+-- others.
 pub data Downgraded (rules : Rules) (e h out : List ℕ) : List Segment → Type 0 where
-  both-pass : {n : ℕ} {texts : List (List ℕ)} {segments : List Segment} → EnvelopePasses rules Ascii e h out texts → HeaderLines n h → FieldsBecome rules (fieldsOf h) segments
+  both-pass : {texts : List (List ℕ)} {segments : List Segment} → EnvelopePasses rules Ascii e h out texts → HeaderBecomes rules h segments
       → Downgraded rules e h out (firstFields texts ++ segments)

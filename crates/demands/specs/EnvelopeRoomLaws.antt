@@ -16,9 +16,9 @@ seven rules e h b c (envelope-over k) z = absurd (omega arith)
 seven rules e h b c (header-over k l) z = absurd (omega arith)
 seven rules e h b c (envelope-malformed s t k ls m f) z = absurd (omega arith)
 seven rules e h b c (line-refused more s t k ls m f) z = absurd (refusal-number f z (omega arith) (omega arith) (omega arith))
-seven rules e h b c (header-malformed p k ls m f) z = absurd (omega arith)
+seven rules e h b c (header-malformed p m) z = absurd (omega arith)
 seven rules e h b c (orcpt-non-ascii more p q k ls l m) z = absurd (omega arith)
-seven rules e h b c (held-non-ascii after p q k ls m) z = absurd (omega arith)
+seven rules e h b c (held-non-ascii p q m) z = absurd (omega arith)
 seven rules e h b c (envelope-longer d k) z =
     let p = downgraded-passes rules e h d in
     (omega (arith, rw (downgraded-out rules e h d) at k, written-le rules e (p .recipients) (p .envelope)), p .limits .0)

@@ -26,6 +26,7 @@ use Rattle.header_stop.specs.HeaderStop.{lineStop}
 use Rattle.header_stop.specs.HeaderStopLaws.{line-stop, line-stop-alone}
 use Rattle.offset.specs.Offset.{frontLine, headerLineOffset}
 use Rattle.demands.specs.Downgraded.{HeaderFormedAt, HeaderLines}
+use Rattle.demands.specs.HeaderGiven.{MalformedHeader}
 
 -- ---- a line at the front
 
@@ -139,15 +140,6 @@ stop-front first s bad =
     ap (lineStop first) front ∙ sym (ap (lineStop first) whole ∙ line-stop-alone first text more unformed))
     (λ t. ap (lineStop first) (take-all (n + 2) s (omega (arith, line-rest s t))))
 
--- a header stops at what follows n well-formed lines, and the offset is that of the byte that tells it
-pub record MalformedHeader (h : List ℕ) (n offset : ℕ) : Type 0 where
-  pub start : List ℕ
-  pub rest : List ℕ
-  pub is : h ≡ start ++ rest
-  pub lines : HeaderLines n start
-  pub some : rest ≡ [] → ⊥
-  pub at : MalformedAt (HeaderFormedAt n) start rest offset
-
 module _ (h start rest : List ℕ) (n : ℕ) (is : h ≡ start ++ rest) (bad : T (not (lineOk (eqb n 0) rest))) where
   offset-at : headerLineOffset h n (length start) ≡ length start + lineStop (eqb n 0) rest
   unfolding headerLineOffset
@@ -184,11 +176,14 @@ not-ok {rest = rest} n some m =
     absurd (m .malformed (c .line ++ (13 ∷ 10 ∷ [])) (c .others) line (c .is ∙ sym (append-assoc (c .line) (13 ∷ 10 ∷ []) (c .others)))))
     (λ t. t)
 
-pub header-malformed-exact : {h start rest : List ℕ} {n offset : ℕ} → h ≡ start ++ rest → HeaderLines n start → (rest ≡ [] → ⊥) → MalformedAt (HeaderFormedAt n) start rest offset
-    → (checkedLines h ≡ Malformed n (length start)) × (offset ≡ headerLineOffset h n (length start))
+pub header-malformed-exact : {h : List ℕ} {n offset : ℕ} (x : MalformedHeader h n offset) → (checkedLines h ≡ Malformed n (length (x .start))) × (offset ≡ headerLineOffset h n (length (x .start)))
 unfolding checkedLines
-header-malformed-exact {h} {start} {rest} {n} {offset} is ls some m =
-    let left = some-left rest some in
+header-malformed-exact {h} {n} {offset} x =
+    let start = x .start in
+    let rest = x .rest in
+    let is = x .is in
+    let m = x .at in
+    let left = some-left rest (x .some) in
     let bad = not-ok n left m in
     let byte : m .byte ≡ lineStop (eqb n 0) rest = first-once (m .first) (line-stop (eqb n 0) rest) in
-    (rw is (lines-past rest ls ∙ front-bad n (length start) rest left (no-false (lineOk (eqb n 0) rest) bad)), m .offset-is ∙ rw byte (sym (offset-at h start rest n is bad)))
+    (rw is (lines-past rest (x .lines) ∙ front-bad n (length start) rest left (no-false (lineOk (eqb n 0) rest) bad)), m .offset-is ∙ rw byte (sym (offset-at h start rest n is bad)))

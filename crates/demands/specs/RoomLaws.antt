@@ -1,24 +1,26 @@
 -- A header buffer that always suffices. Assumes nothing.
 use mathlib.Core.Path.{_≡_}
 use mathlib.Core.List.{List}
-use Prim.Native.Nat.{ℕ, _+_, _*_, _≤_}
+use Prim.Native.Nat.{ℕ, _+_, _≤_}
 use native.Mathlib.Omega.{arith}
 use lib.ListN.{length}
+use Rattle.outgoing_field.specs.Most.{mostOf}
+use Rattle.call.specs.OutgoingHeader.{newFieldsMost}
 use Rattle.call.specs.OutputLaws.{outgoing-le}
 use Rattle.rules.specs.declared.Rules.{Rules}
 use Rattle.demands.specs.DemandsLaws.{refusal-number, downgraded-passes, downgraded-header}
 use Rattle.demands.specs.Demands.{Given}
 use Rattle.demands.specs.Demands.Given.{envelope-over, header-over, envelope-malformed, line-refused, header-malformed, orcpt-non-ascii, held-non-ascii, envelope-longer, header-longer, none-holds}
 
--- With room for 30 bytes for each byte of the header, and 20,600 more, the answer 8 is never given.
-pub never-eight : (rules : Rules) (e h b c : List ℕ) → 30 * length h + 20600 ≤ length c → {number input place offset : ℕ} → Given rules e h b c number input place offset → number ≡ 8 → ⊥
+-- With room for the most that a header can become, and 20,600 bytes for the new first fields, the answer 8 is never given.
+pub never-eight : (rules : Rules) (e h b c : List ℕ) → mostOf h + newFieldsMost ≤ length c → {number input place offset : ℕ} → Given rules e h b c number input place offset → number ≡ 8 → ⊥
 never-eight rules e h b c r (envelope-over k) z = omega arith
 never-eight rules e h b c r (header-over k l) z = omega arith
 never-eight rules e h b c r (envelope-malformed s t k ls m f) z = omega arith
 never-eight rules e h b c r (line-refused more s t k ls m f) z = refusal-number f z (omega arith) (omega arith) (omega arith)
-never-eight rules e h b c r (header-malformed p k ls m f) z = omega arith
+never-eight rules e h b c r (header-malformed p m) z = omega arith
 never-eight rules e h b c r (orcpt-non-ascii more p q k ls l m) z = omega arith
-never-eight rules e h b c r (held-non-ascii after p q k ls m) z = omega arith
+never-eight rules e h b c r (held-non-ascii p q m) z = omega arith
 never-eight rules e h b c r (envelope-longer d k) z = omega arith
 never-eight rules e h b c r (header-longer d k l) z =
     let p = downgraded-passes rules e h d in

@@ -22,24 +22,13 @@ pub(crate) fn put_escape(out: &mut [u8], at: usize, b: u8) -> usize
     third + 1
 }
 
-// The same of two bytes, whose digits are made together.
+// The same of two bytes.
 pub(crate) fn put_escapes(out: &mut [u8], at: usize, a: u8, b: u8) -> usize
     requires { ⌜ at + 6 ≤ length (now out) ⌝ }
     ensures { λ r. ⌜ Appended (escape a ++ escape b) at (now (out .entry)) (now (out .exit)) r ⌝ }
 {
-    let d = hex::digits(a, b);
-    let a1 = at + 1;
-    let a2 = a1 + 1;
-    let a3 = a2 + 1;
-    let a4 = a3 + 1;
-    let a5 = a4 + 1;
-    out[at] = 61;
-    out[a1] = d.first;
-    out[a2] = d.second;
-    out[a3] = 61;
-    out[a4] = d.third;
-    out[a5] = d.fourth;
-    a5 + 1
+    let next = put_escape(out, at, a);
+    put_escape(out, next, b)
 }
 
 // Writes a byte.

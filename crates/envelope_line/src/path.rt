@@ -1,7 +1,8 @@
 // What stands before the parameters: the verb and the path.
 ghost use mathlib.Core.Path.{_≡_};
-ghost use Prim.Native.Nat.{_+_};
+ghost use Prim.Native.Nat.{_+_, min};
 ghost use lib.ListN.{drop};
+ghost use Rattle.buffer.specs.Buffer.{greatest};
 ghost use Rattle.address.specs.Address.{later};
 ghost use Rattle.envelope_line.specs.EnvelopeLine.{verbLen, hasVerb, pathScan, pathLen, tail};
 use address::Scan;
@@ -53,7 +54,7 @@ pub(crate) fn path_end(line: &[u8], mail: bool) -> usize
 
 // Where what follows the path and its `>` starts.
 pub fn tail_start(line: &[u8], mail: bool) -> usize
-    ensures { λ r. ⌜ drop r (now (line .entry)) ≡ tail mail (now (line .entry)) ⌝ }
+    ensures { λ r. ⌜ (r ≡ min (verbLen mail + pathLen mail (now (line .entry)) + 1) greatest) × (drop r (now (line .entry)) ≡ tail mail (now (line .entry))) ⌝ }
 {
     buffer::place_after(path_end(line, mail), 1)
 }

@@ -4,12 +4,10 @@
 use mathlib.Core.Path.{_≡_}
 use mathlib.Core.Bool.{Bool, true, false, cond, not, _&&_, _||_}
 use mathlib.Core.List.{List, [], _∷_, _++_}
-use Prim.Native.Nat.{ℕ, suc, _-_, _≤_, _<_}
+use Prim.Native.Nat.{ℕ, _+_, _-_, _≤_, _<_}
 use lib.ListN.{length, take, drop}
 use Rattle.lists.specs.Byte.{isAscii}
 use Rattle.lists.specs.Lists.{all}
-use Rattle.lists.specs.Run.{run}
-use Rattle.line.specs.Line.{blank}
 use Rattle.rules.specs.declared.Rules.{Rules}
 use Rattle.address_list.specs.Parts.{Part, partsFrom, innerEnd}
 use Rattle.address_list.specs.declared.PartKind.{PartKind}
@@ -71,14 +69,10 @@ unfoldable pub textOf : List Part → List ℕ
 textOf [] = []
 textOf (p ∷ ps) = p .text ++ textOf ps
 
--- how many bytes there are up to the last that is no blank, and with it
-unfoldable pub contentLen : List ℕ → ℕ
-contentLen [] = 0
-contentLen (b ∷ t) = cond (all blank (b ∷ t)) 0 (suc (contentLen t))
-
--- "spaces and TABs at both ends dropped"
-unfoldable pub trimmed : List ℕ → List ℕ
-trimmed t = let rest = drop (run blank t) t in take (contentLen rest) rest
+-- the bytes of a group's semicolon, by the parts after its colon; none where it has none
+unfoldable pub semicolonOf : List Part → List ℕ
+semicolonOf [] = []
+semicolonOf (p ∷ ps) = cond (isSemicolon (p .kind)) (p .text) (semicolonOf ps)
 
 -- what is written at a turn: a part, or a whole group that loses a member, from its colon on, in place of which stands what is
 -- between its colon and its semicolon
@@ -106,6 +100,7 @@ partsAt rules s at = partsFrom rules 0 (drop at s)
 pub record GroupAt (rules : Rules) (s : List ℕ) (at : ℕ) (r : Group) : Type 0 where
   pub lost : r .lost ≡ anyLost (inside (partsAt rules s at))
   pub text : textOf (inside (partsAt rules s at)) ≡ take (r .end - at) (drop at s)
+  pub after : r .next ≡ r .end + length (semicolonOf (partsAt rules s at))
   pub beyond : turnsFrom true (partsAt rules s at) ≡ turnsFrom false (partsAt rules s (r .next))
   pub from : at ≤ r .end
   pub on : r .end ≤ r .next
@@ -115,18 +110,28 @@ pub record GroupAt (rules : Rules) (s : List ℕ) (at : ℕ) (r : Group) : Type 
 abbrev pub turnFor : Bool → PartKind → List ℕ → Turn
 turnFor lost kind t = cond lost (Turn.lostGroup t) (Turn.part kind t)
 
+-- the turn past the end of a text: an empty one
+unfoldable pub noTurn : ℕ → Next
+noTurn at = record { lost = false; kind = Stray; start = at; end = at; next = at }
+
+-- The turn at a place, by the parts from there on, the first of which is p: the group whose colon it is, where that loses a member, or else p.
+unfoldable pub nextOf : ℕ → List Part → Next
+nextOf at [] = noTurn at
+nextOf at (p ∷ ps) =
+    let start = at + length (p .text) in
+    let end = start + length (textOf (inside ps)) in
+    cond (isColon (p .kind) && anyLost (inside ps)) (record { lost = true; kind = p .kind; start = start; end = end; next = end + length (semicolonOf ps) })
+    (record { lost = false; kind = p .kind; start = at; end = start; next = start })
+
 -- The answer r is the turn at a place of a text, and after it come the turns from `r .next` on.
 pub record NextAt (rules : Rules) (s : List ℕ) (at : ℕ) (r : Next) : Type 0 where
+  pub equal : r ≡ nextOf at (partsAt rules s at)
   pub is : turnsFrom false (partsAt rules s at) ≡ turnFor (r .lost) (r .kind) (take (r .end - r .start) (drop (r .start) s)) ∷ turnsFrom false (partsAt rules s (r .next))
   pub ordered : r .start ≤ r .end
   pub inner : innerEnd (r .kind) ≤ r .end - r .start
   pub on : at < r .next
   pub covers : r .end ≤ r .next
   pub within : r .next ≤ length s
-
--- the turn past the end of a text: an empty one
-unfoldable pub noTurn : ℕ → Next
-noTurn at = record { lost = false; kind = Stray; start = at; end = at; next = at }
 
 -- the turn at any place
 pub record NextFrom (rules : Rules) (s : List ℕ) (at : ℕ) (r : Next) : Type 0 where

@@ -7,7 +7,7 @@ use native.Mathlib.Omega.{arith}
 use native.Mathlib.Nat.{not-suc-le-zero}
 use lib.Dec.{T}
 use mir.Facts.{and-yes}
-use lib.ListN.{length, take, drop}
+use lib.ListN.{length, take, drop, length-take, length-drop}
 use lib.Seq.{take-add, drop-drop}
 use Rattle.lists.specs.Byte.{isAscii}
 use Rattle.lists.specs.Lists.{all}
@@ -18,7 +18,7 @@ use Rattle.address_list.specs.PartsLaws.{parts-step, parts-end}
 use Rattle.address_list.specs.declared.Front.{Front}
 use Rattle.address_list.specs.declared.PartKind.{PartKind}
 use Rattle.address_list.specs.declared.PartKind.the-variants.{Blank, Comment, Comma, Colon, Semicolon, Phrase, Address, Angled, Alternative, Stray}
-use Rattle.group.specs.Group.{isColon, isSemicolon, isLost, inside, anyLost, textOf, Turn, turnsFrom, partsAt, GroupAt, NextAt}
+use Rattle.group.specs.Group.{isColon, isSemicolon, isLost, inside, anyLost, textOf, semicolonOf, Turn, turnsFrom, partsAt, GroupAt, noTurn, nextOf, NextAt}
 use Rattle.group.specs.declared.Group.{Group}
 use Rattle.group.specs.declared.Next.{Next}
 
@@ -72,6 +72,7 @@ module _ (W G : List Part → List Turn → Type 0) (c : TurnCases W G) where
 pub record Passing (rules : Rules) (s : List ℕ) (at : ℕ) (lost : Bool) (i : ℕ) : Type 0 where
   pub any : anyLost (inside (partsAt rules s at)) ≡ (lost || anyLost (inside (partsAt rules s i)))
   pub text : textOf (inside (partsAt rules s at)) ≡ take (i - at) (drop at s) ++ textOf (inside (partsAt rules s i))
+  pub semicolon : semicolonOf (partsAt rules s at) ≡ semicolonOf (partsAt rules s i)
   pub beyond : turnsFrom true (partsAt rules s at) ≡ turnsFrom true (partsAt rules s i)
   pub from : at ≤ i
   pub within : i ≤ length s
@@ -80,6 +81,7 @@ pub passing-start : (rules : Rules) (s : List ℕ) (at : ℕ) → at ≤ length 
 passing-start rules s at h = record {
   any = refl;
   text = let k : at - at ≡ 0 = omega arith in rw k;
+  semicolon = refl;
   beyond = refl;
   from = omega arith;
   within = h;
@@ -89,6 +91,9 @@ module _ {rules : Rules} {s : List ℕ} {at i : ℕ} {lost : Bool} (g : Passing 
   module _ {f : Front} {e : ℕ} (h : i < length s) (w : TookFrom rules s i f) (q : e ≡ i + f .size) where
     size-is : e - i ≡ f .size
     size-is = omega arith
+
+    part-size : length (take (f .size) (drop i s)) ≡ f .size
+    part-size = rw (length-take, length-drop) (omega (arith, w .within h))
 
     further : take (i - at) (drop at s) ++ take (f .size) (drop i s) ≡ take (e - at) (drop at s)
     further =
@@ -102,20 +107,22 @@ module _ {rules : Rules} {s : List ℕ} {at i : ℕ} {lost : Bool} (g : Passing 
     passed b k = g .beyond ∙ ap (turnsFrom true) (parts-step rules s i f h w) ∙ rw q (ap (λ (c : Bool). turnsFrom (not c) (partsAt rules s (i + f .size))) k)
 
     pub passing-next : {l : Bool} → isSemicolon (f .kind) ≡ false → l ≡ isLost (f .kind) (take (e - i) (drop i s)) → Passing rules s at (lost || l) e
-    unfolding inside anyLost textOf turnsFrom
+    unfolding inside anyLost textOf semicolonOf turnsFrom
     passing-next {l} k x = record {
       any = g .any ∙ rw (parts-step rules s i f h w, k, x, size-is, q) (sym (or-assoc lost (isLost (f .kind) (take (f .size) (drop i s))) (anyLost (inside (partsAt rules s (i + f .size))))));
       text = g .text ∙ rw (← further, q, parts-step rules s i f h w, k) (sym (append-assoc (take (i - at) (drop at s)) (take (f .size) (drop i s)) (textOf (inside (partsAt rules s (i + f .size))))));
+      semicolon = g .semicolon ∙ rw (parts-step rules s i f h w, k, q);
       beyond = passed false k;
       from = omega (arith, g .from);
       within = omega (arith, w .within h);
     }
 
     pub passing-end : isSemicolon (f .kind) ≡ true → GroupAt rules s at (record { lost = lost; end = i; next = e })
-    unfolding inside anyLost textOf turnsFrom
+    unfolding inside anyLost textOf semicolonOf turnsFrom
     passing-end k = record {
       lost = sym (g .any ∙ rw (parts-step rules s i f h w, k) (or-false lost));
       text = g .text ∙ rw (parts-step rules s i f h w, k) (append-nil (take (i - at) (drop at s)));
+      after = rw (g .semicolon, parts-step rules s i f h w, k, q) (omega (arith, part-size));
       beyond = passed true k;
       from = g .from;
       on = omega arith;
@@ -123,10 +130,11 @@ module _ {rules : Rules} {s : List ℕ} {at i : ℕ} {lost : Bool} (g : Passing 
     }
 
   pub passing-over : length s ≤ i → GroupAt rules s at (record { lost = lost; end = i; next = i })
-  unfolding inside anyLost textOf turnsFrom
+  unfolding inside anyLost textOf semicolonOf turnsFrom
   passing-over h = record {
     lost = sym (g .any ∙ rw (parts-end rules s i h) (or-false lost));
     text = g .text ∙ rw (parts-end rules s i h) (append-nil (take (i - at) (drop at s)));
+    after = rw (g .semicolon, parts-end rules s i h) (omega arith);
     beyond = g .beyond ∙ rw (parts-end rules s i h);
     from = g .from;
     on = omega arith;
@@ -148,23 +156,34 @@ colon-inner (Alternative start size) h = absurd h
 colon-inner Stray h = absurd h
 
 module _ {rules : Rules} {s : List ℕ} {at e : ℕ} {f : Front} (h : at < length s) (w : TookFrom rules s at f) (q : e ≡ at + f .size) where
+  size-of : length (take (f .size) (drop at s)) ≡ f .size
+  size-of = rw (length-take, length-drop) (omega (arith, w .within h))
+
   pub next-group : {r : Group} → isColon (f .kind) ≡ true → GroupAt rules s e r → r .lost ≡ true
       → NextAt rules s at (record { lost = true; kind = f .kind; start = e; end = r .end; next = r .next })
-  unfolding turnsFrom
-  next-group {r} k g l = record {
-    is = rw (parts-step rules s at f h w, ← q, k, sym (g .lost) ∙ l, g .text, g .beyond);
-    ordered = g .from;
-    inner = rw (colon-inner (f .kind) (true-yes (isColon (f .kind)) k)) zero-le;
-    on = omega (arith, g .from, g .on, w .some);
-    covers = g .on;
-    within = g .within;
-  }
+  unfolding turnsFrom nextOf
+  next-group {r} k g l =
+      let lost : anyLost (inside (partsAt rules s e)) ≡ true = sym (g .lost) ∙ l in
+      let between : length (textOf (inside (partsAt rules s e))) ≡ r .end - e =
+      ap length (g .text) ∙ rw (length-take, length-drop) (omega (arith, g .from, g .on, g .within)) in
+      let end : at + length (take (f .size) (drop at s)) + length (textOf (inside (partsAt rules s e))) ≡ r .end =
+      omega (arith, between, size-of, g .from) in
+      record {
+        equal = rw (parts-step rules s at f h w, ← q, k, lost, end, ← g .after, size-of, ← q);
+        is = rw (parts-step rules s at f h w, ← q, k, lost, g .text, g .beyond);
+        ordered = g .from;
+        inner = rw (colon-inner (f .kind) (true-yes (isColon (f .kind)) k)) zero-le;
+        on = omega (arith, g .from, g .on, w .some);
+        covers = g .on;
+        within = g .within;
+      }
 
   next-part : isColon (f .kind) && anyLost (inside (partsAt rules s e)) ≡ false → NextAt rules s at (record { lost = false; kind = f .kind; start = at; end = e; next = e })
-  unfolding turnsFrom
+  unfolding turnsFrom nextOf
   next-part k =
       let n : e - at ≡ f .size = omega arith in
       record {
+        equal = rw (parts-step rules s at f h w, ← q, k, size-of, ← q);
         is = rw (parts-step rules s at f h w, ← q, k, n);
         ordered = omega arith;
         inner = rw n (w .inner);
@@ -184,3 +203,7 @@ module _ {rules : Rules} {s : List ℕ} {at e : ℕ} {f : Front} (h : at < lengt
 -- past the end of a text
 pub next-past : {rules : Rules} {s : List ℕ} {at : ℕ} {r : Next} → length s ≤ at → at < length s → NextAt rules s at r
 next-past {at = at} h k = absurd (not-suc-le-zero {n = 0} (omega arith))
+
+pub no-turn : (rules : Rules) (s : List ℕ) (at : ℕ) → length s ≤ at → noTurn at ≡ nextOf at (partsAt rules s at)
+unfolding nextOf
+no-turn rules s at h = rw (parts-end rules s at h)

@@ -1,3 +1,4 @@
+pub mod Trimmed
 pub mod Group
 pub mod GroupLaws
 pub mod TrimmedLaws

@@ -16,7 +16,7 @@ use Rattle.line.specs.LineLaws.{part-rest}
 use Rattle.utf8.specs.Utf8.{utf8}
 use Rattle.address.specs.GrammarLaws.{Cut, utf8-taken}
 use Rattle.phrase.specs.BoundaryLaws.{blank-low, blanks-boundary}
-use Rattle.group.specs.Group.{contentLen, trimmed}
+use Rattle.group.specs.Trimmed.{contentLen, trimmed}
 
 -- ---- from behind
 

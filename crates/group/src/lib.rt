@@ -5,9 +5,10 @@ mod member;
 mod text;
 
 pub use text::trimmed;
+ghost use mathlib.Core.Path.{_≡_};
 ghost use Prim.Native.Nat.{_≤_, _<_};
 ghost use lib.ListN.{length};
-ghost use Rattle.group.specs.Group.{GroupAt, NextAt, NextFrom};
+ghost use Rattle.group.specs.Group.{GroupAt, NextAt, NextFrom, nextOf, partsAt};
 use crate::mark::is_colon;
 use crate::mark::is_semicolon;
 use crate::member::is_lost;
@@ -91,7 +92,7 @@ fn next_at(s: &[u8], at: usize, rules: Rules) -> Next
 
 // The turn at a place of a text; past its end an empty one.
 pub fn next_from(s: &[u8], at: usize, rules: Rules) -> Next
-    ensures { λ r. ⌜ NextFrom rules (now (s .entry)) at r ⌝ }
+    ensures { λ r. ⌜ (r ≡ nextOf at (partsAt rules (now (s .entry)) at)) × NextFrom rules (now (s .entry)) at r ⌝ }
 {
     if s.len() <= at {
         return Next {

@@ -1,6 +1,6 @@
 // A text without the blanks at its ends.
 ghost use mathlib.Core.Path.{_≡_};
-ghost use Rattle.group.specs.Group.{contentLen, trimmed};
+ghost use Rattle.group.specs.Trimmed.{contentLen, trimmed};
 
 // How many bytes there are up to the last that is no blank, and with it.
 fn content_len(t: &[u8]) -> usize

@@ -1,4 +1,5 @@
 -- Laws of fields by position, as code finds them. Assumes nothing.
+use borrow.Author.Tests.{ne-eqb}
 use mathlib.Core.Path.{_≡_, refl, sym}
 use mathlib.Core.Bool.{Bool, true, false, cond, not, _&&_}
 use mathlib.Core.List.{List, [], _∷_, _++_}
@@ -33,6 +34,14 @@ ends-by h i b line end l e k = rw (k, e, l, getD-drop i h 2 0) (both (crlf (drop
     both : (a b : Bool) → a && not b ≡ a && not (a && b)
     both true b = refl
     both false b = refl
+
+-- no CR stands there
+pub ends-not : (h : List ℕ) (i : ℕ) → (getD h i 0 ≡ 13 → ⊥) → false ≡ ends (drop i h)
+unfolding ends crlf
+ends-not h i n =
+    let there : i + 0 ≡ i = omega arith in
+    let first : getD (drop i h) 0 0 ≡ getD h i 0 = rw there at (getD-drop i h 0 0) in
+    rw (first, ne-eqb (getD h i 0) 13 n)
 
 pub len-cons : (b : ℕ) (rest : List ℕ) → fieldLen (b ∷ rest) ≡ cond (ends (b ∷ rest)) 2 (suc (fieldLen rest))
 unfolding fieldLen ends

@@ -16,6 +16,9 @@ fn ends_at(h: &[u8], i: usize) -> bool
     requires { ⌜ i < length (now h) ⌝ }
     ensures { λ r. ⌜ r ≡ ends (drop i (now (h .entry))) ⌝ }
 {
+    if h[i] != 13 {
+        return false;
+    }
     line::crlf_at(h, i) & !is_blank(line::byte_at(h, i + 2))
 }
 

@@ -54,6 +54,8 @@ fn say_kind(kind: Kind) {
         Kind::PlainText => say(b"plain text"),
         Kind::Received => say(b"Received"),
         Kind::Commented => say(b"with comments"),
+        Kind::MessageId => say(b"with comments"),
+        Kind::OtherCommented => say(b"other"),
         Kind::Other => say(b"other"),
         _ => say(b"held"),
     }

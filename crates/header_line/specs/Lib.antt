@@ -1,2 +1,5 @@
-pub mod LineLaws
 pub mod Lines
+pub mod LineLaws
+pub mod Clean
+pub mod CleanLaws
+pub mod NameLaws

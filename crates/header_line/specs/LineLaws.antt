@@ -10,7 +10,7 @@ use lib.Dec.{T, leb, ltb, eqb, le→leb, eqb→eq}
 use lib.ListN.{length, take, drop, getD, length-drop, length-take, take-append-drop, drop-of-length-le, List·getD-eq-default}
 use lib.Seq.{drop-cons, drop-drop, getD-drop, getD-take, take-take, take-append-add, drop-append-add, length-take-le}
 use borrow.Author.Tests.{ne-eqb}
-use mir.Facts.{and-yes, yes-and, leb-yes, leb-no, ltb-no}
+use mir.Facts.{and-yes, yes-and, leb-yes, leb-no, ltb-no, eqb-no}
 use Rattle.lists.specs.Lists.{all}
 use Rattle.lists.specs.ListsLaws.{by-test, cond-yes, cond-has, yes-true, true-yes, no-false, all-past, all-weaken}
 use Rattle.lists.specs.Byte.{isAscii, within}
@@ -19,7 +19,7 @@ use Rattle.lists.specs.RunLaws.{run-le, run-all, run-step}
 use Rattle.utf8.specs.Utf8.{charLen, isChar, charAt, utf8}
 use Rattle.utf8.specs.Utf8Laws.{char-len-some, char-high, utf8-right, utf8-ascii, utf8-char, utf8-of}
 use Rattle.utf8.specs.Utf8AtLaws.{whole-char, char-at-some, char-at-within, utf8-stop}
-use Rattle.header_line.specs.Lines.{lineByte, nameByte, nameLen, named, continuation, wellFormed, lineOk, linesOf, linesFrom, checkedLines}
+use Rattle.header_line.specs.Lines.{lineByte, nameByte, nameLen, named, namedTo, continuation, formedBy, wellFormed, lineOk, lineOkTo, lineAfter, linesOf, linesFrom, checkedLines}
 use Rattle.line.specs.Line.{blank, crlf, lineLen}
 use Rattle.lists.specs.CutByLaws.{cut-nil, cut-front}
 use Rattle.line.specs.LineLaws.{crlf-inside, line-front, crlf-front}
@@ -69,7 +69,7 @@ passed-none k = record { up = omega arith; inside = k; size = refl; ok = refl }
 pub passed-then : {h : List ℕ} {at i j : ℕ} → Passed h at i → Passed h i j → Passed h at j
 passed-then p q = record { up = omega (arith, p .up, q .up); inside = q .inside; size = p .size ∙ q .size; ok = p .ok ∙ q .ok }
 
-passed-part : (h : List ℕ) (i n : ℕ) → i + n ≤ length h → T (all lineByte (take n (drop i h))) → T (utf8 (take n (drop i h))) → Passed h i (i + n)
+pub passed-part : (h : List ℕ) (i n : ℕ) → i + n ≤ length h → T (all lineByte (take n (drop i h))) → T (utf8 (take n (drop i h))) → Passed h i (i + n)
 passed-part h i n k a u =
     let part = take n (drop i h) in
     let whole : part ++ drop (i + n) h ≡ drop i h = rw (← drop-drop n i h) (take-append-drop n (drop i h)) in
@@ -134,7 +134,7 @@ unfolding lineLen
 crlf-len [] e = refl
 crlf-len (b ∷ rest) e = rw e
 
-crlf-text : (h : List ℕ) → crlf h ≡ true → textOk h ≡ true
+pub crlf-text : (h : List ℕ) → crlf h ≡ true → textOk h ≡ true
 unfolding textOk
 crlf-text h e = rw (crlf-len h e, e) (yes-true (utf8 []) (utf8-of [] tt))
 
@@ -256,51 +256,51 @@ module _ (h : List ℕ) (i : ℕ) (k : i < length h) where
 -- ---- the line at a place
 
 -- the length of a line, and how it starts
-unfoldable pub shaped : Bool → List ℕ → Bool
-shaped first line = within 1 998 (length line) && (continuation first line || named line)
+unfoldable pub shapedTo : ℕ → Bool → List ℕ → Bool
+shapedTo limit first line = within 1 998 (length line) && (continuation first line || namedTo limit line)
 
 regroup : (a b c d e : Bool) → a && (b && c && d && e) ≡ (a && c && d) && (b && e)
 regroup true true c d e = refl
 regroup true false c d e = sym (and-false (c && d))
 regroup false b c d e = refl
 
-line-ok : (first : Bool) (h : List ℕ) → lineOk first h ≡ textOk h && shaped first (take (lineLen h) h)
-unfolding lineOk wellFormed textOk shaped
-line-ok first h =
+line-ok : (limit : ℕ) (first : Bool) (h : List ℕ) → lineOkTo limit first h ≡ textOk h && shapedTo limit first (take (lineLen h) h)
+unfolding lineOkTo textOk shapedTo
+line-ok limit first h =
     let line = take (lineLen h) h in
-    regroup (crlf (drop (lineLen h) h)) (within 1 998 (length line)) (all lineByte line) (utf8 line) (continuation first line || named line)
+    regroup (crlf (drop (lineLen h) h)) (within 1 998 (length line)) (all lineByte line) (utf8 line) (continuation first line || namedTo limit line)
 
 -- what code answers of the line at `at`: the place after it, or `at` where it is malformed
-pub record Lined (h : List ℕ) (at : ℕ) (first : Bool) (r : ℕ) : Type 0 where
-  pub malformed : r ≡ at → lineOk first (drop at h) ≡ false
-  pub good : (r ≡ at → ⊥) → lineOk first (drop at h) ≡ true
+pub record Lined (limit : ℕ) (h : List ℕ) (at : ℕ) (first : Bool) (r : ℕ) : Type 0 where
+  pub malformed : r ≡ at → lineOkTo limit first (drop at h) ≡ false
+  pub good : (r ≡ at → ⊥) → lineOkTo limit first (drop at h) ≡ true
   pub after : (r ≡ at → ⊥) → r ≡ at + (lineLen (drop at h) + 2)
   pub inside : r ≤ length h
 
 line-is : {h : List ℕ} {at e : ℕ} → TextEnd h at e → crlf (drop e h) ≡ true → take (lineLen (drop at h)) (drop at h) ≡ take (e - at) (drop at h)
 line-is {h} {at} {e} t y = let n : lineLen (drop at h) ≡ e - at = omega (arith, t .size y) in rw n
 
-module _ {h : List ℕ} {at e : ℕ} {first : Bool} (t : TextEnd h at e) where
-  pub lined-text : crlf (drop e h) ≡ false → Lined h at first at
+module _ {limit : ℕ} {h : List ℕ} {at e : ℕ} {first : Bool} (t : TextEnd h at e) where
+  pub lined-text : crlf (drop e h) ≡ false → Lined limit h at first at
   lined-text n = record {
-    malformed = λ z. line-ok first (drop at h) ∙ rw (t .ok ∙ n);
+    malformed = λ z. line-ok limit first (drop at h) ∙ rw (t .ok ∙ n);
     good = λ z. absurd (z refl);
     after = λ z. absurd (z refl);
     inside = omega (arith, t .up, t .inside);
   }
 
-  pub lined-shape : crlf (drop e h) ≡ true → shaped first (take (e - at) (drop at h)) ≡ false → Lined h at first at
+  pub lined-shape : crlf (drop e h) ≡ true → shapedTo limit first (take (e - at) (drop at h)) ≡ false → Lined limit h at first at
   lined-shape y n = record {
-    malformed = λ z. line-ok first (drop at h) ∙ rw (line-is t y, n, and-false);
+    malformed = λ z. line-ok limit first (drop at h) ∙ rw (line-is t y, n, and-false);
     good = λ z. absurd (z refl);
     after = λ z. absurd (z refl);
     inside = omega (arith, t .up, t .inside);
   }
 
-  pub lined-good : crlf (drop e h) ≡ true → shaped first (take (e - at) (drop at h)) ≡ true → Lined h at first (e + 2)
+  pub lined-good : crlf (drop e h) ≡ true → shapedTo limit first (take (e - at) (drop at h)) ≡ true → Lined limit h at first (e + 2)
   lined-good y s = record {
     malformed = λ z. absurd (omega (arith, z, t .up));
-    good = λ z. line-ok first (drop at h) ∙ rw (line-is t y, s, t .ok ∙ y);
+    good = λ z. line-ok limit first (drop at h) ∙ rw (line-is t y, s, t .ok ∙ y);
     after = λ z. omega (arith, t .size y);
     inside = crlf-inside h e y;
   }
@@ -313,32 +313,49 @@ blank-name b e =
     by-test (eqb b 32) (λ t. rw (eqb→eq b 32 t))
     (λ t. by-test (eqb b 9) (λ u. rw (eqb→eq b 9 u)) (λ u. absurd (rw (no-false (eqb b 32) t, no-false (eqb b 9) u) at (true-yes (eqb b 32 || eqb b 9) e))))
 
-blank-line : (line : List ℕ) → blank (getD line 0 0) ≡ true → named line ≡ false
-unfolding named nameLen run
-blank-line [] e = refl
-blank-line (b ∷ rest) e = rw (blank-name b e)
+blank-line : (limit : ℕ) (line : List ℕ) → blank (getD line 0 0) ≡ true → namedTo limit line ≡ false
+unfolding nameLen run
+blank-line limit [] e = refl
+blank-line limit (b ∷ rest) e = rw (blank-name b e)
 
-pub start-blank : (first : Bool) (line : List ℕ) → blank (getD line 0 0) ≡ true → not first ≡ continuation first line || named line
+pub start-blank : (limit : ℕ) (first : Bool) (line : List ℕ) → blank (getD line 0 0) ≡ true → not first ≡ continuation first line || namedTo limit line
 unfolding continuation
-start-blank first line e = rw (blank-line line e, e, or-false)
+start-blank limit first line e = rw (blank-line limit line e, e, or-false)
 
-pub start-name : (first : Bool) (line : List ℕ) → blank (getD line 0 0) ≡ false → named line ≡ continuation first line || named line
+pub start-name : (limit : ℕ) (first : Bool) (line : List ℕ) → blank (getD line 0 0) ≡ false → namedTo limit line ≡ continuation first line || namedTo limit line
 unfolding continuation
-start-name first line e = rw e
+start-name limit first line e = rw e
 
 -- as code makes them
-pub named-by : (line : List ℕ) (n b : ℕ) → n ≡ nameLen line → b ≡ getD line n 0 → within 1 76 n && eqb b 58 ≡ named line
-unfolding named
-named-by line n b e k = rw (k, e)
+pub named-by : (limit : ℕ) (line : List ℕ) (n b : ℕ) → n ≡ nameLen line → b ≡ getD line n 0 → within 1 limit n && eqb b 58 ≡ namedTo limit line
+named-by limit line n b e k = rw (k, e)
 
-module _ (first : Bool) (line : List ℕ) where
-  pub shaped-by : (start : Bool) → within 1 998 (length line) ≡ true → start ≡ (continuation first line || named line) → start ≡ shaped first line
-  unfolding shaped
+module _ (limit : ℕ) (first : Bool) (line : List ℕ) where
+  pub shaped-by : (start : Bool) → within 1 998 (length line) ≡ true → start ≡ (continuation first line || namedTo limit line) → start ≡ shapedTo limit first line
+  unfolding shapedTo
   shaped-by start e k = rw e k
 
-  pub unshaped : within 1 998 (length line) ≡ false → false ≡ shaped first line
-  unfolding shaped
+  pub unshaped : within 1 998 (length line) ≡ false → false ≡ shapedTo limit first line
+  unfolding shapedTo
   unshaped e = rw e
+
+-- the place after a line, as code answers it
+module _ (limit : ℕ) (h : List ℕ) (at : ℕ) (first : Bool) where
+  pub after-by : {r : ℕ} → Lined limit h at first r → r ≡ lineAfter limit first h at
+  unfolding lineAfter
+  after-by {r} d =
+      by-test (eqb r at)
+      (λ t. let e = eqb→eq r at t in rw (d .malformed e) e)
+      (λ t. let n : (r ≡ at → ⊥) = eqb-no {a = r} {b = at} t in rw (d .good n) (d .after n))
+
+  pub after-end : length h ≤ at → at ≡ lineAfter limit first h at
+  unfolding lineAfter lineOkTo crlf lineLen
+  after-end k = rw (drop-of-length-le h {i = at} k) refl
+
+-- the names of 76 bytes
+ok-76 : (first : Bool) (h : List ℕ) → lineOkTo 76 first h ≡ lineOk first h
+unfolding lineOkTo lineOk wellFormed named
+ok-76 first h = refl
 
 -- ---- line after line
 
@@ -354,6 +371,10 @@ lines-none n at = rw (cut-nil (λ rest. lineLen rest + 2))
 ok-front : (first : Bool) (h : List ℕ) → lineOk first (take (lineLen h + 2) h) ≡ lineOk first h
 unfolding lineOk
 ok-front first h = rw (line-front h, crlf-front h, take-take (lineLen h) (lineLen h + 2) h (omega arith))
+
+pub ok-front-to : (limit : ℕ) (first : Bool) (h : List ℕ) → lineOkTo limit first (take (lineLen h + 2) h) ≡ lineOkTo limit first h
+unfolding lineOkTo
+ok-front-to limit first h = rw (line-front h, crlf-front h, take-take (lineLen h) (lineLen h + 2) h (omega arith))
 
 lines-front : (n at : ℕ) (xs : List ℕ) → 0 < length xs
     → linesAt n at xs ≡ linesFrom n at (take (lineLen xs + 2) xs ∷ linesOf (drop (lineLen xs + 2) xs))
@@ -390,13 +411,13 @@ pub left-end : {h : List ℕ} {n at : ℕ} → Left h n at → length h ≤ at �
 left-end {h} {n} {at} l k = sym (l .same ∙ rw (drop-of-length-le h {i = at} k) (lines-none n at))
 
 module _ {h : List ℕ} {n at r : ℕ} (l : Left h n at) where
-  pub left-bad : at < length h → Lined h at (eqb n 0) r → r ≡ at → Malformed n at ≡ checkedLines h
-  left-bad k d e = sym (l .same ∙ front-bad n at (drop at h) (rw length-drop (omega arith)) (d .malformed e))
+  pub left-bad : at < length h → Lined 76 h at (eqb n 0) r → r ≡ at → Malformed n at ≡ checkedLines h
+  left-bad k d e = sym (l .same ∙ front-bad n at (drop at h) (rw length-drop (omega arith)) (sym (ok-76 (eqb n 0) (drop at h)) ∙ d .malformed e))
 
-  pub left-next : at < length h → Lined h at (eqb n 0) r → (r ≡ at → ⊥) → Left h (n + 1) r
+  pub left-next : at < length h → Lined 76 h at (eqb n 0) r → (r ≡ at → ⊥) → Left h (n + 1) r
   left-next k d e =
       let p : at + (lineLen (drop at h) + 2) ≡ r = sym (d .after e) in
       record {
         count = omega (arith, l .count);
-        same = l .same ∙ front-good n at (drop at h) (rw length-drop (omega arith)) (d .good e) ∙ rw (drop-drop, p);
+        same = l .same ∙ front-good n at (drop at h) (rw length-drop (omega arith)) (sym (ok-76 (eqb n 0) (drop at h)) ∙ d .good e) ∙ rw (drop-drop, p);
       }

@@ -25,17 +25,24 @@ nameByte b = within 33 126 b && not (eqb b 58)
 unfoldable pub nameLen : List ℕ → ℕ
 nameLen line = run nameByte line
 
+-- a name of 1 to so many bytes 33 to 126 without colon, then a colon
+abbrev pub namedTo : ℕ → List ℕ → Bool
+namedTo limit line = within 1 limit (nameLen line) && eqb (getD line (nameLen line) 0) 58
+
 -- "a name of 1 to 76 bytes 33 to 126 without colon, then a colon"
 unfoldable pub named : List ℕ → Bool
-named line = within 1 76 (nameLen line) && eqb (getD line (nameLen line) 0) 58
+named line = namedTo 76 line
 
 -- "a continuation (starts with space or TAB; not the first line)"
 unfoldable pub continuation : Bool → List ℕ → Bool
 continuation first line = blank (getD line 0 0) && not first
 
--- "Each line .. has 1 to 998 bytes before it, holds no NUL, lone CR or lone LF, and is UTF-8. It is a continuation or a name .."
+-- "Each line .. has 1 to 998 bytes before it, holds no NUL, lone CR or lone LF, and is UTF-8. It is a continuation or a name ..", by a test of what starts with a name
+abbrev pub formedBy : (List ℕ → Bool) → Bool → List ℕ → Bool
+formedBy starts first line = within 1 998 (length line) && all lineByte line && utf8 line && (continuation first line || starts line)
+
 unfoldable pub wellFormed : Bool → List ℕ → Bool
-wellFormed first line = within 1 998 (length line) && all lineByte line && utf8 line && (continuation first line || named line)
+wellFormed first line = formedBy named first line
 
 -- ---- line after line
 
@@ -43,9 +50,20 @@ wellFormed first line = within 1 998 (length line) && all lineByte line && utf8 
 unfoldable pub linesOf : List ℕ → List (List ℕ)
 linesOf h = cutBy (λ rest. lineLen rest + 2) h
 
--- "Each line ends in CRLF"
+-- "Each line ends in CRLF", and what stands before it passes a test
+abbrev pub endedBy : (List ℕ → Bool) → List ℕ → Bool
+endedBy formed line = crlf (drop (lineLen line) line) && formed (take (lineLen line) line)
+
 unfoldable pub lineOk : Bool → List ℕ → Bool
-lineOk first line = crlf (drop (lineLen line) line) && wellFormed first (take (lineLen line) line)
+lineOk first line = endedBy (wellFormed first) line
+
+-- the same where a name may have so many bytes
+unfoldable pub lineOkTo : ℕ → Bool → List ℕ → Bool
+lineOkTo limit first line = endedBy (formedBy (namedTo limit) first) line
+
+-- the place after the line at `at`; `at` itself where it is malformed
+unfoldable pub lineAfter : ℕ → Bool → List ℕ → ℕ → ℕ
+lineAfter limit first h at = cond (lineOkTo limit first (drop at h)) (at + (lineLen (drop at h) + 2)) at
 
 -- the first malformed one of these lines, the first of which is line n and starts at the byte `at`
 unfoldable pub linesFrom : ℕ → ℕ → List (List ℕ) → LineCheck

@@ -7,18 +7,21 @@ use lib.Dec.{eqb}
 use lib.ListN.{length}
 use Rattle.lists.specs.Lists.{joined}
 use Rattle.header_name.specs.declared.Kind.{Kind}
-use Rattle.header_name.specs.declared.Kind.the-variants.{Address, PlainText, Received, Commented, Parameterized, Held, Other}
-use Rattle.header_name.specs.Names.{groups}
+use Rattle.header_name.specs.declared.Kind.the-variants.{Address, PlainText, Received, Commented, MessageId, Parameterized, Held, OtherCommented, Other}
+use Rattle.header_name.specs.Names.{groups, otherKind}
 use Rattle.letter_case.specs.LetterCase.{bytes, sameAnyCase}
 
--- the letter that stands for a kind: A address, P plain text, R received, C commented, Q parameterized, H held, O other
+-- the letter that stands for a kind: A address, P plain text, R received, C commented, M message identifiers, Q parameterized, H held, N commented under
+-- another name, O other
 unfoldable pub letter : Kind → ℕ
 letter Address = 65
 letter PlainText = 80
 letter Received = 82
 letter Commented = 67
+letter MessageId = 77
 letter Parameterized = 81
 letter Held = 72
+letter OtherCommented = 78
 letter Other = 79
 
 -- the kind that a letter stands for
@@ -28,8 +31,10 @@ lettered k =
     (cond (eqb k 80) PlainText
     (cond (eqb k 82) Received
     (cond (eqb k 67) Commented
+    (cond (eqb k 77) MessageId
     (cond (eqb k 81) Parameterized
-    (cond (eqb k 72) Held Other)))))
+    (cond (eqb k 72) Held
+    (cond (eqb k 78) OtherCommented Other)))))))
 
 -- a name, and the letter of its kind
 pub record Entry : Type 0 where
@@ -48,7 +53,7 @@ entries = entriesOf groups
 
 -- the kind of the first entry with that name
 unfoldable pub kindIn : List Entry → List ℕ → Kind
-kindIn [] name = Other
+kindIn [] name = otherKind name
 kindIn (e ∷ es) name = cond (sameAnyCase (e .name) name) (lettered (e .kind)) (kindIn es name)
 
 -- where each name starts in the names joined, and where the last one ends

@@ -13,8 +13,8 @@ use mir.Facts.{and-yes}
 use Rattle.lists.specs.ListsLaws.{by-test, yes-true, no-false}
 use Rattle.lists.specs.ByteLaws.{below}
 use Rattle.header_name.specs.declared.Kind.{Kind}
-use Rattle.header_name.specs.declared.Kind.the-variants.{Address, PlainText, Received, Commented, Parameterized, Held, Other}
-use Rattle.header_name.specs.Names.{groups, among, kindAmong, kindOf}
+use Rattle.header_name.specs.declared.Kind.the-variants.{Address, PlainText, Received, Commented, MessageId, Parameterized, Held, OtherCommented, Other}
+use Rattle.header_name.specs.Names.{groups, among, otherCommented, otherKind, kindAmong, kindOf}
 use Rattle.letter_case.specs.LetterCase.{bytes, sameAnyCase}
 use Rattle.header_name.specs.NameTable.{Entry, entry, letter, lettered, entriesOf, entries, kindIn, startsFrom, starts, names, kinds}
 
@@ -33,8 +33,10 @@ letter-back Address = refl
 letter-back PlainText = refl
 letter-back Received = refl
 letter-back Commented = refl
+letter-back MessageId = refl
 letter-back Parameterized = refl
 letter-back Held = refl
+letter-back OtherCommented = refl
 letter-back Other = refl
 
 kind-groups : (gs : List (Kind × List String)) (name : List ℕ) → kindAmong gs name ≡ kindIn (entriesOf gs) name
@@ -128,7 +130,7 @@ pub record Sought (name : List ℕ) (k : ℕ) : Type 0 where
 pub sought-start : (name : List ℕ) → Sought name 0
 sought-start name = record { left = kind-table name }
 
-pub sought-end : {name : List ℕ} {k : ℕ} → 32 ≤ k → Sought name k → Other ≡ kindOf name
+pub sought-end : {name : List ℕ} {k : ℕ} → 32 ≤ k → Sought name k → otherKind name ≡ kindOf name
 unfolding kindIn
 sought-end {name} {k} h s = sym (s .left ∙ rw (drop-of-length-le entries {i = k} (rw count h)))
 
@@ -147,3 +149,23 @@ module _ {ns ss ks : List ℕ} {k : ℕ} (r : Row ns ss ks k) (h : k < 32) where
   sought-next {name} e s =
       let same : sameAnyCase (getD entries k none .name) name ≡ false = rw (r .name) at e in
       record { left = s .left ∙ rw (add-one, drop-cons entries k none (rw count h), same) }
+
+-- ---- names that are not in the table
+
+module _ (name : List ℕ) where
+  pub content-language : sameAnyCase (bytes "Content-Language") name ≡ true → OtherCommented ≡ otherKind name
+  unfolding otherKind otherCommented among
+  content-language e = rw e
+
+  pub accept-language : sameAnyCase (bytes "Content-Language") name ≡ false → sameAnyCase (bytes "Accept-Language") name ≡ true → OtherCommented ≡ otherKind name
+  unfolding otherKind otherCommented among
+  accept-language e f = rw (e, f)
+
+  module _ (e : sameAnyCase (bytes "Content-Language") name ≡ false) (f : sameAnyCase (bytes "Accept-Language") name ≡ false) where
+    pub auto-submitted : sameAnyCase (bytes "Auto-Submitted") name ≡ true → OtherCommented ≡ otherKind name
+    unfolding otherKind otherCommented among
+    auto-submitted g = rw (e, f, g)
+
+    pub none-of-these : sameAnyCase (bytes "Auto-Submitted") name ≡ false → Other ≡ otherKind name
+    unfolding otherKind otherCommented among
+    none-of-these g = rw (e, f, g)

@@ -1,21 +1,24 @@
 // The names of fields: a constant table of the 32 named fields with their kinds, in which names are looked up without regard to
-// letter case.
+// letter case, and three names besides.
 ghost use mathlib.Core.Path.{_≡_};
-ghost use Rattle.header_name.specs.Names.{kindOf};
+ghost use Rattle.header_name.specs.Names.{otherKind, kindOf};
 ghost use Rattle.header_name.specs.NameTable.{lettered as kindLettered, starts as startsList, names as namesList, kinds as kindsList};
 
-// What becomes of a field with non-ASCII in its value, by its name.
+// The grammar of a field's value, by its name: an address list; plain text; a Received field; one with comments; identifiers with comments; one
+// with parameters; one that is always held. `OtherCommented`: comments too, under a name that is not in the table.
 pub enum Kind {
     Address,
     PlainText,
     Received,
     Commented,
+    MessageId,
     Parameterized,
     Held,
+    OtherCommented,
     Other,
 }
 
-// The names, and the kind of each: A address, P plain text, R received, C commented, Q parameterized, H held.
+// The names, and the kind of each: A address, P plain text, R received, C commented, M message identifiers, Q parameterized, H held.
 const NAMES: [u8; 354] = *b"\
     FromSenderReply-ToToCcBcc\
     Resent-FromResent-SenderResent-Reply-ToResent-ToResent-CcResent-Bcc\
@@ -33,7 +36,7 @@ const KINDS: [u8; 32] = *b"\
     AA\
     PPP\
     R\
-    CCCCCC\
+    CCMMMM\
     CCC\
     QQ\
     HHH";
@@ -91,11 +94,33 @@ fn lettered(k: u8) -> Kind
     if k == b'C' {
         return Kind::Commented;
     }
+    if k == b'M' {
+        return Kind::MessageId;
+    }
     if k == b'Q' {
         return Kind::Parameterized;
     }
     if k == b'H' {
         return Kind::Held;
+    }
+    if k == b'N' {
+        return Kind::OtherCommented;
+    }
+    Kind::Other
+}
+
+// The kind of a name that is not in the table.
+fn other_kind(name: &[u8]) -> Kind
+    ensures { λ r. ⌜ r ≡ otherKind (now (name .entry)) ⌝ }
+{
+    if letter_case::same_any_case(b"Content-Language", name) {
+        return Kind::OtherCommented;
+    }
+    if letter_case::same_any_case(b"Accept-Language", name) {
+        return Kind::OtherCommented;
+    }
+    if letter_case::same_any_case(b"Auto-Submitted", name) {
+        return Kind::OtherCommented;
     }
     Kind::Other
 }
@@ -114,7 +139,7 @@ fn kind_in(names: &[u8], starts: &[usize], kinds: &[u8], name: &[u8]) -> Kind
         }
         k += 1;
     }
-    Kind::Other
+    other_kind(name)
 }
 
 // The kind of a name.

@@ -14,6 +14,6 @@ hexDigit v = cond (ltb v 10) (v + 48) (v - 10 + 65)
 unfoldable pub isHexDigit : ℕ → Bool
 isHexDigit b = within 48 57 b || within 65 70 b
 
--- a digit, read: `0` to `9` as 0 to 9, `A` to `F` as 10 to 15; any other byte has the value 0
+-- a digit, read: `0` to `9` as 0 to 9, `A` to `F` as 10 to 15; any other byte as 16, which is the value of no digit
 unfoldable pub hexValue : ℕ → ℕ
-hexValue b = cond (within 48 57 b) (b - 48) (cond (within 65 70 b) (b - 65 + 10) 0)
+hexValue b = cond (within 48 57 b) (b - 48) (cond (within 65 70 b) (b - 65 + 10) 16)

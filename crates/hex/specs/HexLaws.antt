@@ -1,12 +1,12 @@
 -- What is written reads back, and nothing else is read. Assumes nothing.
-use mathlib.Core.Path.{_≡_, sym, ap, _∙_}
-use mathlib.Core.Bool.{Bool, true, false, not, _&&_, _||_}
+use mathlib.Core.Path.{_≡_, refl, sym, ap, _∙_}
+use mathlib.Core.Bool.{Bool, true, false, not, cond, _&&_, _||_}
 use Prim.Native.Nat.{ℕ, _+_, _-_, _/_, _%_, _≤_, _<_}
 use native.Mathlib.Omega.{arith}
 use lib.Dec.{T, eqb, eqb→eq, ltb, lt→ltb}
-use mir.Facts.{and-yes, or-yes, ltb-yes, no-ltb}
+use mir.Facts.{and-yes, or-yes, no-ltb}
 use Rattle.lists.specs.Byte.{within}
-use Rattle.lists.specs.ListsLaws.{cond-yes, cond-no, true-yes}
+use Rattle.lists.specs.ListsLaws.{by-test, cond-yes, cond-no, yes-true, true-yes, no-false}
 use Rattle.lists.specs.ByteLaws.{within-low, within-high, below, implies}
 use Rattle.hex.specs.Hex.{hexDigit, isHexDigit, hexValue}
 use mathlib.Core.Logic.{⊎-elim}
@@ -19,15 +19,29 @@ written-reads v h =
     (below (λ k. isHexDigit (hexDigit k) && eqb (hexValue (hexDigit k)) k) 16 tt v h) in
     (both .0, eqb→eq (hexValue (hexDigit v)) v (both .1))
 
--- no byte other than the sixteen digits is one: a digit is what its value, 0 to 15, is written as
-pub reads-only : (b : ℕ) → T (isHexDigit b) → (hexValue b < 16) × (hexDigit (hexValue b) ≡ b)
+-- no other byte reads as a digit: only the sixteen have a value 0 to 15
+pub reads-only : (b : ℕ) → ltb (hexValue b) 16 ≡ isHexDigit b
+unfolding isHexDigit hexValue
+reads-only b =
+    by-test (within 48 57 b)
+    (λ t. rw (yes-true (within 48 57 b) t) (yes-true (ltb (b - 48) 16) (lt→ltb (b - 48) 16 (omega (arith, within-high 48 57 b t)))))
+    (λ t. rw (no-false (within 48 57 b) t) (letters (within 65 70 b) refl))
+  where
+    letters : (m : Bool) → within 65 70 b ≡ m → ltb (cond m (b - 65 + 10) 16) 16 ≡ m
+    letters true e = yes-true (ltb (b - 65 + 10) 16) (lt→ltb (b - 65 + 10) 16 (omega (arith, within-low 65 70 b (true-yes _ e), within-high 65 70 b (true-yes _ e))))
+    letters false e = refl
+
+-- and a digit is what its value is written as
+digit-written : (b : ℕ) → T (isHexDigit b) → hexDigit (hexValue b) ≡ b
 unfolding hexDigit isHexDigit hexValue
-reads-only b t =
+digit-written b t =
     let most : b ≤ 70 = ⊎-elim (λ u. omega (arith, within-high 48 57 b u)) (λ u. within-high 65 70 b u) (or-yes (within 48 57 b) (within 65 70 b) t) in
-    let test : ℕ → Bool = λ k. not (isHexDigit k) || ltb (hexValue k) 16 && eqb (hexDigit (hexValue k)) k in
-    let both = and-yes (ltb (hexValue b) 16) (eqb (hexDigit (hexValue b)) b)
-    (implies (isHexDigit b) (ltb (hexValue b) 16 && eqb (hexDigit (hexValue b)) b) (below test 71 tt b (omega arith)) t) in
-    (ltb-yes (both .0), eqb→eq (hexDigit (hexValue b)) b (both .1))
+    let test : ℕ → Bool = λ k. not (isHexDigit k) || eqb (hexDigit (hexValue k)) k in
+    eqb→eq (hexDigit (hexValue b)) b (implies (isHexDigit b) (eqb (hexDigit (hexValue b)) b) (below test 71 tt b (omega arith)) t)
+
+pub read-written : (b : ℕ) → hexValue b < 16 → hexDigit (hexValue b) ≡ b
+read-written b h =
+    digit-written b (true-yes (isHexDigit b) (sym (reads-only b) ∙ yes-true (ltb (hexValue b) 16) (lt→ltb (hexValue b) 16 h)))
 
 -- ---- the digit, by the test that code makes
 
@@ -54,16 +68,16 @@ module _ (b : ℕ) where
   in-range lo hi e = let t = true-yes (within lo hi b) e in (within-low lo hi b t, within-high lo hi b t)
 
   -- `0` to `9`
-  pub value-decimal : within 48 57 b ≡ true → (b - 48 ≡ hexValue b) × (b - 48 < 16)
+  pub value-decimal : within 48 57 b ≡ true → (b - 48 ≡ hexValue b) × (b - 48 ≤ 16)
   unfolding hexValue
   value-decimal e = (rw e, omega (arith, in-range 48 57 e))
 
   -- `A` to `F`
-  pub value-letter : within 48 57 b ≡ false → within 65 70 b ≡ true → (b - 65 + 10 ≡ hexValue b) × (b - 65 + 10 < 16)
+  pub value-letter : within 48 57 b ≡ false → within 65 70 b ≡ true → (b - 65 + 10 ≡ hexValue b) × (b - 65 + 10 ≤ 16)
   unfolding hexValue
   value-letter n e = (rw (n, e), omega (arith, in-range 65 70 e))
 
   -- any other byte
-  pub value-other : within 48 57 b ≡ false → within 65 70 b ≡ false → (0 ≡ hexValue b) × (0 < 16)
+  pub value-other : within 48 57 b ≡ false → within 65 70 b ≡ false → (16 ≡ hexValue b) × (16 ≤ 16)
   unfolding hexValue
   value-other n m = (rw (n, m), omega arith)

@@ -1,7 +1,7 @@
 -- UTF-8 by one byte at a time: a state is what the character that has begun lacks. CharScanLaws.antt proves that it takes just what is
 -- UTF-8. Assumes nothing.
 use mathlib.Core.Bool.{Bool, true, false, cond}
-use Prim.Native.Nat.{ℕ, zero, suc, pred}
+use Prim.Native.Nat.{ℕ, zero, suc, pred, _-_}
 use lib.Dec.{leb, ltb}
 use Rattle.lists.specs.Byte.{within, isAscii}
 use Rattle.utf8.specs.Utf8.{charLen, secondLow, secondHigh}
@@ -21,9 +21,9 @@ nowhere = begun 1 255 0
 unfoldable pub lead : ℕ → Begun
 lead b = cond (isAscii b) between (cond (within 194 244 b) (begun (pred (charLen b)) (secondLow b) (secondHigh b)) nowhere)
 
--- how many bytes follow a first byte past ASCII
+-- how many bytes follow a character's first byte
 unfoldable pub tailCount : ℕ → ℕ
-tailCount b = cond (ltb b 224) 1 (cond (ltb b 240) 2 3)
+tailCount b = charLen b - 1
 
 unfoldable pub stepBy : ℕ → ℕ → ℕ → ℕ → Begun
 stepBy zero lo hi b = lead b

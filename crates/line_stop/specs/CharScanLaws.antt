@@ -80,12 +80,13 @@ unfolding isChar
 bad-first b [] t u = no-false (isAscii b) t
 bad-first b (c ∷ x) t u = rw (no-false (within 194 244 b) u)
 
-pub tail-count : (b : ℕ) → T (within 194 244 b) → tailCount b ≡ pred (charLen b)
-unfolding charLen leadingZeros tailCount
-tail-count b t =
-    let test : ℕ → Bool = λ k. not (within 194 244 k) || eqb (tailCount k) (pred (charLen k)) in
-    eqb→eq (tailCount b) (pred (charLen b))
-    (implies (within 194 244 b) (eqb (tailCount b) (pred (charLen b))) (below test 245 tt b (omega (arith, within-high 194 244 b t))) t)
+pub tail-count : (b : ℕ) → tailCount b ≡ pred (charLen b)
+unfolding tailCount
+tail-count b = by-pred (charLen b)
+  where
+    by-pred : (n : ℕ) → n - 1 ≡ pred n
+    by-pred zero = refl
+    by-pred (suc n) = omega arith
 
 first-byte : (b : ℕ) (l : List ℕ) → utf8 (b ∷ l) ≡ charRest (lead b) l
 unfolding lead tails isChar
@@ -175,7 +176,7 @@ char-ascii b h = rw (lt-ltb b 128 h)
 
 pub lead-multi : {b n lo hi : ℕ} → 128 ≤ b → within 194 244 b ≡ true → n ≡ tailCount b → lo ≡ secondLow b → hi ≡ secondHigh b → begun n lo hi ≡ lead b
 unfolding lead
-lead-multi {b} h w n lo hi = rw (le-ltb b 128 h, w, n, lo, hi, tail-count b (true-yes (within 194 244 b) w))
+lead-multi {b} h w n lo hi = rw (le-ltb b 128 h, w, n, lo, hi, tail-count b)
 
 pub lead-none : {b : ℕ} → 128 ≤ b → within 194 244 b ≡ false → nowhere ≡ lead b
 unfolding lead

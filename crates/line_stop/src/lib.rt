@@ -26,17 +26,11 @@ pub fn between_chars() -> Begun
     }
 }
 
-// How many bytes follow a first byte past ASCII.
+// How many bytes follow a character's first byte.
 fn tail_count(b: u8) -> u8
     ensures { λ r. ⌜ r ≡ tailCount b ⌝ }
 {
-    if b < 224 {
-        return 1;
-    }
-    if b < 240 {
-        return 2;
-    }
-    3
+    (utf8::char_len(b) - 1) as u8
 }
 
 // After the first byte of a character.

@@ -11,12 +11,12 @@ use Rattle.encoded_word.specs.Segments.Segment.{raw}
 use Rattle.rules.specs.declared.Rules.{Rules}
 use Rattle.header.specs.Fields.{fieldsOf, nameOf, valueOf, textOf, lineCount}
 use Rattle.header_name.specs.Names.{kindOf}
-use Rattle.header_name.specs.declared.Kind.{Kind}
-use Rattle.header_name.specs.declared.Kind.the-variants.{Address, PlainText, Received, Commented, Parameterized, Held, Other}
+use Rattle.field_method.specs.declared.Method.{Method}
+use Rattle.field_method.specs.declared.Method.the-variants.{Pieces, PlainText, Encapsulated, Received, CommentsOrHeld, CommentsOrEncapsulated, Parameters, Held}
+use Rattle.field_method.specs.FieldMethod.{methodOf}
 use Rattle.field.specs.Field.{encodedField}
 use Rattle.address_pieces.specs.AddressField.{addressField}
-use Rattle.structured_field.specs.Tokens.{asciiOutsideComments}
-use Rattle.structured_field.specs.StructuredField.{structuredField}
+use Rattle.structured_field.specs.StructuredField.{asciiOutsideComments, structuredField}
 use Rattle.received.specs.Received.{receivedField, passes}
 use Rattle.outgoing_field.specs.declared.HeldField.{HeldField}
 use Rattle.outgoing_field.specs.declared.HeldField.the-variants.{Absent, At}
@@ -25,21 +25,26 @@ pub data Fate : Type 0 where
   held : Fate
   written : List Segment → Fate
 
--- what becomes of a field whose value is not ASCII, by the kind of its name. "Plain text: name, colon, encoded words of the text.
--- Every other name is encapsulated: `Downgraded-` before the name". Date and the others with comments "are held only if non-ASCII
--- stands outside their comments". Received fields by request 2.
-unfoldable pub kindFate : Rules → Kind → List ℕ → Fate
-kindFate rules Address field = written (addressField rules (nameOf field) (textOf field))
-kindFate rules PlainText field = written (encodedField false (nameOf field) (textOf field))
-kindFate rules Received field = cond (passes (nameOf field) (valueOf field)) (written (receivedField (nameOf field) (valueOf field))) held
-kindFate rules Commented field = cond (asciiOutsideComments (valueOf field)) (written (structuredField (nameOf field) (valueOf field))) held
-kindFate rules Parameterized field = held
-kindFate rules Held field = held
-kindFate rules Other field = written (encodedField true (nameOf field) (textOf field))
+-- comments encoded where no non-ASCII stands outside them, else the text encapsulated: by a name, a value and its text
+unfoldable pub commentsOrEncapsulated : List ℕ → List ℕ → List ℕ → List Segment
+commentsOrEncapsulated name value text = cond (asciiOutsideComments value) (structuredField name value) (encodedField true name text)
+
+-- what becomes of a field whose value is not ASCII, by the method for it. "Plain text: name, colon, encoded words of the text."
+-- "encapsulated: `Downgraded-` before the name". Date and the others with comments "are held only if non-ASCII stands outside their
+-- comments". Received fields by request 2.
+unfoldable pub methodFate : Rules → Method → List ℕ → Fate
+methodFate rules Pieces field = written (addressField rules (nameOf field) (textOf field))
+methodFate rules PlainText field = written (encodedField false (nameOf field) (textOf field))
+methodFate rules Encapsulated field = written (encodedField true (nameOf field) (textOf field))
+methodFate rules Received field = cond (passes (nameOf field) (valueOf field)) (written (receivedField (nameOf field) (valueOf field))) held
+methodFate rules CommentsOrHeld field = cond (asciiOutsideComments (valueOf field)) (written (structuredField (nameOf field) (valueOf field))) held
+methodFate rules CommentsOrEncapsulated field = written (commentsOrEncapsulated (nameOf field) (valueOf field) (textOf field))
+methodFate rules Parameters field = held
+methodFate rules Held field = held
 
 -- "A field whose value is ASCII is copied."
 unfoldable pub fateOf : Rules → List ℕ → Fate
-fateOf rules field = cond (all isAscii (valueOf field)) (written (raw field ∷ [])) (kindFate rules (kindOf (nameOf field)) field)
+fateOf rules field = cond (all isAscii (valueOf field)) (written (raw field ∷ [])) (methodFate rules (methodOf rules (kindOf (nameOf field))) field)
 
 -- ---- what is written
 

@@ -29,15 +29,16 @@ use Rattle.field_text.specs.TextLaws.{wrote-front, length-text, text-there}
 use Rattle.field_text.specs.declared.TextPlace.the-variants.{InPlace}
 use Rattle.header_name.specs.Names.{kindOf}
 use Rattle.header_name.specs.declared.Kind.{Kind}
-use Rattle.header_name.specs.declared.Kind.the-variants.{Address, PlainText, Received, Commented, Parameterized, Held, Other}
+use Rattle.field_method.specs.declared.Method.{Method}
+use Rattle.field_method.specs.declared.Method.the-variants.{Pieces, PlainText, Encapsulated, Received, CommentsOrHeld, CommentsOrEncapsulated, Parameters, Held}
+use Rattle.field_method.specs.FieldMethod.{methodOf}
 use Rattle.field.specs.Field.{encodedField}
 use Rattle.piece.specs.Piece.{fitting}
 use Rattle.piece.specs.PieceLaws.{fitting-short}
 use Rattle.address_pieces.specs.AddressField.{addressField}
-use Rattle.structured_field.specs.Tokens.{asciiOutsideComments}
-use Rattle.structured_field.specs.StructuredField.{structuredField}
+use Rattle.structured_field.specs.StructuredField.{asciiOutsideComments, structuredField}
 use Rattle.received.specs.Received.{receivedField, passes}
-use Rattle.outgoing_field.specs.Fate.{Fate, kindFate, fateOf, segmentsOf, fieldSegments, headerSegments, limited, isHeld, heldFrom, heldOf}
+use Rattle.outgoing_field.specs.Fate.{Fate, commentsOrEncapsulated, methodFate, fateOf, segmentsOf, fieldSegments, headerSegments, limited, isHeld, heldFrom, heldOf}
 use Rattle.outgoing_field.specs.Fate.Fate.{held, written}
 use Rattle.outgoing_field.specs.declared.HeldField.the-variants.{Absent, At}
 
@@ -57,52 +58,54 @@ module _ (rules : Rules) (field : List ℕ) where
   unfolding isHeld
   ascii-not-held e = rw (fate-ascii e)
 
-  -- a field whose value is not ASCII goes by the kind of its name
-  fate-kind : (n : ℕ) {kind : Kind} → all isAscii (valueOf field) ≡ false → n ≡ nameLen field → kind ≡ kindOf (take n field)
-      → kindFate rules kind field ≡ fateOf rules field
+  -- a field whose value is not ASCII goes by the method for its name
+  fate-method : (n : ℕ) {kind : Kind} {method : Method} → all isAscii (valueOf field) ≡ false → n ≡ nameLen field → kind ≡ kindOf (take n field) → method ≡ methodOf rules kind
+      → methodFate rules method field ≡ fateOf rules field
   unfolding fateOf
-  fate-kind n e k q = rw (e, q, name-part field n k)
+  fate-method n e k q m = rw (e, m, q, name-part field n k)
 
 -- ---- held fields
 
--- whether a field of a kind is held where its value is not ASCII
-unfoldable pub holds : Kind → List ℕ → Bool
-holds Address field = false
+-- whether a field is held where its value is not ASCII, by the method for it
+unfoldable pub holds : Method → List ℕ → Bool
+holds Pieces field = false
 holds PlainText field = false
+holds Encapsulated field = false
 holds Received field = not (passes (nameOf field) (valueOf field))
-holds Commented field = not (asciiOutsideComments (valueOf field))
-holds Parameterized field = true
+holds CommentsOrHeld field = not (asciiOutsideComments (valueOf field))
+holds CommentsOrEncapsulated field = false
+holds Parameters field = true
 holds Held field = true
-holds Other field = false
 
 held-unless : (b : Bool) (segments : List Segment) → not b ≡ isHeld (cond b (written segments) held)
 unfolding isHeld
 held-unless true segments = refl
 held-unless false segments = refl
 
-holds-is : (rules : Rules) (kind : Kind) (field : List ℕ) → holds kind field ≡ isHeld (kindFate rules kind field)
-unfolding holds isHeld kindFate
-holds-is rules Address field = refl
+holds-is : (rules : Rules) (method : Method) (field : List ℕ) → holds method field ≡ isHeld (methodFate rules method field)
+unfolding holds isHeld methodFate
+holds-is rules Pieces field = refl
 holds-is rules PlainText field = refl
+holds-is rules Encapsulated field = refl
 holds-is rules Received field = held-unless (passes (nameOf field) (valueOf field)) (receivedField (nameOf field) (valueOf field))
-holds-is rules Commented field = held-unless (asciiOutsideComments (valueOf field)) (structuredField (nameOf field) (valueOf field))
-holds-is rules Parameterized field = refl
+holds-is rules CommentsOrHeld field = held-unless (asciiOutsideComments (valueOf field)) (structuredField (nameOf field) (valueOf field))
+holds-is rules CommentsOrEncapsulated field = refl
+holds-is rules Parameters field = refl
 holds-is rules Held field = refl
-holds-is rules Other field = refl
 
-pub held-by-kind : (rules : Rules) (field : List ℕ) (n : ℕ) {kind : Kind} {r : Bool} → all isAscii (valueOf field) ≡ false → n ≡ nameLen field → kind ≡ kindOf (take n field)
-    → r ≡ holds kind field → r ≡ isHeld (fateOf rules field)
-held-by-kind rules field n {kind} e k q h = h ∙ holds-is rules kind field ∙ ap isHeld (fate-kind rules field n e k q)
+pub held-by-method : (rules : Rules) (field : List ℕ) (n : ℕ) {kind : Kind} {method : Method} {r : Bool} → all isAscii (valueOf field) ≡ false → n ≡ nameLen field → kind ≡ kindOf (take n field)
+    → method ≡ methodOf rules kind → r ≡ holds method field → r ≡ isHeld (fateOf rules field)
+held-by-method rules field n {method = method} e k q m h = h ∙ holds-is rules method field ∙ ap isHeld (fate-method rules field n e k q m)
 
-pub holds-commented : (kind : Kind) (field : List ℕ) {value : List ℕ} {clear : Bool} → kind ≡ Commented → value ≡ valueOf field → clear ≡ asciiOutsideComments value
-    → not clear ≡ holds kind field
+pub holds-commented : (method : Method) (field : List ℕ) {value : List ℕ} {clear : Bool} → method ≡ CommentsOrHeld → value ≡ valueOf field → clear ≡ asciiOutsideComments value
+    → not clear ≡ holds method field
 unfolding holds
-holds-commented kind field e v q = rw (e, q, v)
+holds-commented method field e v q = rw (e, q, v)
 
-pub holds-received : (kind : Kind) (field : List ℕ) {value : List ℕ} {n : ℕ} {clear : Bool} → kind ≡ Received → value ≡ valueOf field → n ≡ nameLen field → clear ≡ passes (take n field) value
-    → not clear ≡ holds kind field
+pub holds-received : (method : Method) (field : List ℕ) {value : List ℕ} {n : ℕ} {clear : Bool} → method ≡ Received → value ≡ valueOf field → n ≡ nameLen field → clear ≡ passes (take n field) value
+    → not clear ≡ holds method field
 unfolding holds
-holds-received kind field {n = n} e v k q = rw (e, q, v, name-part field n k)
+holds-received method field {n = n} e v k q = rw (e, q, v, name-part field n k)
 
 -- what is left to look through from a place on
 pub record HeldLeft (rules : Rules) (h : List ℕ) (at : ℕ) : Type 0 where
@@ -144,72 +147,103 @@ held-skip {rules} {h} {at} {r} l k g =
     let size : at + length (joined (g .passed)) ≡ r = rw (g .bytes, length-take, length-drop) (omega (arith, g .up, g .inside k)) in
     record { same = l .same ∙ rw (g .fields, held-past rules h at (g .passed) (fieldsOf (drop r h)) (g .ascii), size) }
 
--- ---- a field by its kind
+-- ---- a field by the method for it
 
-unfoldable pub needsScratch : Kind → Bool
-needsScratch Address = true
+unfoldable pub needsScratch : Method → Bool
+needsScratch Pieces = true
 needsScratch PlainText = false
+needsScratch Encapsulated = false
 needsScratch Received = true
-needsScratch Commented = true
-needsScratch Parameterized = false
+needsScratch CommentsOrHeld = true
+needsScratch CommentsOrEncapsulated = true
+needsScratch Parameters = false
 needsScratch Held = false
-needsScratch Other = false
 
--- The field is within the limit, its text is given, and a scratch that a field of this kind needs is twice as long.
-pub record Served (kind : Kind) (field text scratch : List ℕ) : Type 0 where
+-- The field is within the limit, its text is given, and a scratch that this method needs is twice as long.
+pub record Served (method : Method) (field text scratch : List ℕ) : Type 0 where
   pub short : length field ≤ 32768
   pub is : text ≡ textOf field
-  pub room : needsScratch kind ≡ true → 2 * length field ≤ length scratch
+  pub room : needsScratch method ≡ true → 2 * length field ≤ length scratch
 
-length-served : {kind : Kind} {field text scratch : List ℕ} → Served kind field text scratch → length text ≤ length field
+length-served : {method : Method} {field text scratch : List ℕ} → Served method field text scratch → length text ≤ length field
 length-served {field = field} s = rw (s .is) (length-text field)
 
-module _ (rules : Rules) {kind : Kind} {field text scratch : List ℕ} {n : ℕ} (s : Served kind field text scratch) (k : n ≡ nameLen field) where
-  pub kind-address : {before after : List ℕ} {at r : ℕ} → kind ≡ Address → AppendedCapped (rendered (addressField rules (take n field) (fitting (length scratch) text))) at before after r
-      → AppendedCapped (rendered (segmentsOf (kindFate rules kind field))) at before after r
-  unfolding kindFate segmentsOf needsScratch
-  kind-address e a =
+-- a value and its text within the limit, and a scratch of twice the value's length
+pub record CommentsGiven (value text scratch : List ℕ) : Type 0 where
+  pub room : 2 * length value ≤ length scratch
+  pub short-value : length value ≤ 32768
+  pub short-text : length text ≤ 32768
+
+module _ (rules : Rules) {method : Method} {field text scratch : List ℕ} {n : ℕ} (s : Served method field text scratch) (k : n ≡ nameLen field) where
+  pub method-address : {before after : List ℕ} {at r : ℕ} → method ≡ Pieces → AppendedCapped (rendered (addressField rules (take n field) (fitting (length scratch) text))) at before after r
+      → AppendedCapped (rendered (segmentsOf (methodFate rules method field))) at before after r
+  unfolding methodFate segmentsOf needsScratch
+  method-address e a =
       let room : 2 * length field ≤ length scratch = s .room (rw e) in
       let given : fitting (length scratch) text ≡ text = fitting-short (length scratch) text (omega (arith, length-served s, s .short)) (omega (arith, length-served s)) in
       rw e (rw (given, s .is, name-part field n k) at a)
 
-  pub kind-encoded : {before after : List ℕ} {at r : ℕ} (downgraded : Bool) → kindFate rules kind field ≡ written (encodedField downgraded (nameOf field) (textOf field))
+  pub method-encoded : {before after : List ℕ} {at r : ℕ} (downgraded : Bool) → methodFate rules method field ≡ written (encodedField downgraded (nameOf field) (textOf field))
       → AppendedCapped (rendered (encodedField downgraded (take n field) (bounded text))) at before after r
-      → AppendedCapped (rendered (segmentsOf (kindFate rules kind field))) at before after r
+      → AppendedCapped (rendered (segmentsOf (methodFate rules method field))) at before after r
   unfolding segmentsOf
-  kind-encoded downgraded e a = rw e (rw (bounded-short text (omega (arith, length-served s, s .short)), s .is, name-part field n k) at a)
+  method-encoded downgraded e a = rw e (rw (bounded-short text (omega (arith, length-served s, s .short)), s .is, name-part field n k) at a)
 
-  -- a field that is made of its value, with the scratch that its kind needs
-  pub kind-made : (made : List ℕ → List ℕ → List Segment) {value before after : List ℕ} {at r : ℕ} → needsScratch kind ≡ true → kindFate rules kind field ≡ written (made (nameOf field) (valueOf field))
+  -- a field that is made of its value, with the scratch that its method needs
+  pub method-made : (made : List ℕ → List ℕ → List Segment) {value before after : List ℕ} {at r : ℕ} → needsScratch method ≡ true → methodFate rules method field ≡ written (made (nameOf field) (valueOf field))
       → value ≡ valueOf field → AppendedCapped (rendered (made (take n field) (fitting (length scratch) value))) at before after r
-      → AppendedCapped (rendered (segmentsOf (kindFate rules kind field))) at before after r
+      → AppendedCapped (rendered (segmentsOf (methodFate rules method field))) at before after r
   unfolding segmentsOf
-  kind-made made {value} t e v a =
+  method-made made {value} t e v a =
       let short : length value ≤ length field = rw v (length-value field) in
       let given : fitting (length scratch) value ≡ value = fitting-short (length scratch) value (omega (arith, s .short)) (omega (arith, s .room t)) in
       rw e (rw (given, v, name-part field n k) at a)
 
-module _ (rules : Rules) (kind : Kind) (field : List ℕ) where
-  pub plain-is : kind ≡ PlainText → kindFate rules kind field ≡ written (encodedField false (nameOf field) (textOf field))
-  unfolding kindFate
+  -- comments, or else the text encapsulated
+  pub method-comments : {value before after : List ℕ} {at r : ℕ} → method ≡ CommentsOrEncapsulated → value ≡ valueOf field
+      → AppendedCapped (rendered (commentsOrEncapsulated (take n field) value text)) at before after r → AppendedCapped (rendered (segmentsOf (methodFate rules method field))) at before after r
+  unfolding methodFate segmentsOf
+  method-comments e v a = rw e (rw (v, s .is, name-part field n k) at a)
+
+pub comments-given : {method : Method} {field text scratch value : List ℕ} → Served method field text scratch → method ≡ CommentsOrEncapsulated → value ≡ valueOf field
+    → CommentsGiven value text scratch
+unfolding needsScratch
+comments-given {field = field} {scratch = scratch} s e v =
+    let room : 2 * length field ≤ length scratch = s .room (rw e) in
+    record { room = rw v (omega (arith, length-value field)); short-value = rw v (omega (arith, length-value field, s .short)); short-text = omega (arith, length-served s, s .short) }
+
+module _ (name : List ℕ) {value text scratch : List ℕ} (g : CommentsGiven value text scratch) {before after : List ℕ} {at r : ℕ} where
+  pub comments-encoded : asciiOutsideComments value ≡ true → AppendedCapped (rendered (structuredField name (fitting (length scratch) value))) at before after r
+      → AppendedCapped (rendered (commentsOrEncapsulated name value text)) at before after r
+  unfolding commentsOrEncapsulated
+  comments-encoded e a = rw e (rw (fitting-short (length scratch) value (g .short-value) (g .room)) at a)
+
+  pub comments-encapsulated : asciiOutsideComments value ≡ false → AppendedCapped (rendered (encodedField true name (bounded text))) at before after r
+      → AppendedCapped (rendered (commentsOrEncapsulated name value text)) at before after r
+  unfolding commentsOrEncapsulated
+  comments-encapsulated e a = rw e (rw (bounded-short text (omega (arith, g .short-text))) at a)
+
+module _ (rules : Rules) (method : Method) (field : List ℕ) where
+  pub plain-is : method ≡ PlainText → methodFate rules method field ≡ written (encodedField false (nameOf field) (textOf field))
+  unfolding methodFate
   plain-is e = rw e
 
-  pub other-is : kind ≡ Other → kindFate rules kind field ≡ written (encodedField true (nameOf field) (textOf field))
-  unfolding kindFate
-  other-is e = rw e
+  pub encapsulated-is : method ≡ Encapsulated → methodFate rules method field ≡ written (encodedField true (nameOf field) (textOf field))
+  unfolding methodFate
+  encapsulated-is e = rw e
 
-  pub commented-is : kind ≡ Commented → holds kind field ≡ false → kindFate rules kind field ≡ written (structuredField (nameOf field) (valueOf field))
-  unfolding kindFate holds
+  pub commented-is : method ≡ CommentsOrHeld → holds method field ≡ false → methodFate rules method field ≡ written (structuredField (nameOf field) (valueOf field))
+  unfolding methodFate holds
   commented-is e h = rw (e, not-false (asciiOutsideComments (valueOf field)) (rw e at h))
 
-  pub received-is : kind ≡ Received → holds kind field ≡ false → kindFate rules kind field ≡ written (receivedField (nameOf field) (valueOf field))
-  unfolding kindFate holds
+  pub received-is : method ≡ Received → holds method field ≡ false → methodFate rules method field ≡ written (receivedField (nameOf field) (valueOf field))
+  unfolding methodFate holds
   received-is e h = rw (e, not-false (passes (nameOf field) (valueOf field)) (rw e at h))
 
-  pub kind-none : (before : List ℕ) (at : ℕ) → holds kind field ≡ true → at ≤ greatest
-      → AppendedCapped (rendered (segmentsOf (kindFate rules kind field))) at before before at
+  pub method-none : (before : List ℕ) (at : ℕ) → holds method field ≡ true → at ≤ greatest
+      → AppendedCapped (rendered (segmentsOf (methodFate rules method field))) at before before at
   unfolding segmentsOf isHeld rendered
-  kind-none before at e h = none (kindFate rules kind field) (sym (holds-is rules kind field) ∙ e)
+  method-none before at e h = none (methodFate rules method field) (sym (holds-is rules method field) ∙ e)
     where
       none : (fate : Fate) → isHeld fate ≡ true → AppendedCapped (rendered (segmentsOf fate)) at before before at
       none held e = capped-none at before h
@@ -224,8 +258,8 @@ pub record Roomy (field made scratch : List ℕ) : Type 0 where
   pub room : 2 * length field ≤ length scratch
 
 module _ {field made scratch : List ℕ} (s : Roomy field made scratch) where
-  pub served : (kind : Kind) {text : List ℕ} → text ≡ textOf field → Served kind field text scratch
-  served kind e = record { short = s .short; is = e; room = λ k. s .room }
+  pub served : (method : Method) {text : List ℕ} → text ≡ textOf field → Served method field text scratch
+  served method e = record { short = s .short; is = e; room = λ k. s .room }
 
   -- a text that was made in its buffer
   pub text-made : {after : List ℕ} {n : ℕ} → Wrote (textOf field) made after n → take n after ≡ textOf field
@@ -241,18 +275,18 @@ module _ {field made scratch : List ℕ} (s : Roomy field made scratch) where
 pub text-placed : (field : List ℕ) {text : List ℕ} {a b : ℕ} → textPlace field ≡ InPlace a b → text ≡ take (b - a) (drop a field) → text ≡ textOf field
 text-placed field {text} {a} {b} e q = q ∙ text-there field a b e
 
-pub served-placed : (kind : Kind) (field : List ℕ) {text scratch : List ℕ} → needsScratch kind ≡ false → length field ≤ 32768 → text ≡ textOf field → Served kind field text scratch
-served-placed kind field n h e = record { short = h; is = e; room = λ k. absurd (true-yes false (sym n ∙ k)) }
+pub served-placed : (method : Method) (field : List ℕ) {text scratch : List ℕ} → needsScratch method ≡ false → length field ≤ 32768 → text ≡ textOf field → Served method field text scratch
+served-placed method field n h e = record { short = h; is = e; room = λ k. absurd (true-yes false (sym n ∙ k)) }
 
 module _ (rules : Rules) (field : List ℕ) {before after : List ℕ} {at r : ℕ} where
   pub added-copied : all isAscii (valueOf field) ≡ true → AppendedCapped field at before after r → AppendedCapped (rendered (fieldSegments rules field)) at before after r
   added-copied e a = rw (field-copied rules field (true-yes (all isAscii (valueOf field)) e)) a
 
-  pub added-by-kind : (n : ℕ) {kind : Kind} → all isAscii (valueOf field) ≡ false → n ≡ nameLen field → kind ≡ kindOf (take n field)
-      → AppendedCapped (rendered (segmentsOf (kindFate rules kind field))) at before after r
+  pub added-by-method : (n : ℕ) {kind : Kind} {method : Method} → all isAscii (valueOf field) ≡ false → n ≡ nameLen field → kind ≡ kindOf (take n field) → method ≡ methodOf rules kind
+      → AppendedCapped (rendered (segmentsOf (methodFate rules method field))) at before after r
       → AppendedCapped (rendered (fieldSegments rules field)) at before after r
   unfolding fieldSegments
-  added-by-kind n e k q a = rw (fate-kind rules field n e k q) at a
+  added-by-method n e k q m a = rw (fate-method rules field n e k q m) at a
 
 -- ---- the limit
 

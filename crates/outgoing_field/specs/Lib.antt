@@ -1,3 +1,4 @@
 pub mod Fate
 pub mod FateLaws
+pub mod Most
 pub mod OwedLaws

@@ -3,24 +3,25 @@ ghost use mathlib.Core.Path.{_≡_};
 ghost use Rattle.outgoing_field.specs.Fate.{isHeld, fateOf, heldOf};
 ghost use Rattle.outgoing_field.specs.FateLaws.{holds};
 use crate::HeldField;
-use header_name::Kind;
+use field_method::Method;
 use rules::Rules;
 
-// Whether a field of a kind is held where its value is not ASCII.
-pub(crate) fn holds(kind: Kind, field: &[u8]) -> bool
-    ensures { λ r. ⌜ r ≡ holds kind (now (field .entry)) ⌝ }
+// Whether a field is held where its value is not ASCII, by the method for it.
+pub(crate) fn holds(method: Method, field: &[u8]) -> bool
+    ensures { λ r. ⌜ r ≡ holds method (now (field .entry)) ⌝ }
 {
-    match kind {
-        Kind::Address => false,
-        Kind::PlainText => false,
-        Kind::Received => {
+    match method {
+        Method::Pieces => false,
+        Method::PlainText => false,
+        Method::Encapsulated => false,
+        Method::Received => {
             let n = header_line::name_len(field);
             !received::passes(&field[..n], header::value(field))
         }
-        Kind::Commented => !structured_field::ascii_outside_comments(header::value(field)),
-        Kind::Parameterized => true,
-        Kind::Held => true,
-        Kind::Other => false,
+        Method::CommentsOrHeld => !structured_field::ascii_outside_comments(header::value(field)),
+        Method::CommentsOrEncapsulated => false,
+        Method::Parameters => true,
+        Method::Held => true,
     }
 }
 
@@ -32,7 +33,8 @@ pub fn is_held(rules: Rules, field: &[u8]) -> bool
         return false;
     }
     let n = header_line::name_len(field);
-    holds(header_name::kind_of(&field[..n]), field)
+    let kind = header_name::kind_of(&field[..n]);
+    holds(field_method::method_of(rules, kind), field)
 }
 
 // The first held field of a header. Fields that are wholly ASCII are passed over together.

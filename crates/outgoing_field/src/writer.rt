@@ -4,48 +4,74 @@ ghost use Prim.Native.Nat.{_≤_};
 ghost use lib.ListN.{length};
 ghost use Rattle.buffer.specs.Buffer.{AppendedCapped};
 ghost use Rattle.encoded_word.specs.Segments.{rendered};
-ghost use Rattle.outgoing_field.specs.Fate.{kindFate, segmentsOf, fieldSegments, headerSegments, limited};
-ghost use Rattle.outgoing_field.specs.FateLaws.{needsScratch, limitedLen, Served, Roomy};
+ghost use Rattle.outgoing_field.specs.Fate.{commentsOrEncapsulated, methodFate, segmentsOf, fieldSegments, headerSegments, limited};
+ghost use Rattle.outgoing_field.specs.FateLaws.{needsScratch, limitedLen, CommentsGiven, Served, Roomy};
 use crate::held::holds;
+use field_method::Method;
 use field_text::TextPlace;
-use header_name::Kind;
 use rules::Rules;
 
 // The most bytes that a header has, and so a field.
 const LIMIT: usize = 32768;
 
-// A field by its kind and its text, where it is not held. Address fields, Received fields and those with comments need a scratch.
-fn add_by_kind(
+// Comments encoded, or the text encapsulated where non-ASCII stands outside them.
+fn add_comments_or_encapsulated(
+    out: &mut [u8],
+    at: usize,
+    name: &[u8],
+    value: &[u8],
+    text: &[u8],
+    scratch: &mut [u8],
+) -> usize
+    requires { ⌜ CommentsGiven (now value) (now text) (now scratch) ⌝ }
+    ensures { λ r. ⌜ AppendedCapped (rendered (commentsOrEncapsulated (now (name .entry)) (now (value .entry)) (now (text .entry)))) at (now (out .entry)) (now (out .exit)) r ⌝ }
+{
+    if structured_field::ascii_outside_comments(value) {
+        return structured_field::add_field(out, at, name, value, scratch);
+    }
+    field::add_encoded(out, at, name, text, true)
+}
+
+// A field by the method for it and its text, where it is not held. Address fields, Received fields and those with comments need a scratch.
+fn add_by_method(
     out: &mut [u8],
     at: usize,
     rules: Rules,
-    kind: Kind,
+    method: Method,
     field: &[u8],
     text: &[u8],
     scratch: &mut [u8],
 ) -> usize
-    requires { ⌜ Served kind (now field) (now text) (now scratch) ⌝ }
-    ensures { λ r. ⌜ AppendedCapped (rendered (segmentsOf (kindFate rules kind (now (field .entry))))) at (now (out .entry)) (now (out .exit)) r ⌝ }
+    requires { ⌜ Served method (now field) (now text) (now scratch) ⌝ }
+    ensures { λ r. ⌜ AppendedCapped (rendered (segmentsOf (methodFate rules method (now (field .entry))))) at (now (out .entry)) (now (out .exit)) r ⌝ }
 {
-    if holds(kind, field) {
+    if holds(method, field) {
         return at;
     }
     let n = header_line::name_len(field);
     let name = &field[..n];
-    match kind {
-        Kind::Address => address_pieces::add_field(out, at, rules, name, text, scratch),
-        Kind::PlainText => field::add_encoded(out, at, name, text, false),
-        Kind::Received => received::add_field(out, at, name, header::value(field), scratch),
-        Kind::Commented => structured_field::add_field(
+    match method {
+        Method::Pieces => address_pieces::add_field(out, at, rules, name, text, scratch),
+        Method::PlainText => field::add_encoded(out, at, name, text, false),
+        Method::Encapsulated => field::add_encoded(out, at, name, text, true),
+        Method::Received => received::add_field(out, at, name, header::value(field), scratch),
+        Method::CommentsOrHeld => structured_field::add_field(
             out,
             at,
             name,
             header::value(field),
             scratch,
         ),
-        Kind::Parameterized => at,
-        Kind::Held => at,
-        Kind::Other => field::add_encoded(out, at, name, text, true),
+        Method::CommentsOrEncapsulated => add_comments_or_encapsulated(
+            out,
+            at,
+            name,
+            header::value(field),
+            text,
+            scratch,
+        ),
+        Method::Parameters => at,
+        Method::Held => at,
     }
 }
 
@@ -54,21 +80,21 @@ fn add_with(
     out: &mut [u8],
     at: usize,
     rules: Rules,
-    kind: Kind,
+    method: Method,
     field: &[u8],
     made: &mut [u8],
     scratch: &mut [u8],
 ) -> usize
     requires { ⌜ Roomy (now field) (now made) (now scratch) ⌝ }
-    ensures { λ r. ⌜ AppendedCapped (rendered (segmentsOf (kindFate rules kind (now (field .entry))))) at (now (out .entry)) (now (out .exit)) r ⌝ }
+    ensures { λ r. ⌜ AppendedCapped (rendered (segmentsOf (methodFate rules method (now (field .entry))))) at (now (out .entry)) (now (out .exit)) r ⌝ }
 {
     match field_text::place(field) {
         TextPlace::InPlace(from, to) => {
-            add_by_kind(
+            add_by_method(
                 out,
                 at,
                 rules,
-                kind,
+                method,
                 field,
                 line::part(field, from, to),
                 scratch,
@@ -76,58 +102,59 @@ fn add_with(
         }
         TextPlace::Folded => {
             let size = field_text::put(made, field);
-            add_by_kind(out, at, rules, kind, field, &made[..size], scratch)
+            add_by_method(out, at, rules, method, field, &made[..size], scratch)
         }
     }
 }
 
 // A field of at most 1,024 bytes: small buffers take less time to clear.
-fn add_short(out: &mut [u8], at: usize, rules: Rules, kind: Kind, field: &[u8]) -> usize
+fn add_short(out: &mut [u8], at: usize, rules: Rules, method: Method, field: &[u8]) -> usize
     requires { ⌜ length (now field) ≤ 1024 ⌝ }
-    ensures { λ r. ⌜ AppendedCapped (rendered (segmentsOf (kindFate rules kind (now (field .entry))))) at (now (out .entry)) (now (out .exit)) r ⌝ }
+    ensures { λ r. ⌜ AppendedCapped (rendered (segmentsOf (methodFate rules method (now (field .entry))))) at (now (out .entry)) (now (out .exit)) r ⌝ }
 {
     let mut made = [0u8; 1024];
     let mut scratch = [0u8; 2048];
-    add_with(out, at, rules, kind, field, &mut made, &mut scratch)
+    add_with(out, at, rules, method, field, &mut made, &mut scratch)
 }
 
-fn add_long(out: &mut [u8], at: usize, rules: Rules, kind: Kind, field: &[u8]) -> usize
+fn add_long(out: &mut [u8], at: usize, rules: Rules, method: Method, field: &[u8]) -> usize
     requires { ⌜ length (now field) ≤ 32768 ⌝ }
-    ensures { λ r. ⌜ AppendedCapped (rendered (segmentsOf (kindFate rules kind (now (field .entry))))) at (now (out .entry)) (now (out .exit)) r ⌝ }
+    ensures { λ r. ⌜ AppendedCapped (rendered (segmentsOf (methodFate rules method (now (field .entry))))) at (now (out .entry)) (now (out .exit)) r ⌝ }
 {
     let mut made = [0u8; 32768];
     let mut scratch = [0u8; 65536];
-    add_with(out, at, rules, kind, field, &mut made, &mut scratch)
+    add_with(out, at, rules, method, field, &mut made, &mut scratch)
 }
 
-// Whether a field of a kind needs a scratch besides its text.
-fn needs_scratch(kind: Kind) -> bool
-    ensures { λ r. ⌜ r ≡ needsScratch kind ⌝ }
+// Whether a method needs a scratch besides the field's text.
+fn needs_scratch(method: Method) -> bool
+    ensures { λ r. ⌜ r ≡ needsScratch method ⌝ }
 {
-    match kind {
-        Kind::Address => true,
-        Kind::PlainText => false,
-        Kind::Received => true,
-        Kind::Commented => true,
-        Kind::Parameterized => false,
-        Kind::Held => false,
-        Kind::Other => false,
+    match method {
+        Method::Pieces => true,
+        Method::PlainText => false,
+        Method::Encapsulated => false,
+        Method::Received => true,
+        Method::CommentsOrHeld => true,
+        Method::CommentsOrEncapsulated => true,
+        Method::Parameters => false,
+        Method::Held => false,
     }
 }
 
 // A field whose value is not ASCII. Most texts that are encoded whole have no fold, and need no buffer.
-fn add_non_ascii(out: &mut [u8], at: usize, rules: Rules, kind: Kind, field: &[u8]) -> usize
+fn add_non_ascii(out: &mut [u8], at: usize, rules: Rules, method: Method, field: &[u8]) -> usize
     requires { ⌜ length (now field) ≤ 32768 ⌝ }
-    ensures { λ r. ⌜ AppendedCapped (rendered (segmentsOf (kindFate rules kind (now (field .entry))))) at (now (out .entry)) (now (out .exit)) r ⌝ }
+    ensures { λ r. ⌜ AppendedCapped (rendered (segmentsOf (methodFate rules method (now (field .entry))))) at (now (out .entry)) (now (out .exit)) r ⌝ }
 {
-    if !needs_scratch(kind) {
+    if !needs_scratch(method) {
         if let TextPlace::InPlace(from, to) = field_text::place(field) {
             let mut none = [0u8; 0];
-            return add_by_kind(
+            return add_by_method(
                 out,
                 at,
                 rules,
-                kind,
+                method,
                 field,
                 line::part(field, from, to),
                 &mut none,
@@ -135,9 +162,9 @@ fn add_non_ascii(out: &mut [u8], at: usize, rules: Rules, kind: Kind, field: &[u
         }
     }
     if field.len() <= 1024 {
-        return add_short(out, at, rules, kind, field);
+        return add_short(out, at, rules, method, field);
     }
-    add_long(out, at, rules, kind, field)
+    add_long(out, at, rules, method, field)
 }
 
 fn add_limited(out: &mut [u8], at: usize, rules: Rules, field: &[u8]) -> usize
@@ -148,7 +175,8 @@ fn add_limited(out: &mut [u8], at: usize, rules: Rules, field: &[u8]) -> usize
         return buffer::add_slice(out, at, field);
     }
     let n = header_line::name_len(field);
-    add_non_ascii(out, at, rules, header_name::kind_of(&field[..n]), field)
+    let kind = header_name::kind_of(&field[..n]);
+    add_non_ascii(out, at, rules, field_method::method_of(rules, kind), field)
 }
 
 // How many of n bytes count.

@@ -2,8 +2,10 @@
 mod tail;
 
 ghost use mathlib.Core.Path.{_≡_};
+ghost use Prim.Native.Nat.{_+_, min};
 ghost use lib.ListN.{drop};
 ghost use Rattle.lists.specs.Lists.{all};
+ghost use Rattle.buffer.specs.Buffer.{greatest};
 ghost use Rattle.parameter.specs.Parameter.{isKeywordByte, keywordLen, value, isOrcpt as namesOrcpt, isAlt as namesAlt, isValueByte, isParam, orcptClean};
 use letter_case::same_any_case;
 use line::part;
@@ -34,9 +36,9 @@ pub fn keyword_len(p: &[u8]) -> usize
     i
 }
 
-// Where a parameter's value starts.
+// Where a parameter's value starts, past its keyword and the byte after it.
 pub fn value_start(p: &[u8]) -> usize
-    ensures { λ r. ⌜ drop r (now (p .entry)) ≡ value (now (p .entry)) ⌝ }
+    ensures { λ r. ⌜ (r ≡ min (keywordLen (now (p .entry)) + 1) greatest) × (drop r (now (p .entry)) ≡ value (now (p .entry))) ⌝ }
 {
     buffer::place_after(keyword_len(p), 1)
 }

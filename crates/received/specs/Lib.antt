@@ -1,5 +1,6 @@
 pub mod Received
 pub mod Grammar
+pub mod GrammarLaws
 pub mod LinesLaws
 pub mod RowLinesLaws
 pub mod CommentLinesLaws
@@ -7,5 +8,3 @@ pub mod TokenLaws
 pub mod PassesLaws
 pub mod WritingLaws
 pub mod ReceivedLaws
-pub mod TokenGrammarLaws
-pub mod GrammarLaws

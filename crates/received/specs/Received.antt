@@ -1,40 +1,65 @@
 -- What a Received field becomes, and when it is held. Assumes nothing.
-use mathlib.Core.Bool.{Bool, cond, not, _&&_, _||_}
+use mathlib.Core.Bool.{Bool, true, false, cond, _&&_}
 use mathlib.Core.List.{List, [], _∷_, map}
 use Prim.Native.Nat.{ℕ, _+_}
-use lib.Dec.{eqb, leb, ltb}
+use lib.Dec.{eqb, leb}
+use lib.ListN.{take}
 use Rattle.lists.specs.Byte.{isAscii}
-use Rattle.lists.specs.Lists.{all, joined, nonempty}
+use Rattle.lists.specs.Lists.{all, joined}
 use Rattle.encoded_word.specs.Segments.{Segment, rendered}
 use Rattle.encoded_word.specs.Segments.Segment.{raw}
 use Rattle.field.specs.Field.{named}
 use Rattle.comment.specs.Parts.{parts}
-use Rattle.structured_field.specs.Tokens.{isComment}
+use Rattle.structured_token.specs.Walk.{Front, clearAll, becoming}
 use Rattle.structured_field.specs.StructuredField.{partSegments}
-use Rattle.received_token.specs.Clause.{forLen, isClause, isRemoved}
-use Rattle.received_token.specs.Tokens.{tokensFrom, tokens}
+use Rattle.received_token.specs.Tokens.{receivedKind, receivedSize, goesOn}
+use Rattle.received_token.specs.declared.ReceivedKind.{ReceivedKind}
+use Rattle.received_token.specs.declared.ReceivedKind.the-variants.{Comment, Clause, BareFor, Open, Other}
 
--- ---- what it becomes
+-- ---- token by token
 
--- "Comments follow [1]." A clause that is removed leaves nothing, all else stays as it came. The first token may be empty.
-unfoldable pub tokenSegments : List ℕ → List Segment
-tokenSegments token = cond (isComment token) (joined (map partSegments (parts token))) (cond (isRemoved token || not (nonempty token)) [] (raw token ∷ []))
+-- "such a clause is removed when its address is non-ASCII": all else of it is ASCII
+abbrev pub clauseSegments : List ℕ → List Segment
+clauseSegments clause = cond (all isAscii clause) (raw clause ∷ []) []
 
--- what becomes of what is left of the value
-unfoldable pub leftSegments : ℕ → List ℕ → List Segment
-leftSegments k s = joined (map tokenSegments (tokensFrom k s))
+-- a token of a field that is not held: neither "a for that no such address, ASCII or not, follows" nor "non-ASCII left elsewhere"
+unfoldable pub clear : ReceivedKind → List ℕ → Bool
+clear Comment token = true
+clear Clause token = true
+clear BareFor token = false
+clear Open token = all isAscii token
+clear Other token = all isAscii token
+
+-- what a token becomes: "Comments follow [1].", a clause goes or stays, all else stays as it came
+unfoldable pub becomes : ReceivedKind → List ℕ → List Segment
+becomes Comment token = joined (map partSegments (parts token))
+becomes Clause token = clauseSegments token
+becomes BareFor token = raw token ∷ []
+becomes Open token = raw token ∷ []
+becomes Other token = raw token ∷ []
+
+-- where a token stands: whether a comment may start there, and whether it is the start of the value
+pub data Place : Type 0 where
+  place : Bool → Bool → Place
+
+abbrev pub receivedFront : Place → List ℕ → Front Place Segment
+receivedFront (place comments start) s =
+    let what = receivedKind start comments s in
+    let n = receivedSize start comments s in
+    record { size = n; clear = clear what (take n s); becomes = becomes what (take n s); next = place (goesOn comments what) false }
+
+-- ---- the field
+
+unfoldable pub valueClear : List ℕ → Bool
+valueClear value = clearAll receivedFront (place true true) value
 
 unfoldable pub valueSegments : List ℕ → List Segment
-valueSegments value = joined (map tokenSegments (tokens value))
+valueSegments value = becoming receivedFront (place true true) value
 
 unfoldable pub receivedField : List ℕ → List ℕ → List Segment
 receivedField name value = named name (valueSegments value)
 
 -- ---- when it is held
-
--- Neither "a for that no such address, ASCII or not, follows" nor "non-ASCII left elsewhere"
-unfoldable pub isClear : List ℕ → Bool
-isClear token = isComment token || cond (ltb 0 (forLen token)) (isClause token) (all isAscii token)
 
 -- How many bytes the last line has, its CR counted, after a byte that stands at a column: LF (10) ends a line. It stays past 999 once
 -- a line has more than 998 bytes before its CRLF.
@@ -52,4 +77,4 @@ linesFit s = leb (columnAfter 0 s) 999
 -- "A Received field with a for that no such address, ASCII or not, follows, with non-ASCII left elsewhere, or with a line grown past
 -- 998 bytes, is still held."
 unfoldable pub passes : List ℕ → List ℕ → Bool
-passes name value = all isClear (tokens value) && linesFit (rendered (receivedField name value))
+passes name value = valueClear value && linesFit (rendered (receivedField name value))

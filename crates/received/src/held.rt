@@ -1,43 +1,50 @@
 // Whether a Received field is not held.
 ghost use mathlib.Core.Path.{_≡_};
-ghost use Rattle.received.specs.Received.{passes};
-ghost use Rattle.received.specs.PassesLaws.{leftPasses};
-use crate::lines::column_after;
-use crate::token::is_clear;
-use crate::token::token_column;
+ghost use Rattle.received.specs.Received.{clear, valueClear, passes};
+use crate::lines::lines_fit;
+use received_token::ReceivedKind;
 
-// What is left of a value, from a column on.
-fn left_passes(column: usize, s: &[u8], k: usize) -> bool
-    ensures { λ r. ⌜ r ≡ leftPasses column k (now (s .entry)) ⌝ }
+// Whether a token may stand in a field that is not held.
+fn is_clear(kind: ReceivedKind, token: &[u8]) -> bool
+    ensures { λ r. ⌜ r ≡ clear kind (now (token .entry)) ⌝ }
 {
-    let mut at = column;
-    let mut i: usize = 0;
-    while i < s.len() {
-        let end = i + received_token::left_len(&s[i..], k);
-        let token = &s[i..end];
-        if !is_clear(token) {
-            return false;
-        }
-        at = token_column(at, token);
-        i = end;
+    match kind {
+        ReceivedKind::Comment => true,
+        ReceivedKind::Clause => true,
+        ReceivedKind::BareFor => false,
+        ReceivedKind::Open => utf8::is_ascii(token),
+        ReceivedKind::Other => utf8::is_ascii(token),
     }
-    column_after(at, b"\r\n") <= 999
 }
 
-// Whether a Received field whose value is not ASCII passes.
+// Whether every token of a value may.
+fn value_clear(value: &[u8]) -> bool
+    ensures { λ r. ⌜ r ≡ valueClear (now (value .entry)) ⌝ }
+{
+    let mut comments = true;
+    let mut i: usize = 0;
+    while i < value.len() {
+        let token = received_token::token_at(value, i, comments);
+        let kind = token.kind;
+        let end = token.end;
+        if !is_clear(kind, &value[i..end]) {
+            return false;
+        }
+        comments = received_token::goes_on(comments, kind);
+        i = structured_token::calm_end(value, end);
+    }
+    true
+}
+
+// Whether a Received field whose value is not ASCII passes. Of a short one no line is long.
 pub fn passes(name: &[u8], value: &[u8]) -> bool
     ensures { λ r. ⌜ r ≡ passes (now (name .entry)) (now (value .entry)) ⌝ }
 {
-    let first = received_token::for_len(value);
-    let clause = &value[..first];
-    if !is_clear(clause) {
+    if !value_clear(value) {
         return false;
     }
-    let colon = column_after(column_after(0, name), b":");
-    let rest = &value[first..];
-    left_passes(
-        token_column(colon, clause),
-        rest,
-        received_token::unclosed_len(rest),
-    )
+    if (name.len() <= 100) & (value.len() <= 800) {
+        return true;
+    }
+    lines_fit(name, value)
 }

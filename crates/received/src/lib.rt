@@ -1,7 +1,6 @@
 // Received fields: FOR clauses with non-ASCII addresses are removed.
 mod held;
 mod lines;
-mod token;
 mod writer;
 
 pub use held::passes;

@@ -4,51 +4,52 @@ ghost use lib.ListN.{length};
 ghost use Rattle.buffer.specs.Buffer.{AppendedCapped};
 ghost use Rattle.encoded_word.specs.Segments.{rendered};
 ghost use Rattle.piece.specs.Piece.{fitting};
-ghost use Rattle.received.specs.Received.{tokenSegments, leftSegments, valueSegments, receivedField};
-use crate::token::is_comment;
+ghost use Rattle.received.specs.Received.{becomes, valueSegments, receivedField};
+use received_token::ReceivedKind;
 
-fn add_token(out: &mut [u8], at: usize, token: &[u8], scratch: &mut [u8]) -> usize
+fn add_token(
+    out: &mut [u8],
+    at: usize,
+    kind: ReceivedKind,
+    token: &[u8],
+    scratch: &mut [u8],
+) -> usize
     requires { ⌜ (length (now token) ≤ 32768) × (2 * length (now token) ≤ length (now scratch)) ⌝ }
-    ensures { λ r. ⌜ AppendedCapped (rendered (tokenSegments (now (token .entry)))) at (now (out .entry)) (now (out .exit)) r ⌝ }
+    ensures { λ r. ⌜ AppendedCapped (rendered (becomes kind (now (token .entry)))) at (now (out .entry)) (now (out .exit)) r ⌝ }
 {
-    if is_comment(token) {
-        return structured_field::add_comment(out, at, token, scratch);
+    match kind {
+        ReceivedKind::Comment => structured_field::add_comment(out, at, token, scratch),
+        ReceivedKind::Clause => {
+            if utf8::is_ascii(token) {
+                buffer::add_slice(out, at, token)
+            } else {
+                at
+            }
+        }
+        ReceivedKind::BareFor => buffer::add_slice(out, at, token),
+        ReceivedKind::Open => buffer::add_slice(out, at, token),
+        ReceivedKind::Other => buffer::add_slice(out, at, token),
     }
-    if received_token::is_removed(token) {
-        return at;
-    }
-    buffer::add_slice(out, at, token)
-}
-
-// What is left of a value.
-fn add_left(out: &mut [u8], at: usize, s: &[u8], k: usize, scratch: &mut [u8]) -> usize
-    requires { ⌜ (length (now s) ≤ 32768) × (2 * length (now s) ≤ length (now scratch)) ⌝ }
-    ensures { λ r. ⌜ AppendedCapped (rendered (leftSegments k (now (s .entry)))) at (now (out .entry)) (now (out .exit)) r ⌝ }
-{
-    let mut next = at;
-    let mut i: usize = 0;
-    while i < s.len() {
-        let end = i + received_token::left_len(&s[i..], k);
-        next = add_token(out, next, &s[i..end], scratch);
-        i = end;
-    }
-    next
 }
 
 fn add_value(out: &mut [u8], at: usize, value: &[u8], scratch: &mut [u8]) -> usize
     requires { ⌜ (length (now value) ≤ 32768) × (2 * length (now value) ≤ length (now scratch)) ⌝ }
     ensures { λ r. ⌜ AppendedCapped (rendered (valueSegments (now (value .entry)))) at (now (out .entry)) (now (out .exit)) r ⌝ }
 {
-    let first = received_token::for_len(value);
-    let begun = add_token(out, at, &value[..first], scratch);
-    let rest = &value[first..];
-    add_left(
-        out,
-        begun,
-        rest,
-        received_token::unclosed_len(rest),
-        scratch,
-    )
+    let mut next = at;
+    let mut comments = true;
+    let mut i: usize = 0;
+    while i < value.len() {
+        let token = received_token::token_at(value, i, comments);
+        let kind = token.kind;
+        let end = token.end;
+        let calm = structured_token::calm_end(value, end);
+        let begun = add_token(out, next, kind, &value[i..end], scratch);
+        next = buffer::add_slice(out, begun, &value[end..calm]);
+        comments = received_token::goes_on(comments, kind);
+        i = calm;
+    }
+    next
 }
 
 fn add_fitting(out: &mut [u8], at: usize, name: &[u8], value: &[u8], scratch: &mut [u8]) -> usize

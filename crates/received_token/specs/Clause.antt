@@ -1,21 +1,17 @@
 -- FOR clauses of a Received field. GrammarLaws.antt proves that `clauseLen` takes exactly what the rules of Grammar.antt make. Assumes nothing.
-use mathlib.Core.Bool.{Bool, cond, not, _&&_, _||_}
+use mathlib.Core.Bool.{Bool, cond, _&&_, _||_}
 use mathlib.Core.List.{List}
 use Prim.Native.Nat.{ℕ, _+_}
 use lib.Dec.{eqb}
-use lib.ListN.{length, take, drop, getD}
-use Rattle.lists.specs.Byte.{isAscii}
-use Rattle.lists.specs.Lists.{all}
+use lib.ListN.{take, drop, getD}
 use Rattle.lists.specs.Run.{run}
 use Rattle.letter_case.specs.LetterCase.{bytes, sameAnyCase}
+use Rattle.structured_token.specs.Tokens.{isWhite}
 use Rattle.address.specs.Address.{later, addressScan}
 use Rattle.address.specs.declared.Scan.{Scan}
 use Rattle.address.specs.declared.Scan.the-variants.{To, Stop}
 
--- "spaces, TABs and folds": a value holds CR (13) and LF (10) in folds only
-abbrev pub isWhite : ℕ → Bool
-isWhite b = eqb b 32 || eqb b 9 || eqb b 13 || eqb b 10
-
+-- "spaces, TABs and folds"
 unfoldable pub whiteLen : List ℕ → ℕ
 whiteLen s = run isWhite s
 
@@ -40,15 +36,3 @@ clauseLen s =
     let more = drop 3 word in
     let n = angledLen (drop (whiteLen more) more) in
     cond (isFor word) (cond (eqb n 0) 0 (whiteLen s + 3 + whiteLen more + n)) 0
-
--- the same with "a for that no such address, ASCII or not, follows": that has the white space before it, the word and the byte after it
-unfoldable pub forLen : List ℕ → ℕ
-forLen s = cond (isFor (drop (whiteLen s) s)) (cond (eqb (clauseLen s) 0) (whiteLen s + 4) (clauseLen s)) 0
-
--- a text that is a clause
-unfoldable pub isClause : List ℕ → Bool
-isClause s = eqb (clauseLen s) (length s)
-
--- "such a clause is removed when its address is non-ASCII": all else of it is ASCII
-unfoldable pub isRemoved : List ℕ → Bool
-isRemoved s = isClause s && not (all isAscii s)

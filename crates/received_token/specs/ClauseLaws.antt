@@ -1,7 +1,7 @@
 -- Laws of FOR clauses: as code finds them, and that they lie in the text. Assumes nothing.
 use borrow.Author.Tests.{ne-eqb, eq-eqb}
 use mathlib.Core.Path.{_≡_, sym, ap, _∙_}
-use mathlib.Core.Bool.{Bool, true, false, not, _&&_, _||_, cond, and-false}
+use mathlib.Core.Bool.{Bool, true, false, _&&_, _||_, cond, and-false}
 use mathlib.Core.List.{List, [], _∷_}
 use Prim.Native.Nat.{ℕ, _+_, _-_, _≤_, _<_}
 use native.Mathlib.Nat.{not-suc-le-zero}
@@ -10,17 +10,16 @@ use mir.Facts.{ltb-yes, ltb-no, eqb-no}
 use lib.Dec.{eqb, ltb, eqb→eq}
 use lib.ListN.{length, take, drop, getD, length-drop, List·getD-eq-default}
 use lib.Seq.{take-all, getD-drop}
-use Rattle.lists.specs.Byte.{isAscii}
-use Rattle.lists.specs.Lists.{all}
 use Rattle.lists.specs.Run.{run}
-use Rattle.lists.specs.RunLaws.{run-le, run-step}
+use Rattle.lists.specs.RunLaws.{run-le}
 use Rattle.lists.specs.ListsLaws.{by-test, cond-has, yes-true, true-yes, no-false}
 use Rattle.letter_case.specs.LetterCase.{bytes, sameAnyCase}
 use Rattle.address.specs.Address.{later, addressScan}
 use Rattle.address.specs.AddressLaws.{byte-within}
 use Rattle.address.specs.declared.Scan.{Scan}
 use Rattle.address.specs.declared.Scan.the-variants.{To, Stop}
-use Rattle.received_token.specs.Clause.{isWhite, whiteLen, isFor, closedLen, angledLen, clauseLen, forLen, isClause, isRemoved}
+use Rattle.received_token.specs.Clause.{whiteLen, isFor, closedLen, angledLen, clauseLen}
+use Rattle.structured_token.specs.Tokens.{isWhite}
 
 -- ---- white space
 
@@ -96,10 +95,6 @@ module _ (s : List ℕ) (h : length s < 4) where
   unfolding clauseLen
   clause-short = rw no-for
 
-  pub for-short : 0 ≡ forLen s
-  unfolding forLen
-  for-short = rw no-for
-
 -- what stands after the word, as code lends it on
 abbrev wordOf : List ℕ → ℕ → List ℕ
 wordOf s w = take (length s - w) (drop w s)
@@ -119,10 +114,6 @@ module _ (s : List ℕ) (w : ℕ) (qw : w ≡ whiteLen s) where
     unfolding clauseLen
     clause-other = rw no-word
 
-    pub for-other : 0 ≡ forLen s
-    unfolding forLen
-    for-other = rw no-word
-
   module _ (q : isFor (take (length s - w) (drop w s)) ≡ true) where
     is-word : isFor (drop (whiteLen s) s) ≡ true
     is-word = rw (← qw, ← rest s w) q
@@ -132,15 +123,6 @@ module _ (s : List ℕ) (w : ℕ) (qw : w ≡ whiteLen s) where
 
     pub more-long : 3 ≤ length (wordOf s w)
     more-long = let k : 4 ≤ length (wordOf s w) = for-long (wordOf s w) q in omega arith
-
-    module _ (n : ℕ) (qn : n ≡ clauseLen s) where
-      pub for-bare : n ≡ 0 → w + 4 ≡ forLen s
-      unfolding forLen
-      for-bare z = rw (is-word, ← qn, z, qw)
-
-      pub for-clause : (n ≡ 0 → ⊥) → n ≡ forLen s
-      unfolding forLen
-      for-clause z = rw (is-word, ← qn, ne-eqb n 0 z)
 
     -- after the word: b bytes of white space, and n of the address in angle brackets
     module _ (b n : ℕ) (qb : b ≡ whiteLen (moreOf s w)) (qn : n ≡ angledLen (take (length (moreOf s w) - b) (drop b (moreOf s w)))) where
@@ -162,22 +144,7 @@ module _ (s : List ℕ) (w : ℕ) (qw : w ≡ whiteLen s) where
           let there : n ≤ length (moreOf s w) - b = rw (← length-drop b (moreOf s w), ← rest (moreOf s w) b, qn) (angled-le (take (length (moreOf s w) - b) (drop b (moreOf s w)))) in
           omega (arith, word-long)
 
--- ---- a text that is a clause, by the tests of code
-
-module _ (s : List ℕ) where
-  pub clause-is : {n : ℕ} → n ≡ clauseLen s → eqb n (length s) ≡ isClause s
-  unfolding isClause
-  clause-is q = rw q
-
-  pub removed-is : {clause ascii : Bool} → clause ≡ isClause s → ascii ≡ all isAscii s → clause && not ascii ≡ isRemoved s
-  unfolding isRemoved
-  removed-is c a = rw (c, a)
-
 -- ---- in the text
-
-pub white-some : (s : List ℕ) → 0 < length s → isWhite (getD s 0 0) ≡ true → 0 < whiteLen s
-unfolding whiteLen
-white-some s h w = omega (arith, run-step isWhite s 0 h w)
 
 pub clause-le : (s : List ℕ) → clauseLen s ≤ length s
 unfolding clauseLen
@@ -189,16 +156,6 @@ clause-le s =
     (λ t. cond-has (λ k. k ≤ length s) (eqb n 0) 0 (w + 3 + whiteLen more + n)
     (λ u. omega arith)
     (λ u. omega (arith, for-long (drop w s) (yes-true (isFor (drop w s)) t), white-le more, angled-le (drop (whiteLen more) more), length-drop (whiteLen more) more, length-drop 3 (drop w s), length-drop w s)))
-    (λ t. omega arith)
-
-pub for-le : (s : List ℕ) → forLen s ≤ length s
-unfolding forLen
-for-le s =
-    let w = whiteLen s in
-    cond-has (λ k. k ≤ length s) (isFor (drop w s)) (cond (eqb (clauseLen s) 0) (w + 4) (clauseLen s)) 0
-    (λ t. cond-has (λ k. k ≤ length s) (eqb (clauseLen s) 0) (w + 4) (clauseLen s)
-    (λ u. omega (arith, for-long (drop w s) (yes-true (isFor (drop w s)) t), length-drop w s))
-    (λ u. clause-le s))
     (λ t. omega arith)
 
 -- ---- a clause ends with `>` (62)

@@ -5,7 +5,7 @@ use lib.Dec.{T}
 use Rattle.lists.specs.Lists.{all}
 use Rattle.letter_case.specs.LetterCase.{bytes, sameAnyCase}
 use Rattle.address.specs.Grammar.{Address}
-use Rattle.received_token.specs.Clause.{isWhite}
+use Rattle.structured_token.specs.Tokens.{isWhite}
 
 -- "an address of document 01 in angle brackets" (60 and 62)
 pub data Angled : List ℕ → Type 0 where

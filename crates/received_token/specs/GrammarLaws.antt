@@ -1,18 +1,17 @@
--- `clauseLen` takes exactly what the grammar of FOR clauses makes; a token with a for is a clause just where an address follows the for.
--- Assumes nothing.
-use borrow.Author.Tests.{ne-eqb, eq-eqb, lt-ltb, lt-leb}
+-- `clauseLen` takes exactly what the grammar of FOR clauses makes. Assumes nothing.
+use borrow.Author.Tests.{ne-eqb, lt-leb}
 use mathlib.Core.Path.{_≡_, refl, sym, ap, _∙_}
-use mathlib.Core.Bool.{true, false, cond, _&&_, _||_, and-false}
-use mathlib.Core.List.{List, [], _∷_, _++_, append-nil, append-assoc}
-use Prim.Native.Nat.{ℕ, suc, _+_, _-_, _<_}
+use mathlib.Core.Bool.{true, false, cond, _&&_, _||_}
+use mathlib.Core.List.{List, [], _∷_, _++_, append-assoc}
+use Prim.Native.Nat.{ℕ, suc, _+_, _<_}
 use native.Mathlib.Nat.{not-suc-le-zero}
 use native.Mathlib.Omega.{arith}
-use lib.Dec.{T, eqb, ltb, eqb→eq}
+use lib.Dec.{T, eqb, eqb→eq}
 use mir.Facts.{and-yes, eqb-no}
-use lib.ListN.{length, take, drop, getD, length-append, length-drop}
-use lib.Seq.{take-add, take-take, take-suc, take-at, length-take-le, drop-cons, drop-at, getD-take, getD-drop, getD-append-seam, getD-append-add}
+use lib.ListN.{length, take, drop, getD, length-append}
+use lib.Seq.{take-add, take-suc, take-at, drop-cons, drop-at, getD-drop, getD-append-seam, getD-append-add}
 use Rattle.lists.specs.Lists.{all}
-use Rattle.lists.specs.ListsLaws.{by-test, cond-has, yes-true, true-yes, no-false}
+use Rattle.lists.specs.ListsLaws.{by-test, cond-has, yes-true, no-false}
 use Rattle.lists.specs.Run.{run}
 use Rattle.lists.specs.RunLaws.{run-all, run-past}
 use Rattle.letter_case.specs.LetterCase.{bytes, lower, sameAnyCase}
@@ -21,8 +20,9 @@ use Rattle.address.specs.AddressLaws.{byte-within}
 use Rattle.address.specs.GrammarLaws.{Closed, address-sound, address-complete}
 use Rattle.address.specs.declared.Scan.{Scan}
 use Rattle.address.specs.declared.Scan.the-variants.{To, Stop}
-use Rattle.received_token.specs.Clause.{isWhite, whiteLen, isFor, closedLen, angledLen, clauseLen, forLen, isClause}
-use Rattle.received_token.specs.ClauseLaws.{white-le, clause-le, angled-closed, clause-last, for-long}
+use Rattle.received_token.specs.Clause.{whiteLen, isFor, closedLen, angledLen, clauseLen}
+use Rattle.structured_token.specs.Tokens.{isWhite}
+use Rattle.received_token.specs.ClauseLaws.{angled-closed}
 use Rattle.received_token.specs.Grammar.{Angled, Clause}
 
 -- ---- an address in angle brackets
@@ -179,110 +179,13 @@ taken-clause s h =
     rw (sum, parts) (Clause.clause (take w s) (take 3 word) (take m more) (run-all isWhite s) same (run-all isWhite more) (taken-angled r some))))
     (λ t k. absurd (not-suc-le-zero k)) h
 
--- ---- a token with a for
-
-whole-clause : (s : List ℕ) → 0 < clauseLen s → isClause (take (clauseLen s) s) ≡ true
-unfolding isClause
-whole-clause s h =
-    let token = take (clauseLen s) s in
-    let e : clauseLen token ≡ length token = rw append-nil at (clause-taken (taken-clause s h) []) in
-    eq-eqb (clauseLen token) (length token) e
-
-not-after : (s : List ℕ) → isFor s ≡ true → getD s 3 0 ≡ 62 → ⊥
-unfolding isFor
-not-after s e h = true-yes false (sym (and-false (sameAnyCase (take 3 s) (bytes "for"))) ∙ rw h at e)
-
-bare-for : (s : List ℕ) → isFor (drop (whiteLen s) s) ≡ true → isClause (take (whiteLen s + 4) s) ≡ false
-unfolding isClause
-bare-for s f =
-    let w = whiteLen s in
-    let token = take (w + 4) s in
-    let size : length token ≡ w + 4 = length-take-le (w + 4) s (omega (arith, for-long (drop w s) f, length-drop w s)) in
-    by-test (eqb (clauseLen token) (length token))
-    (λ t.
-    let e : clauseLen token ≡ length token = eqb→eq (clauseLen token) (length token) t in
-    let there : clauseLen token - 1 ≡ w + 3 = omega arith in
-    let last : getD token (w + 3) 0 ≡ 62 = rw there at (clause-last token (omega arith)) in
-    absurd (not-after (drop w s) f (getD-drop w s 3 0 ∙ (sym (getD-take (w + 4) s (w + 3) 0 (omega arith)) ∙ last))))
-    (λ t. no-false (eqb (clauseLen token) (length token)) t)
-
--- cut off, it is a clause just where an address follows the for
-pub for-token : (s : List ℕ) → 0 < forLen s → isClause (take (forLen s) s) ≡ ltb 0 (clauseLen s)
-unfolding forLen
-for-token s h =
-    let w = whiteLen s in
-    let c = clauseLen s in
-    cond-has (λ k. 0 < k → isClause (take k s) ≡ ltb 0 c) (isFor (drop w s)) (cond (eqb c 0) (w + 4) c) 0
-    (λ t. cond-has (λ k. 0 < k → isClause (take k s) ≡ ltb 0 c) (eqb c 0) (w + 4) c
-    (λ u k. let none : clauseLen s ≡ 0 = eqb→eq c 0 u in rw none (bare-for s (yes-true (isFor (drop w s)) t)))
-    (λ u k. whole-clause s k ∙ sym (lt-ltb 0 c k)))
-    (λ t k. absurd (not-suc-le-zero k)) h
-
--- ---- a for at the front
-
-module _ (s : List ℕ) where
-  pub for-some : isFor (drop (whiteLen s) s) ≡ true → 0 < forLen s
-  unfolding forLen
-  for-some e =
-      rw e
-      (cond-has (λ n. 0 < n) (eqb (clauseLen s) 0) (whiteLen s + 4) (clauseLen s)
-      (λ t. omega arith)
-      (λ t. let some = eqb-no {a = clauseLen s} {b = 0} t in omega arith))
-
-  clause-word : 0 < clauseLen s → isFor (drop (whiteLen s) s) ≡ true
-  unfolding clauseLen
-  clause-word h =
-      by-test (isFor (drop (whiteLen s) s))
-      (λ t. yes-true (isFor (drop (whiteLen s) s)) t)
-      (λ t. let z : 0 < 0 = rw (no-false (isFor (drop (whiteLen s) s)) t) at h in absurd (not-suc-le-zero z))
-
-  pub clause-for : 0 < clauseLen s → forLen s ≡ clauseLen s
-  unfolding forLen
-  clause-for h = rw (clause-word h, ne-eqb (clauseLen s) 0 (λ z. not-suc-le-zero {n = 0} (omega arith)))
-
-  bare-word : 0 < forLen s → clauseLen s ≡ 0 → (isFor (drop (whiteLen s) s) ≡ true) × (forLen s ≡ whiteLen s + 4)
-  unfolding forLen
-  bare-word h z =
-      by-test (isFor (drop (whiteLen s) s))
-      (λ t. let e = yes-true (isFor (drop (whiteLen s) s)) t in (e, rw (e, z)))
-      (λ t. let k : 0 < 0 = rw (no-false (isFor (drop (whiteLen s) s)) t) at h in absurd (not-suc-le-zero k))
-
--- a for is told by four bytes
-word-cut : (s : List ℕ) → isFor s ≡ true → (isFor (take 4 s) ≡ true) × (run isWhite (take 4 s) ≡ 0)
-unfolding isFor
-word-cut s e =
-    let same = and-yes (sameAnyCase (take 3 s) (bytes "for")) (isWhite (getD s 3 0) || eqb (getD s 3 0) 60) (true-yes (sameAnyCase (take 3 s) (bytes "for") && (isWhite (getD s 3 0) || eqb (getD s 3 0) 60)) e) .0 in
-    let text : take 4 s ≡ take 3 s ++ take 1 (drop 3 s) = take-add 3 1 s in
-    (rw (take-take 3 4 s (omega arith), getD-take 4 s 3 0 (omega arith)) e, rw text (word-front (take 3 s) (take 1 (drop 3 s)) same .1))
-
--- a for without an address, cut off, still has the for
-bare-again : (s : List ℕ) → isFor (drop (whiteLen s) s) ≡ true → 0 < forLen (take (whiteLen s + 4) s)
-unfolding whiteLen
-bare-again s e =
-    let w = whiteLen s in
-    let x = drop w s in
-    let token = take (w + 4) s in
-    let word = word-cut x e in
-    let text : token ≡ take w s ++ take 4 x = take-add w 4 s in
-    let size : length (take w s) ≡ w = length-take-le w s (white-le s) in
-    let white : whiteLen token ≡ w =
-    ap (λ (l : List ℕ). run isWhite l) text ∙ (run-past isWhite (take w s) (take 4 x) (run-all isWhite s) ∙ omega (arith, word .1)) in
-    let there : drop (whiteLen token) token ≡ take 4 x = rw (white, text) (drop-at (take w s) (take 4 x) w size) in
-    for-some token (rw there (word .0))
-
--- A token with a for, cut off, still has it.
-pub for-again : (s : List ℕ) → 0 < forLen s → 0 < forLen (take (forLen s) s)
-for-again s h =
-    by-test (eqb (clauseLen s) 0)
-    (λ t. let b = bare-word s h (eqb→eq (clauseLen s) 0 t) in rw (b .1) (bare-again s (b .0)))
-    (λ t.
-    let none = eqb-no {a = clauseLen s} {b = 0} t in
-    let some : 0 < clauseLen s = omega arith in
-    let token = take (clauseLen s) s in
-    let e : clauseLen token ≡ length token = rw append-nil at (clause-taken (taken-clause s some) []) in
-    let size : length token ≡ clauseLen s = length-take-le (clauseLen s) s (clause-le s) in
-    let more : 0 < clauseLen token = omega arith in
-    rw (clause-for s some) (rw (clause-for token more) more))
+-- a clause has the word
+pub clause-word : (s : List ℕ) → 0 < clauseLen s → isFor (drop (whiteLen s) s) ≡ true
+unfolding clauseLen
+clause-word s h =
+    by-test (isFor (drop (whiteLen s) s))
+    (λ t. yes-true (isFor (drop (whiteLen s) s)) t)
+    (λ t. let z : 0 < 0 = rw (no-false (isFor (drop (whiteLen s) s)) t) at h in absurd (not-suc-le-zero z))
 
 pub clause-some : {c : List ℕ} → Clause c → 0 < length c
 clause-some (Clause.clause before word after {address} b w a g) =

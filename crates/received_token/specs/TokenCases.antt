@@ -1,35 +1,29 @@
--- FOR clauses and the tokens of a Received field's value, by example. Assumes nothing.
+-- FOR clauses and the token at the front of a Received field's value, by example. Assumes nothing.
 use mathlib.Core.Path.{_≡_, refl}
-use mathlib.Core.Bool.{Bool, true, false}
-use mathlib.Core.List.{List, [], _∷_, _++_}
+use mathlib.Core.Bool.{true, false}
+use mathlib.Core.List.{List, [], _∷_}
 use Prim.Native.Nat.{ℕ}
 use Prim.Native.String.{String}
-use Rattle.lists.specs.CutBy.{cutAfter, cutBy}
 use Rattle.lists.specs.Run.{run}
 use Rattle.letter_case.specs.LetterCase.{bytes, lower, sameAnyCase}
 use Rattle.address.specs.Address.{later, byteThen, scanThen, isAtext, isAtomByte, isQuotedByte, isLiteralByte, dotAtomFrom, dotAtomScan, quotedFrom, quotedScan, literalFrom, literalScan, domainScan, localScan, addressScan}
 use Rattle.comment.specs.Comment.{past, depthAfter, closing, commentLen, runTo}
-use Rattle.structured_field.specs.Tokens.{stringLen, tokenLen, isComment}
-use Rattle.received_token.specs.Clause.{whiteLen, isFor, closedLen, angledLen, clauseLen, forLen, isClause, isRemoved}
-use Rattle.received_token.specs.Tokens.{plainLen, commentedLen, isUnclosed, unclosedOf, unclosedLen, leftLen, tokensFrom, tokens}
+use Rattle.structured_token.specs.Tokens.{stringLen, openedKind, kindOf, sizeOf}
+use Rattle.received_token.specs.Clause.{whiteLen, isFor, closedLen, angledLen, clauseLen}
+use Rattle.received_token.specs.Tokens.{startsFor, receivedKind, receivedSize}
+use Rattle.received_token.specs.declared.ReceivedKind.{ReceivedKind}
+use Rattle.received_token.specs.declared.ReceivedKind.the-variants.{Comment, Clause, BareFor, Open, Other}
 
--- the address é@x in angle brackets
-abbrev local : List ℕ
-local = 60 ∷ 195 ∷ 169 ∷ bytes "@x>"
-
--- the length of the clause at the front; that of a for at the front, with or without an address; whether a clause is removed; the tokens
--- of a value
+-- the length of the clause at the front; the kind and length of what stands at the front, at the start of the value or later
 pub data Case : Type 0 where
   clause : String → ℕ → Case
-  for : String → ℕ → Case
-  removed : List ℕ → Bool → Case
-  parted : List ℕ → List (List ℕ) → Case
+  start : String → ReceivedKind → ℕ → Case
+  after : String → ReceivedKind → ℕ → Case
 
 abbrev pub Right : Case → Type 0
 Right (clause text n) = clauseLen (bytes text) ≡ n
-Right (for text n) = forLen (bytes text) ≡ n
-Right (removed text r) = isRemoved text ≡ r
-Right (parted value ts) = tokens value ≡ ts
+Right (start text kind n) = (receivedKind true true (bytes text) ≡ kind) × (receivedSize true true (bytes text) ≡ n)
+Right (after text kind n) = (receivedKind false true (bytes text) ≡ kind) × (receivedSize false true (bytes text) ≡ n)
 
 abbrev pub AllRight : List Case → Type 0
 AllRight [] = Unit {0}
@@ -44,31 +38,28 @@ cases =
     -- an address of document 01: a quoted string, a literal in which no comment starts
     ∷ clause "for <\"> \"@[(]> (c)" 14
     -- no for: a longer word, the end of the field
-    ∷ for " fore <a@b>" 0
-    ∷ for " for;" 0
-    ∷ for " for" 0
+    ∷ after " fore <a@b>" Other 1
+    ∷ after " for;" Other 1
+    ∷ after " for" Other 1
     -- a for without an address
-    ∷ for " for " 5
-    ∷ for " for a@b" 5
-    ∷ for " for <>" 5
-    ∷ for " for <Postmaster>" 5
-    ∷ for " for (c) <a@b>" 5
-    ∷ for " for < a@b>" 5
-    ∷ for " for <a@b " 5
-    ∷ for "for <a@b <c@d>>" 4
-    ∷ removed (bytes " for " ++ local) true
-    ∷ removed (bytes " for <a@b>") false
+    ∷ after " for " BareFor 5
+    ∷ after " for a@b" BareFor 5
+    ∷ after " for <>" BareFor 5
+    ∷ after " for <Postmaster>" BareFor 5
+    ∷ after " for (c) <a@b>" BareFor 5
+    ∷ after " for < a@b>" BareFor 5
+    ∷ after " for <a@b " BareFor 5
+    ∷ start "for <a@b <c@d>>" BareFor 4
     -- after the colon, and after white space only
-    ∷ parted (bytes "for " ++ local) ((bytes "for " ++ local) ∷ [])
-    ∷ parted (bytes "a:for <a@b>") ([] ∷ bytes "a" ∷ bytes ":" ∷ bytes "f" ∷ bytes "o" ∷ bytes "r" ∷ bytes " " ∷ bytes "<" ∷ bytes "a" ∷ bytes "@" ∷ bytes "b" ∷ bytes ">" ∷ [])
-    ∷ parted (bytes "a  for " ++ (local ++ bytes " b")) ([] ∷ bytes "a" ∷ (bytes "  for " ++ local) ∷ bytes " " ∷ bytes "b" ∷ [])
+    ∷ start "for <a@b> x" Clause 9
+    ∷ after "for <a@b> x" Other 3
+    ∷ after "  for <a@b> b" Clause 11
     -- outside comments and quoted strings
-    ∷ parted (bytes "( for <a@b>)\"( for <a@b>)\"") ([] ∷ bytes "( for <a@b>)" ∷ bytes "\"( for <a@b>)\"" ∷ [])
-    -- after an unclosed parenthesis nothing is a comment; strings and clauses go on
-    ∷ parted (bytes "(()(\"(\" for <a@b>") ([] ∷ bytes "(" ∷ bytes "(" ∷ bytes ")" ∷ bytes "(" ∷ bytes "\"(\"" ∷ bytes " for <a@b>" ∷ [])
-    ∷ parted (bytes "()(a") ([] ∷ bytes "()" ∷ bytes "(" ∷ bytes "a" ∷ [])
+    ∷ start "( for <a@b>)x" Comment 12
+    ∷ start "\"( for <a@b>)\"x" Other 14
+    ∷ start "(()(\"(\" for <a@b>" Open 1
     ∷ []
 
 pub cases-right : AllRight cases
-unfolding cutAfter cutBy run bytes lower sameAnyCase later byteThen scanThen isAtext isAtomByte isQuotedByte isLiteralByte dotAtomFrom dotAtomScan quotedFrom quotedScan literalFrom literalScan domainScan localScan addressScan past depthAfter closing commentLen runTo stringLen tokenLen isComment whiteLen isFor closedLen angledLen clauseLen forLen isClause isRemoved plainLen commentedLen isUnclosed unclosedOf unclosedLen leftLen tokensFrom tokens
-cases-right = (refl, (refl, (refl, (refl, (refl, (refl, (refl, (refl, (refl, (refl, (refl, (refl, (refl, (refl, (refl, (refl, (refl, (refl, (refl, (refl, (refl, (refl, (refl, tt)))))))))))))))))))))))
+unfolding run bytes lower sameAnyCase later byteThen scanThen isAtext isAtomByte isQuotedByte isLiteralByte dotAtomFrom dotAtomScan quotedFrom quotedScan literalFrom literalScan domainScan localScan addressScan past depthAfter closing commentLen runTo stringLen openedKind kindOf sizeOf whiteLen isFor closedLen angledLen clauseLen startsFor receivedKind receivedSize
+cases-right = (refl, (refl, (refl, (refl, ((refl, refl), ((refl, refl), ((refl, refl), ((refl, refl), ((refl, refl), ((refl, refl), ((refl, refl), ((refl, refl), ((refl, refl), ((refl, refl), ((refl, refl), ((refl, refl), ((refl, refl), ((refl, refl), ((refl, refl), ((refl, refl), ((refl, refl), tt)))))))))))))))))))))

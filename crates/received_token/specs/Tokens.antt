@@ -1,52 +1,53 @@
--- The tokens of a Received field's value: those of a structured field, and each for with its address. Every byte of the value is in
--- one token. Assumes nothing.
+-- The tokens of a Received field's value: those of other structured fields, and each for with the white space before it. Every byte of the
+-- value is in one token. Assumes nothing.
 use mathlib.Core.Path.{_≡_}
-use mathlib.Core.Bool.{Bool, cond, not, _&&_}
-use mathlib.Core.List.{List, [], _∷_}
-use Prim.Native.Nat.{ℕ, _≤_, _<_}
-use lib.Dec.{eqb, leb, ltb}
-use lib.ListN.{length, take, drop, getD}
-use Rattle.lists.specs.CutBy.{cutBy}
-use Rattle.lists.specs.Lists.{joined}
-use Rattle.structured_field.specs.Tokens.{tokenLen, isComment}
-use Rattle.received_token.specs.Clause.{isWhite, whiteLen, forLen}
+use mathlib.Core.Bool.{Bool, false, cond, _&&_, _||_}
+use mathlib.Core.List.{List}
+use Prim.Native.Nat.{ℕ, _+_, _≤_, _<_}
+use lib.Dec.{eqb}
+use lib.ListN.{length, drop, getD}
+use Rattle.structured_token.specs.declared.Kind.{Kind}
+use Rattle.structured_token.specs.declared.Kind.the-variants as token
+use Rattle.structured_token.specs.Tokens.{isWhite, kindOf, sizeOf}
+use Rattle.received_token.specs.Clause.{whiteLen, isFor, clauseLen}
+use Rattle.received_token.specs.declared.ReceivedKind.{ReceivedKind}
+use Rattle.received_token.specs.declared.ReceivedKind.the-variants.{Comment, Clause, BareFor, Open, Other}
 
--- the token at the front where no comment starts: white space, with a for and its address after it; a quoted string; a byte. 40 is `(`.
-unfoldable pub plainLen : List ℕ → ℕ
-plainLen [] = 0
-plainLen (b ∷ s) = cond (isWhite b) (cond (ltb 0 (forLen (b ∷ s))) (forLen (b ∷ s)) (whiteLen (b ∷ s))) (cond (eqb b 40) 1 (tokenLen (b ∷ s)))
+-- whether a for stands at the front with the white space before it, at the start of the value or later: "white space or the colon before",
+-- which stands before the start only
+unfoldable pub startsFor : Bool → List ℕ → Bool
+startsFor start s = (isWhite (getD s 0 0) || start) && isFor (drop (whiteLen s) s)
 
--- the same where a comment may start: "Comments follow [1]." An unclosed parenthesis is one token with all that follows it.
-unfoldable pub commentedLen : List ℕ → ℕ
-commentedLen [] = 0
-commentedLen (b ∷ s) = cond (eqb b 40) (tokenLen (b ∷ s)) (plainLen (b ∷ s))
+-- a token of other structured fields
+abbrev pub kindIn : Kind → ReceivedKind
+kindIn token.Comment = Comment
+kindIn token.Quoted = Other
+kindIn token.White = Other
+kindIn token.Open = Open
+kindIn token.Semicolon = Other
+kindIn token.Plain = Other
+kindIn token.End = Other
 
--- an unclosed parenthesis, with all that follows it
-unfoldable pub isUnclosed : List ℕ → Bool
-isUnclosed token = eqb (getD token 0 0) 40 && not (isComment token)
+-- what stands at the front of a text, at the start of the value or later, where a comment may start or not: a for is a clause where an
+-- address follows it
+unfoldable pub receivedKind : Bool → Bool → List ℕ → ReceivedKind
+receivedKind start comments s = cond (startsFor start s) (cond (eqb (clauseLen s) 0) BareFor Clause) (kindIn (kindOf comments s))
 
-unfoldable pub unclosedOf : List (List ℕ) → ℕ
-unclosedOf [] = 0
-unclosedOf (token ∷ more) = cond (isUnclosed token) (length (joined (token ∷ more))) (unclosedOf more)
+-- and how long it is: a for without an address has the white space before it, the word and the byte after it
+unfoldable pub receivedSize : Bool → Bool → List ℕ → ℕ
+receivedSize start comments s = cond (startsFor start s) (cond (eqb (clauseLen s) 0) (whiteLen s + 4) (clauseLen s)) (sizeOf (kindOf comments s) s)
 
--- how many bytes stand from the first unclosed parenthesis on
-unfoldable pub unclosedLen : List ℕ → ℕ
-unclosedLen s = unclosedOf (cutBy commentedLen s)
+-- of an unclosed parenthesis "nothing after it is a comment"
+abbrev pub goesOn : Bool → ReceivedKind → Bool
+goesOn comments Comment = comments
+goesOn comments Clause = comments
+goesOn comments BareFor = comments
+goesOn comments Open = false
+goesOn comments Other = comments
 
--- the token at the front of what is left, where the last k bytes stand from the first unclosed parenthesis on: "nothing after it is a
--- comment"
-unfoldable pub leftLen : ℕ → List ℕ → ℕ
-leftLen k s = cond (leb (length s) k) (plainLen s) (commentedLen s)
-
-unfoldable pub tokensFrom : ℕ → List ℕ → List (List ℕ)
-tokensFrom k s = cutBy (leftLen k) s
-
--- "white space or the colon before": a for may stand at the very start of the value; no other has nothing before it
-unfoldable pub tokens : List ℕ → List (List ℕ)
-tokens value = let rest = drop (forLen value) value in take (forLen value) value ∷ tokensFrom (unclosedLen rest) rest
-
--- The answer for the front of a text: how long the token there is. A token has a byte, and lies in the text.
-pub record Measured (size : List ℕ → ℕ) (s : List ℕ) (r : ℕ) : Type 0 where
-  pub is : r ≡ size s
-  pub some : 0 < length s → 0 < r
-  pub within : r ≤ length s
+-- The answer for a place of a value: what stands there, and where it ends. A token has a byte, and lies in the value.
+pub record Took (comments : Bool) (value : List ℕ) (at : ℕ) (kind : ReceivedKind) (end : ℕ) : Type 0 where
+  pub what : kind ≡ receivedKind (eqb at 0) comments (drop at value)
+  pub is : end ≡ at + receivedSize (eqb at 0) comments (drop at value)
+  pub some : at < length value → at < end
+  pub within : at < length value → end ≤ length value

@@ -1,173 +1,171 @@
--- Laws of the tokens of a Received field's value: as code goes through it. Assumes nothing.
-use borrow.Author.Tests.{ne-eqb, eq-eqb, lt-ltb, le-leb, lt-leb}
+-- The token at a place of a Received field's value, as code finds it. Assumes nothing.
+use borrow.Author.Tests.{eq-eqb, ne-eqb}
 use mathlib.Core.Path.{_≡_, refl, sym, ap, _∙_}
-use mathlib.Core.Bool.{Bool, true, false, not}
+use mathlib.Core.Bool.{Bool, true, false, not, cond, _&&_, _||_}
 use mathlib.Core.List.{List, [], _∷_}
-use Prim.Native.Nat.{ℕ, zero, suc, pred, _+_, _-_, _≤_, _<_}
-use native.Mathlib.Nat.{not-suc-le-zero}
+use Prim.Native.Nat.{ℕ, _+_, _-_, _≤_, _<_}
 use native.Mathlib.Omega.{arith}
 use lib.Dec.{eqb, leb, ltb, eqb→eq}
-use mir.Facts.{eqb-no}
-use lib.ListN.{length, take, drop, getD, length-drop, drop-of-length-le}
-use lib.Seq.{drop-cons, take-nil}
-use Rattle.lists.specs.CutBy.{cutBy}
-use Rattle.lists.specs.CutByLaws.{cut-nil, cut-next, cut-joined}
-use Rattle.lists.specs.Lists.{joined}
+use lib.ListN.{length, take, drop, getD, length-drop}
+use lib.Seq.{drop-drop, getD-drop}
+use Rattle.lists.specs.ListsLaws.{by-test, cond-has, yes-true, true-yes, no-false}
 use Rattle.lists.specs.Run.{run}
-use Rattle.lists.specs.ListsLaws.{by-test, cond-has, true-yes}
+use Rattle.address.specs.AddressLaws.{byte-within}
+use Rattle.comment.specs.Comment.{commentLen}
 use Rattle.letter_case.specs.LetterCase.{bytes, lower, sameAnyCase}
-use Rattle.comment.specs.Comment.{past, depthAfter, closing, commentLen}
-use Rattle.structured_field.specs.Tokens.{tokenLen, isComment, TookToken}
-use Rattle.structured_field.specs.TokensLaws.{other-kind, token-some, token-is-comment}
-use Rattle.received_token.specs.Clause.{isWhite, whiteLen, isFor, forLen}
-use Rattle.received_token.specs.ClauseLaws.{white-le, white-some, for-le, rest}
-use Rattle.received_token.specs.Tokens.{plainLen, commentedLen, isUnclosed, unclosedOf, unclosedLen, leftLen, Measured}
+use Rattle.structured_token.specs.declared.Kind.{Kind}
+use Rattle.structured_token.specs.declared.Kind.the-variants as token
+use Rattle.structured_token.specs.Tokens.{isWhite, isQuote, openedKind, kindOf, sizeOf, whiteKind}
+use Rattle.structured_token.specs.Tokens as tokens
+use Rattle.received_token.specs.Clause.{whiteLen, isFor, clauseLen}
+use Rattle.received_token.specs.ClauseLaws.{rest, for-long, clause-le}
+use Rattle.received_token.specs.declared.ReceivedKind.{ReceivedKind}
+use Rattle.received_token.specs.declared.ReceivedKind.the-variants.{Comment, Clause, BareFor, Open}
+use Rattle.received_token.specs.Tokens.{startsFor, kindIn, receivedKind, receivedSize, Took}
 
-measured-none : (size : List ℕ → ℕ) (s : List ℕ) → size [] ≡ 0 → length s ≡ 0 → Measured size s 0
-measured-none size [] z e = record { is = sym z; some = λ k. k; within = omega arith }
-measured-none size (b ∷ s) z e = absurd (not-suc-le-zero {n = 0} (omega arith))
+-- ---- a for, by its first byte
 
-pub plain-none : (s : List ℕ) → length s ≡ 0 → Measured plainLen s 0
-unfolding plainLen
-plain-none s e = measured-none plainLen s refl e
+small-f : (b : ℕ) → eqb b 102 ≡ false → eqb b 70 ≡ false → eqb (lower b) (lower 102) ≡ false
+unfolding lower
+small-f b f g =
+    cond-has (λ n. eqb n 102 ≡ false) (leb 65 b && leb b 90) (b + 32) b
+    (λ t. by-test (eqb b 70)
+    (λ u. absurd (true-yes false (sym g ∙ yes-true (eqb b 70) u)))
+    (λ u. ne-eqb (b + 32) 102 (λ e. other b g (omega arith))))
+    (λ t. f)
+  where
+    other : (b : ℕ) → eqb b 70 ≡ false → b ≡ 70 → ⊥
+    other b g e = true-yes false (sym g ∙ eq-eqb b 70 e)
 
-pub commented-none : (s : List ℕ) → length s ≡ 0 → Measured commentedLen s 0
-unfolding commentedLen
-commented-none s e = measured-none commentedLen s refl e
+pub no-for : (s : List ℕ) → eqb (getD s 0 0) 102 ≡ false → eqb (getD s 0 0) 70 ≡ false → isFor s ≡ false
+unfolding isFor sameAnyCase bytes
+no-for [] f g = refl
+no-for (b ∷ s) f g = rw (small-f b f g)
 
-module _ (s : List ℕ) (h : 0 < length s) where
-  front : s ≡ getD s 0 0 ∷ drop 1 s
-  front = drop-cons s 0 0 h
+-- as code tests it
+pub for-not : (s : List ℕ) (at : ℕ) {b : ℕ} → b ≡ getD s at 0 → eqb b 102 || eqb b 70 ≡ false → false ≡ isFor (drop at s)
+for-not s at {b} q e =
+    let there : at + 0 ≡ at = omega arith in
+    let first : getD (drop at s) 0 0 ≡ b = getD-drop at s 0 0 ∙ (ap (λ i. getD s i 0) there ∙ sym q) in
+    let both = neither (eqb b 102) (eqb b 70) e in
+    sym (no-for (drop at s) (rw first (both .0)) (rw first (both .1)))
+  where
+    neither : (x y : Bool) → x || y ≡ false → (x ≡ false) × (y ≡ false)
+    neither true y e = absurd (true-yes false (sym e))
+    neither false y e = (refl, e)
 
-  module _ (w : isWhite (getD s 0 0) ≡ true) (n : ℕ) (q : n ≡ forLen s) where
-    pub plain-for : (n ≡ 0 → ⊥) → Measured plainLen s n
-    unfolding plainLen
-    plain-for z = record {
-      is = let k : 0 < n = omega arith in rw front (rw (w, ← front, ← q, lt-ltb 0 n k));
-      some = λ k. omega arith;
-      within = rw q (for-le s);
-    }
+pub for-within : (s : List ℕ) (at : ℕ) {b : ℕ} → b ≡ getD s at 0 → eqb b 102 || eqb b 70 ≡ true → at < length s
+for-within s at {b} q e =
+    by-test (eqb b 102)
+    (λ t. byte-within s at 101 (sym q ∙ eqb→eq b 102 t))
+    (λ t. byte-within s at 69 (sym q ∙ eqb→eq b 70 (true-yes (eqb b 70) (rw (no-false (eqb b 102) t) at e))))
 
-    pub plain-white : n ≡ 0 → (m : ℕ) → m ≡ whiteLen s → Measured plainLen s m
-    unfolding plainLen
-    plain-white z m e = record {
-      is = rw front (rw (w, ← front, ← q, z) e);
-      some = λ k. rw e (white-some s h w);
-      within = rw e (white-le s);
-    }
+pub for-rest : (s : List ℕ) (at : ℕ) {r : Bool} → r ≡ isFor (take (length s - at) (drop at s)) → r ≡ isFor (drop at s)
+for-rest s at q = q ∙ ap isFor (rest s at)
 
-  module _ (w : isWhite (getD s 0 0) ≡ false) where
-    pub plain-open : getD s 0 0 ≡ 40 → Measured plainLen s 1
-    unfolding plainLen
-    plain-open e = record { is = rw front (rw (w, eq-eqb (getD s 0 0) 40 e)); some = λ k. omega arith; within = h }
+-- ---- white space at the front is a token of its own
 
-    pub plain-token : (getD s 0 0 ≡ 40 → ⊥) → {n : ℕ} {comment : Bool} → TookToken s 0 n comment → Measured plainLen s n
-    unfolding plainLen
-    plain-token e t = record { is = let k : tokenLen s ≡ plainLen s = rw front (rw (w, ne-eqb (getD s 0 0) 40 e)) in omega (arith, t .is); some = λ k. t .some h; within = t .within h }
+pub white-is : (comments : Bool) (s : List ℕ) → whiteKind (kindOf comments s) ≡ isWhite (getD s 0 0)
+unfolding kindOf openedKind
+white-is comments [] = refl
+white-is comments (b ∷ s) =
+    by-test (isWhite b)
+    (λ t. let e = yes-true (isWhite b) t in rw e)
+    (λ t.
+    let e = no-false (isWhite b) t in
+    let opened = openedKind comments (b ∷ s) in
+    rw e
+    (cond-has P (not (isQuote b || eqb b 40 || eqb b 59)) token.Plain (cond (isQuote b) token.Quoted (cond (eqb b 59) token.Semicolon opened))
+    (λ u. refl)
+    (λ u. cond-has P (isQuote b) token.Quoted (cond (eqb b 59) token.Semicolon opened)
+    (λ v. refl)
+    (λ v. cond-has P (eqb b 59) token.Semicolon opened
+    (λ w. refl)
+    (λ w. cond-has P (comments && ltb 0 (commentLen (b ∷ s))) token.Comment token.Open (λ x. refl) (λ x. refl))))))
+  where
+    P : Kind → Type 0
+    P what = whiteKind what ≡ false
 
-  pub commented-open : getD s 0 0 ≡ 40 → {n : ℕ} {comment : Bool} → TookToken s 0 n comment → Measured commentedLen s n
-  unfolding commentedLen
-  commented-open e t = record { is = let k : tokenLen s ≡ commentedLen s = rw front (rw (eq-eqb (getD s 0 0) 40 e)) in omega (arith, t .is); some = λ k. t .some h; within = t .within h }
+no-white : (s : List ℕ) → isWhite (getD s 0 0) ≡ false → whiteLen s ≡ 0
+unfolding whiteLen run
+no-white [] e = refl
+no-white (b ∷ s) e = rw e
 
-  pub commented-plain : (getD s 0 0 ≡ 40 → ⊥) → {n : ℕ} → Measured plainLen s n → Measured commentedLen s n
-  unfolding commentedLen
-  commented-plain e m = record { is = m .is ∙ rw front (rw (ne-eqb (getD s 0 0) 40 e)); some = m .some; within = m .within }
+-- ---- the token at a place
 
--- ---- what is left of a value
+module _ {comments : Bool} {s : List ℕ} {i e : ℕ} {what : Kind} (t : tokens.Took comments s i what e) {kind : ReceivedKind} {white : Bool} (qk : kind ≡ kindIn what) (qw : white ≡ whiteKind what) where
+  white-there : white ≡ isWhite (getD (drop i s) 0 0)
+  white-there = qw ∙ (ap whiteKind (t .what) ∙ white-is comments (drop i s))
 
-module _ (k : ℕ) (s : List ℕ) {n : ℕ} where
-  pub left-plain : length s ≤ k → Measured plainLen s n → Measured (leftLen k) s n
-  unfolding leftLen
-  left-plain h m = record { is = m .is ∙ rw (le-leb (length s) k h); some = m .some; within = m .within }
+  -- no for stands there
+  none : startsFor (eqb i 0) (drop i s) ≡ false → Took comments s i kind e
+  unfolding receivedKind receivedSize
+  none n = record { what = rw n (qk ∙ ap kindIn (t .what)); is = rw (n, ← t .what) (t .is); some = t .some; within = t .within }
 
-  pub left-commented : k < length s → Measured commentedLen s n → Measured (leftLen k) s n
-  unfolding leftLen
-  left-commented h m = record { is = m .is ∙ rw (lt-leb (length s) k h); some = m .some; within = m .within }
+  pub took-later : white || eqb i 0 ≡ false → Took comments s i kind e
+  unfolding startsFor
+  took-later n = none (rw (← white-there, n))
 
--- a place of a text, and the place after the token there
-pub record Next (size : List ℕ → ℕ) (s : List ℕ) (i e : ℕ) : Type 0 where
-  pub is : e ≡ i + size (drop i s)
-  pub some : i < e
-  pub within : e ≤ length s
+  module _ {word : ℕ} (q : word ≡ cond white e i) where
+    white-size : (x : Bool) → white ≡ x → cond x e i ≡ i + whiteLen (drop i s)
+    unfolding sizeOf whiteLen
+    white-size true z =
+        let k : what ≡ token.White = kind-is what (sym qw ∙ z) in
+        rw k at (t .is)
+      where
+        kind-is : (k : Kind) → whiteKind k ≡ true → k ≡ token.White
+        kind-is token.Comment h = absurd (true-yes false h)
+        kind-is token.Quoted h = absurd (true-yes false h)
+        kind-is token.White h = refl
+        kind-is token.Open h = absurd (true-yes false h)
+        kind-is token.Semicolon h = absurd (true-yes false h)
+        kind-is token.Plain h = absurd (true-yes false h)
+        kind-is token.End h = absurd (true-yes false h)
+    white-size false z = let none-there = no-white (drop i s) (sym white-there ∙ z) in omega (arith, none-there)
 
-pub next : (size : List ℕ → ℕ) (s : List ℕ) (i : ℕ) {n : ℕ} → i < length s → Measured size (take (length s - i) (drop i s)) n → Next size s i (i + n)
-next size s i {n} h m =
-    let t : Measured size (drop i s) n = rw (rest s i) at m in
-    let k : 0 < length (drop i s) = rw length-drop (omega arith) in
-    record { is = ap (λ j. i + j) (t .is); some = omega (arith, t .some k); within = omega (arith, t .within, length-drop i s) }
+    place : word ≡ i + whiteLen (drop i s)
+    place = q ∙ white-size white refl
 
--- ---- the first unclosed parenthesis
+    word-there : drop word s ≡ drop (whiteLen (drop i s)) (drop i s)
+    word-there = ap (λ n. drop n s) place ∙ sym (drop-drop (whiteLen (drop i s)) i s)
 
-no-length : (n : ℕ) → eqb n 0 ≡ not (ltb 0 n)
-no-length zero = refl
-no-length (suc n) = rw (ne-eqb (suc n) 0 (λ e. not-suc-le-zero {n = 0} (omega arith)), lt-ltb 0 (suc n) (omega arith))
+    module _ (m : white || eqb i 0 ≡ true) where
+      pub took-other : isFor (drop word s) ≡ false → Took comments s i kind e
+      unfolding startsFor
+      took-other f = none (rw (← white-there, m, ← word-there, f))
 
-module _ (token : List ℕ) where
-  pub unclosed-other : (getD token 0 0 ≡ 40 → ⊥) → false ≡ isUnclosed token
-  unfolding isUnclosed
-  unclosed-other h = rw (ne-eqb (getD token 0 0) 40 h)
+      module _ (f : isFor (drop word s) ≡ true) where
+        there : startsFor (eqb i 0) (drop i s) ≡ true
+        unfolding startsFor
+        there = rw (← white-there, m, ← word-there, f)
 
-  pub unclosed-open : {e : ℕ} → getD token 0 0 ≡ 40 → e ≡ 0 + commentLen (drop 0 token) → eqb e 0 ≡ isUnclosed token
-  unfolding isUnclosed isComment
-  unclosed-open {e} h q = let z : e ≡ commentLen token = omega (arith, q) in rw (eq-eqb (getD token 0 0) 40 h, z) (no-length (commentLen token))
+        pub word-long : word + 4 ≤ length s
+        word-long = omega (arith, for-long (drop word s) f, length-drop word s)
 
-module _ {s : List ℕ} {i e : ℕ} (h : i < length s) (x : Next commentedLen s i e) where
-  parted : cutBy commentedLen (drop i s) ≡ take (e - i) (drop i s) ∷ cutBy commentedLen (drop e s)
-  parted = cut-next commentedLen s i e h (x .is) (x .some)
+        pub word-after : i ≤ length s
+        word-after = omega (arith, word-long, place)
 
-  pub unclosed-here : isUnclosed (take (e - i) (drop i s)) ≡ true → length s - i ≡ unclosedLen (drop i s)
-  unfolding unclosedLen unclosedOf
-  unclosed-here q =
-      let whole : joined (take (e - i) (drop i s) ∷ cutBy commentedLen (drop e s)) ≡ drop i s = sym (ap joined parted) ∙ cut-joined commentedLen (drop i s) in
-      rw (parted, q) (sym (length-drop i s) ∙ sym (ap length whole))
+        module _ {n : ℕ} (c : n ≡ clauseLen (take (length s - i) (drop i s))) where
+          size : clauseLen (drop i s) ≡ n
+          size = sym (rw (rest s i) at c)
 
-  pub unclosed-later : isUnclosed (take (e - i) (drop i s)) ≡ false → unclosedLen (drop i s) ≡ unclosedLen (drop e s)
-  unfolding unclosedLen unclosedOf
-  unclosed-later q = rw (parted, q)
+          pub clause-long : i + n ≤ length s
+          clause-long = omega (arith, size, clause-le (drop i s), length-drop i s, word-after)
 
-pub unclosed-none : (s : List ℕ) (i : ℕ) → length s ≤ i → unclosedLen (drop i s) ≡ 0
-unfolding unclosedLen unclosedOf
-unclosed-none s i h = rw (drop-of-length-le s {i = i} h, cut-nil commentedLen)
+          pub took-bare : n ≡ 0 → Took comments s i BareFor (word + 4)
+          unfolding receivedKind receivedSize
+          took-bare z = record {
+            what = rw (there, size, z);
+            is = rw (there, size, z) (omega (arith, place));
+            some = λ l. omega (arith, place);
+            within = λ l. word-long;
+          }
 
--- ---- tokens that are comments
-
-pub lone-paren : isComment (40 ∷ []) ≡ false
-unfolding isComment commentLen closing depthAfter past
-lone-paren = refl
-
-pub no-token : isComment [] ≡ false
-unfolding isComment commentLen
-no-token = refl
-
-abbrev EndsComment : List ℕ → ℕ → Type 0
-EndsComment s n = isComment (take (suc (pred n)) s) ≡ true → (0 < commentLen s) × (suc (pred n) ≡ commentLen s)
-
-sized : (s : List ℕ) (n : ℕ) → 0 < n → (isComment (take n s) ≡ true → (0 < commentLen s) × (n ≡ commentLen s)) → EndsComment s n
-sized s zero h c = absurd (not-suc-le-zero h)
-sized s (suc n) h c = c
-
-open-comment : (k : ℕ) (s : List ℕ) → EndsComment (40 ∷ s) (leftLen k (40 ∷ s))
-unfolding leftLen plainLen commentedLen
-open-comment k s =
-    cond-has (λ n. EndsComment (40 ∷ s) n) (leb (length (40 ∷ s)) k) 1 (tokenLen (40 ∷ s))
-    (λ t e. absurd (true-yes false (sym lone-paren ∙ e)))
-    (λ t. sized (40 ∷ s) (tokenLen (40 ∷ s)) (token-some 40 s) (token-is-comment 40 s))
-
--- a token that is a comment ends where the comment does
-pub left-comment : (k b : ℕ) (s : List ℕ) → EndsComment (b ∷ s) (leftLen k (b ∷ s))
-left-comment k b s =
-    by-test (eqb b 40)
-    (λ t. rw (eqb→eq b 40 t) (open-comment k s))
-    (λ t e. absurd (true-yes false (sym (other-kind b (suc (pred (leftLen k (b ∷ s)))) s (eqb-no {a = b} {b = 40} t)) ∙ e)))
-
-pub open-not-for : (s : List ℕ) → forLen (40 ∷ s) ≡ 0
-unfolding forLen whiteLen run isFor sameAnyCase bytes lower
-open-not-for s = refl
-
--- a for at the very start is no comment
-pub first-other : (s : List ℕ) → isComment (take (forLen s) s) ≡ false
-first-other [] = rw take-nil no-token
-first-other (b ∷ s) =
-    by-test (eqb b 40)
-    (λ t. rw (eqb→eq b 40 t, open-not-for s) no-token)
-    (λ t. other-kind b (forLen (b ∷ s)) s (eqb-no {a = b} {b = 40} t))
+          pub took-clause : (n ≡ 0 → ⊥) → Took comments s i Clause (i + n)
+          unfolding receivedKind receivedSize
+          took-clause z = record {
+            what = rw (there, size, ne-eqb n 0 z);
+            is = rw (there, size, ne-eqb n 0 z);
+            some = λ l. omega (arith, z);
+            within = λ l. clause-long;
+          }

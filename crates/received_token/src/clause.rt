@@ -1,17 +1,19 @@
 // FOR clauses.
 ghost use mathlib.Core.Path.{_≡_};
-ghost use Rattle.received_token.specs.Clause.{isWhite, whiteLen, isFor, angledLen, clauseLen, forLen, isClause, isRemoved};
+ghost use Rattle.received_token.specs.Clause.{whiteLen, isFor, angledLen, clauseLen};
+ghost use Rattle.structured_token.specs.Tokens.{isWhite};
+ghost use lib.ListN.{drop};
 use address::Scan;
 
 // Whether a byte is a space, a TAB or of a fold.
-pub(crate) fn is_white(b: u8) -> bool
+fn is_white(b: u8) -> bool
     ensures { λ r. ⌜ r ≡ isWhite b ⌝ }
 {
     (b == 32) | (b == 9) | (b == 13) | (b == 10)
 }
 
 // How much white space stands at the front.
-pub(crate) fn white_len(s: &[u8]) -> usize
+fn white_len(s: &[u8]) -> usize
     ensures { λ r. ⌜ r ≡ whiteLen (now (s .entry)) ⌝ }
 {
     let mut i = 0;
@@ -24,8 +26,18 @@ pub(crate) fn white_len(s: &[u8]) -> usize
     i
 }
 
-// Whether the word for stands at the front.
-fn is_for(s: &[u8]) -> bool
+// Whether the word for stands at a place.
+pub(crate) fn is_for(s: &[u8], at: usize) -> bool
+    ensures { λ r. ⌜ r ≡ isFor (drop at (now (s .entry))) ⌝ }
+{
+    let first = line::byte_at(s, at);
+    if !((first == b'f') | (first == b'F')) {
+        return false;
+    }
+    is_for_there(&s[at..])
+}
+
+fn is_for_there(s: &[u8]) -> bool
     ensures { λ r. ⌜ r ≡ isFor (now (s .entry)) ⌝ }
 {
     let after = line::byte_at(s, 3);
@@ -52,7 +64,7 @@ fn angled_len(s: &[u8]) -> usize
 }
 
 // How long the clause is at the front; 0 where there is none. The word and the byte after it are 4 bytes.
-fn clause_len(s: &[u8]) -> usize
+pub(crate) fn clause_len(s: &[u8]) -> usize
     ensures { λ r. ⌜ r ≡ clauseLen (now (s .entry)) ⌝ }
 {
     if s.len() < 4 {
@@ -60,7 +72,7 @@ fn clause_len(s: &[u8]) -> usize
     }
     let white = white_len(s);
     let word = &s[white..];
-    if !is_for(word) {
+    if !is_for_there(word) {
         return 0;
     }
     let more = &word[3..];
@@ -70,36 +82,4 @@ fn clause_len(s: &[u8]) -> usize
         return 0;
     }
     white + 3 + blanks + n
-}
-
-// The same with a for that no address follows.
-pub fn for_len(s: &[u8]) -> usize
-    ensures { λ r. ⌜ r ≡ forLen (now (s .entry)) ⌝ }
-{
-    if s.len() < 4 {
-        return 0;
-    }
-    let white = white_len(s);
-    if !is_for(&s[white..]) {
-        return 0;
-    }
-    let n = clause_len(s);
-    if n == 0 {
-        return white + 4;
-    }
-    n
-}
-
-// Whether a text is a clause.
-pub fn is_clause(s: &[u8]) -> bool
-    ensures { λ r. ⌜ r ≡ isClause (now (s .entry)) ⌝ }
-{
-    clause_len(s) == s.len()
-}
-
-// Whether a text is a clause whose address is not ASCII.
-pub fn is_removed(s: &[u8]) -> bool
-    ensures { λ r. ⌜ r ≡ isRemoved (now (s .entry)) ⌝ }
-{
-    is_clause(s) & !utf8::is_ascii(s)
 }

@@ -1,7 +1,7 @@
 -- The words of our rows are those of the sentence: each is in the encoding that holds more whole characters of what is left in its room, Q
 -- when equal, and takes all that this encoding holds. Assumes nothing.
 use mathlib.Core.Path.{_≡_, refl, sym, ap, _∙_}
-use mathlib.Core.Bool.{Bool, true, false, not, _||_}
+use mathlib.Core.Bool.{Bool, true, false, not, cond, _||_}
 use mathlib.Core.List.{List, [], _∷_, _++_, append-assoc, append-nil}
 use Prim.Native.Nat.{ℕ, _-_, _≤_, _<_}
 use native.Mathlib.Omega.{arith}
@@ -157,6 +157,21 @@ module _ (room : ℕ) (cs : List (List ℕ)) where
   its-taken : Taken room cs its-run its-rest
   unfolding its-run its-rest
   its-taken = rw (← (longest .joins)) at (run-taken room its-run its-rest (longest .passes) (longest .filled))
+
+  -- where B holds more, it holds what Q does not
+  pub more-in-b : holdsMore room cs ≡ B → (cs ≡ held room B cs .0 ++ held room B cs .1) × T (holds room (joined (held room B cs .0)) B) × T (not (holds room (joined (held room B cs .0)) Q))
+  unfolding its-run its-rest chosen
+  more-in-b e =
+      let k = its-taken in
+      let is : held room B cs ≡ (its-run, its-rest) = rw e at (k .is) in
+      let kind : chosen encodings room (joined its-run) ≡ B = k .kind ∙ e in
+      let p = of-b (holds room (joined its-run) Q) (holds room (joined its-run) B) kind in
+      rw is (longest .joins, p .0, p .1)
+    where
+      of-b : (q b : Bool) → cond q Q (cond b B Q) ≡ B → T b × T (not q)
+      of-b true b e = let z : _≡_ {A = ℕ} 0 1 = cc in absurd (omega arith)
+      of-b false true e = (tt, tt)
+      of-b false false e = let z : _≡_ {A = ℕ} 0 1 = cc in absurd (omega arith)
 
 -- Each word of a row is the one of the sentence, and the words after it are those of what is left.
 pub runs-choice : (room : ℕ) (c : List ℕ) (cs : List (List ℕ)) → T (fitsRoom encodings room 0 (c ∷ []))

@@ -30,7 +30,8 @@ use Rattle.row.specs.LayoutLaws.{Laid, ours, oursIn, lines-laid}
 use Rattle.row.specs.Reading.{role, step, reading, wordsRead, readsAs}
 use Rattle.row.specs.ReadingLaws.{laid-once, fault-not-laid}
 use Rattle.row.specs.Demand3.{Proper, RowOf, LaidWords, Demand3}
-use Rattle.row.specs.Demand3Laws.{AllProper, none-proper, cons-proper, first-proper, rest-proper, rowWords, row-laid, row-of}
+use Rattle.row.specs.RoomsLaws.{AllProper, none-proper, cons-proper, first-proper, rest-proper}
+use Rattle.row.specs.Demand3Laws.{rowWords, row-laid, row-of}
 
 -- ---- what demand 3 says of a row that is laid out as these words
 

@@ -1,7 +1,7 @@
--- Demand 3 holds of every text of UTF-8 and its row. Proved once over the encodings and the room of a word. Assumes nothing.
+-- Demand 3 holds of every text of UTF-8 and its row: demand 3 by line (RoomsLaws.antt) with one room for all lines. Assumes nothing.
 use mathlib.Core.Path.{_≡_, refl, sym, ap, _∙_}
 use mathlib.Core.List.{List, [], _∷_, _++_, map, nil≢cons, List·Memᴰ, List·Memᴰ·head, List·Memᴰ·tail, List·Memᴰ·not-nil}
-use Prim.Native.Nat.{ℕ, suc, _+_, _≤_}
+use Prim.Native.Nat.{ℕ, suc, _+_, _≤_, _<_}
 use native.Mathlib.Omega.{arith}
 use lib.ListN.{length, length-append, length-map}
 use lib.Dec.{T, le→leb, lit≤}
@@ -10,8 +10,9 @@ use Rattle.lists.specs.Lists.{all, nonempty, joined}
 use Rattle.lists.specs.ListsLaws.{all-append, all-joined, all-mem, joined-append, joined-map}
 use Rattle.lists.specs.Byte.{isByte}
 use Rattle.utf8.specs.Utf8.{isChar, chars, utf8}
-use Rattle.utf8.specs.Utf8Laws.{chars-joined, chars-of, utf8-of, utf8-bytes, char-some}
-use Rattle.cut.specs.CutLaws.{AllFit, cut-joined, cut-fits, cut-some, fewest}
+use Rattle.utf8.specs.Utf8Laws.{chars-nil, chars-joined, utf8-of, utf8-bytes, char-some}
+use Rattle.cut.specs.Cut.{cut}
+use Rattle.cut.specs.CutLaws.{AllFit, cut-joined, cut-more, cut-some}
 use Rattle.word_spelling.specs.Spelling.{closing}
 use Rattle.row.specs.declared.Encoding.{Encoding}
 use Rattle.row.specs.declared.Encoding.the-variants.{Q}
@@ -21,30 +22,7 @@ use Rattle.row.specs.Layout.{Word, wordBytes, addedText}
 use Rattle.row.specs.LayoutLaws.{Laid, oursIn, lines-laid}
 use Rattle.row.specs.FitsLaws.{length-opening-in, length-word-in, spell-in-some, fits-any-line, fits-part, some-of, char-fits, chosen-holds}
 use Rattle.row.specs.Demand3.{Proper, RowOf, Demand3In, LaidWords, Demand3}
-
--- ---- words that are proper
-
--- each of these words is
-abbrev pub AllProper : List Encoding → ℕ → List Word → Type 0
-AllProper es limit ws = (w : Word) → List·Memᴰ w ws → Proper es limit w
-
-module _ {es : List Encoding} {limit : ℕ} where
-  pub none-proper : AllProper es limit []
-  none-proper v m = absurd (List·Memᴰ·not-nil m)
-
-  pub cons-proper : {w : Word} {ws : List Word} → Proper es limit w → AllProper es limit ws → AllProper es limit (w ∷ ws)
-  cons-proper p ps v (List·Memᴰ·head e) = rw e p
-  cons-proper p ps v (List·Memᴰ·tail m) = ps v m
-
-  pub first-proper : {w : Word} {ws : List Word} → AllProper es limit (w ∷ ws) → Proper es limit w
-  first-proper {w} h = h w (List·Memᴰ·head refl)
-
-  pub rest-proper : {w : Word} {ws : List Word} → AllProper es limit (w ∷ ws) → AllProper es limit ws
-  rest-proper h = λ v m. h v (List·Memᴰ·tail m)
-
--- a word is its opening and closing, 12 characters, and what stands between
-pub length-word : (w : Word) → length (wordBytes w) ≡ length (w .standing) + 12
-length-word w = omega (arith, length-append (openingIn (w .encoding)) (w .standing ++ closing), length-append (w .standing) closing, length-opening-in (w .encoding))
+use Rattle.row.specs.RoomsLaws.{AllProper, none-proper, cons-proper, first-proper, rest-proper, length-word, OnLines, ByLine, by-line}
 
 -- ---- the runs of characters that our words hold
 
@@ -60,58 +38,40 @@ module _ (es : List Encoding) (room : ℕ) where
   runs-some [] = tt
   runs-some (c ∷ cs) = cut-some (fitsRoom es room) 0 (c ∷ []) cs tt
 
-  runs-fit : T (nonempty es) → 12 ≤ room → (cs : List (List ℕ)) → T (all isChar cs) → AllFit (fitsRoom es room) 0 (runs es room cs)
+  -- they are the lines of demand 3 by line, all of one room
+  runs-cut : T (nonempty es) → 12 ≤ room → (c : List ℕ) (cs : List (List ℕ)) → T (isChar c) → runs es room (c ∷ cs) ≡ cut (fitsRoom es room) 0 [] (c ∷ cs)
   unfolding runs
-  runs-fit n h [] t = tt
-  runs-fit n h (c ∷ cs) t =
-      let both = and-yes (isChar c) (all isChar cs) t in
-      cut-fits (fitsRoom es room) isChar (λ k d u. char-fits es n room h (suc k) d u) 0 (c ∷ []) cs (char-fits es n room h 0 c (both .0)) (both .1)
+  runs-cut n h c cs t = sym (cut-more (fitsRoom es room) 0 [] c cs (char-fits es n room h 0 c t))
 
-  runs-fewest : (cs : List (List ℕ)) (hs : List (List (List ℕ))) → AllFit (fitsRoom es room) 0 hs → joined hs ≡ cs → length (runs es room cs) ≤ length hs
-  unfolding runs
-  runs-fewest [] hs f e = omega arith
-  runs-fewest (c ∷ cs) [] f e = absurd (nil≢cons e)
-  runs-fewest (c ∷ cs) (h ∷ hs) f e = fewest (fitsRoom es room) (fits-part es room) 0 [] (c ∷ []) cs h hs f e
+  runs-by-line : (text : List ℕ) → T (nonempty es) → 12 ≤ room → T (utf8 text) → ByLine es (λ _. room) text (cut (fitsRoom es room) 0 [] (chars text))
+  runs-by-line text n h u = by-line es (λ _. room) text n (λ k c t. char-fits es n room h (suc k) c t) u
 
--- ---- the runs of characters that any proper words hold
+  runs-fit : (text : List ℕ) → T (nonempty es) → 12 ≤ room → T (utf8 text) → AllFit (fitsRoom es room) 0 (runs es room (chars text))
+  unfolding runs utf8
+  runs-fit text n h u = go (chars text) u (runs-by-line text n h u .fit)
+    where
+      go : (cs : List (List ℕ)) → T (all isChar cs) → AllFit (fitsRoom es room) 0 (cut (fitsRoom es room) 0 [] cs) → AllFit (fitsRoom es room) 0 (runs es room cs)
+      go [] t f = tt
+      go (c ∷ cs) t f = rw (runs-cut n h c cs (and-yes (isChar c) (all isChar cs) t .0)) f
 
--- the characters of each word
-abbrev pub runsOf : List Word → List (List (List ℕ))
-runsOf [] = []
-runsOf (w ∷ ws) = chars (w .added) ∷ runsOf ws
+  runs-fewest : (text : List ℕ) → T (nonempty es) → 12 ≤ room → T (utf8 text) → (ws : List Word) → AllProper es (room + 12) ws → addedText ws ≡ text
+      → length (runs es room (chars text)) ≤ length ws
+  unfolding runs utf8
+  runs-fewest text n h u ws p e = go (chars text) refl u
+    where
+      on-lines : (k : ℕ) (ws : List Word) → AllProper es (room + 12) ws → OnLines (λ _. room) k ws (length ws)
+      on-lines k [] p = OnLines.end
+      on-lines k (w ∷ ws) p = OnLines.word {k = k} {w = w} (omega (arith, length-word w, first-proper p .short)) (on-lines (suc k) ws (rest-proper p))
 
--- A proper word holds its characters in any room that what stands in it has.
-pub word-fits : {es : List Encoding} {limit : ℕ} {w : Word} (room k : ℕ) → Proper es limit w → length (w .standing) ≤ room → T (fitsRoom es room k (chars (w .added)))
-word-fits {w = w} room k p h =
-    some-of room k (chars (w .added)) (p .allowed)
-    (rw (chars-joined (w .added)) (le→leb (length (spellIn (w .encoding) (w .added))) room (rw (← (p .spelt)) h)))
+      some-words : (c : List ℕ) (cs : List (List ℕ)) → chars text ≡ c ∷ cs → (ws : List Word) → addedText ws ≡ text → 0 < length ws
+      some-words c cs q [] e = absurd (nil≢cons (sym (chars-nil) ∙ ap chars e ∙ q))
+      some-words c cs q (w ∷ ws) e = omega arith
 
-module _ (es : List Encoding) (room : ℕ) where
-  pub runs-of-fit : (k : ℕ) (ws : List Word) → AllProper es (room + 12) ws → AllFit (fitsRoom es room) k (runsOf ws)
-  runs-of-fit k [] h = tt
-  runs-of-fit k (w ∷ ws) h = (word-fits room k (first-proper h) (omega (arith, length-word w, first-proper h .short)), runs-of-fit (suc k) ws (rest-proper h))
-
-  runs-of-chars : (ws : List Word) → AllProper es (room + 12) ws → T (all isChar (joined (runsOf ws)))
-  unfolding utf8
-  runs-of-chars [] h = tt
-  runs-of-chars (w ∷ ws) h = all-append isChar (chars (w .added)) (joined (runsOf ws)) (first-proper h .whole) (runs-of-chars ws (rest-proper h))
-
-runs-of-text : (ws : List Word) → joined (joined (runsOf ws)) ≡ addedText ws
-runs-of-text [] = refl
-runs-of-text (w ∷ ws) = rw (joined-append (chars (w .added)) (joined (runsOf ws)), chars-joined (w .added), runs-of-text ws) refl
-
-pub length-runs-of : (ws : List Word) → length (runsOf ws) ≡ length ws
-length-runs-of [] = refl
-length-runs-of (w ∷ ws) = ap suc (length-runs-of ws)
-
-module _ (es : List Encoding) (room : ℕ) where
-  -- the words' text, cut into characters
-  pub runs-of-whole : (ws : List Word) → AllProper es (room + 12) ws → chars (addedText ws) ≡ joined (runsOf ws)
-  runs-of-whole ws h = ap chars (sym (runs-of-text ws)) ∙ chars-of (joined (runsOf ws)) (runs-of-chars es room ws h)
-
-  words-fewest : (ws : List Word) → AllProper es (room + 12) ws → length (runs es room (chars (addedText ws))) ≤ length ws
-  words-fewest ws h =
-      rw (runs-of-whole ws h, ← (length-runs-of ws)) (runs-fewest es room (joined (runsOf ws)) (runsOf ws) (runs-of-fit es room 0 ws h) refl)
+      go : (cs : List (List ℕ)) → chars text ≡ cs → T (all isChar cs) → length (runs es room cs) ≤ length ws
+      go [] q t = omega arith
+      go (c ∷ cs) q t =
+          rw (runs-cut n h c cs (and-yes (isChar c) (all isChar cs) t .0), ← q)
+          (runs-by-line text n h u .fewest-lines (room + 12) (length ws) ws p e (on-lines 0 ws p) (some-words c cs q ws e))
 
 -- ---- our words
 
@@ -157,20 +117,19 @@ module _ (es : List Encoding) (room : ℕ) where
         words = rowWords text;
         laid = (row-laid text u, refl);
         reads = ours-text (map joined rs) ∙ joined-map rs ∙ ap joined (runs-joined es room (chars text)) ∙ chars-joined text;
-        proper = ours-proper 0 rs (runs-fit es room n h (chars text) u) (all-joined isChar rs (rw (runs-joined es room (chars text)) u));
+        proper = ours-proper 0 rs (runs-fit es room text n h u) (all-joined isChar rs (rw (runs-joined es room (chars text)) u));
       }
 
-  row-fewest : (text : List ℕ) (ws : List Word) → addedText ws ≡ text → AllProper es (room + 12) ws → length (rowWords text) ≤ length ws
+  length-words : (text : List ℕ) → length (rowWords text) ≡ length (runs es room (chars text))
   unfolding rowWords
-  row-fewest text ws e h =
-      rw (length-map (map joined (runs es room (chars text))) (oursIn es room), length-map (runs es room (chars text)) joined, ← e) (words-fewest es room ws h)
+  length-words text = rw (length-map (map joined (runs es room (chars text))) (oursIn es room), length-map (runs es room (chars text)) joined)
 
   -- Demand 3, over the encodings and the room. A room of 12 holds every character; the other 12 are the opening and the closing of a word.
   pub demand-3-in : (text : List ℕ) → T (nonempty es) → 12 ≤ room → T (utf8 text) → Demand3In es (room + 12) LaidWords text (rowIn es room text)
   demand-3-in text n h u = record {
     count = length (rowWords text);
     ours = row-of text n h u;
-    fewest = λ other n r. rw (← (r .laid .1)) (row-fewest text (r .words) (r .reads) (r .proper));
+    fewest = λ other m r. rw (← (r .laid .1), length-words text) (runs-fewest es room text n h u (r .words) (r .proper) (r .reads));
   }
 
 -- Demand 3.
@@ -198,7 +157,7 @@ pub run-length : (es : List Encoding) (room : ℕ) (text : List ℕ) → T (none
     → (1 ≤ length (oursIn es room (joined run) .standing)) × (length (oursIn es room (joined run) .standing) ≤ room)
 unfolding utf8
 run-length es room text n h u run m =
-    let chosen-one = chosen-holds es room 0 run (fit-mem es room 0 (runs-fit es room n h (chars text) u) m) in (
+    let chosen-one = chosen-holds es room 0 run (fit-mem es room 0 (runs-fit es room text n h u) m) in (
       spell-in-some (chosen es room (joined run)) (joined run)
           (run-some run (all-mem nonempty (runs-some es room (chars text)) m)
           (all-mem (all isChar) (all-joined isChar (runs es room (chars text)) (rw (runs-joined es room (chars text)) u)) m)),

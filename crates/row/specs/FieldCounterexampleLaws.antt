@@ -23,7 +23,7 @@ use Rattle.row.specs.Layout.LaidAfter.{empty, space, crlf}
 use Rattle.row.specs.LayoutLaws.{Laid, ours, ours-reads}
 use Rattle.row.specs.ReadingLaws.{laid-once}
 use Rattle.row.specs.Demand3.{Proper, RowOf}
-use Rattle.row.specs.Demand3Laws.{none-proper, cons-proper}
+use Rattle.row.specs.RoomsLaws.{none-proper, cons-proper}
 use Rattle.row.specs.FieldRow.{OwnLines, SetAfter, FieldDemand3}
 use Rattle.row.specs.FieldRow.SetAfter.{here, below}
 use Rattle.row.specs.FieldRowLaws.{set-laid}

@@ -1,9 +1,9 @@
--- Demand 3 for a field holds of every text of UTF-8 and its row after a name, over the encodings, the room of a word and the length of the
--- name. Assumes nothing.
+-- Demand 3 for a field holds of every text of UTF-8 and its row after a name: demand 3 by line (RoomsLaws.antt), where the name's line has
+-- less room. Over the encodings, the room of a word and the length of the name. Assumes nothing.
 use mathlib.Core.Path.{_≡_, refl, ap, _∙_}
 use mathlib.Core.Bool.{Bool}
 use mathlib.Core.List.{List, [], _∷_, _++_, map}
-use Prim.Native.Nat.{ℕ, suc, _+_, _-_, _≤_}
+use Prim.Native.Nat.{ℕ, suc, _+_, _-_, _≤_, _<_}
 use native.Mathlib.Omega.{arith}
 use lib.ListN.{length, length-map}
 use lib.Dec.{T, lit≤}
@@ -13,16 +13,17 @@ use Rattle.lists.specs.ListsLaws.{all-joined, joined-map}
 use Rattle.lists.specs.Byte.{isByte}
 use Rattle.utf8.specs.Utf8.{isChar, chars, utf8}
 use Rattle.utf8.specs.Utf8Laws.{chars-joined, utf8-bytes}
-use Rattle.cut.specs.CutLaws.{AllFit, cut-joined, cut-fits, cut-first, fewest}
+use Rattle.cut.specs.CutLaws.{AllFit, cut-joined, cut-first}
 use Rattle.row.specs.declared.Encoding.{Encoding}
 use Rattle.row.specs.Word.{word}
-use Rattle.row.specs.Row.{encodings, fitsRoom, chosen, lines, fitsAfter, runsAfter, linesAfter, rowAfterIn, rowAfter}
+use Rattle.row.specs.Row.{encodings, fitsRoom, chosen, lines, roomAfter, fitsAfter, runsAfter, linesAfter, rowAfterIn, rowAfter}
 use Rattle.row.specs.Layout.{Word, LaidAfter, addedText}
 use Rattle.row.specs.Layout.LaidAfter.{empty, space, crlf}
 use Rattle.row.specs.LayoutLaws.{Laid, oursIn, ours-reads}
-use Rattle.row.specs.FitsLaws.{spell-in-some, fits-after-part, none-fits, char-fits, chosen-holds}
+use Rattle.row.specs.FitsLaws.{spell-in-some, char-fits, chosen-holds}
 use Rattle.row.specs.Demand3.{Proper, RowOf, Demand3In}
-use Rattle.row.specs.Demand3Laws.{AllProper, cons-proper, first-proper, rest-proper, length-word, word-fits, runsOf, runs-of-fit, runs-of-whole, length-runs-of, ours-text, our-proper, ours-proper}
+use Rattle.row.specs.RoomsLaws.{AllProper, cons-proper, first-proper, rest-proper, length-word, OnLines, by-line}
+use Rattle.row.specs.Demand3Laws.{ours-text, our-proper, ours-proper}
 use Rattle.row.specs.FieldRow.{OwnLines, SetAfter, FieldDemand3}
 use Rattle.row.specs.FieldRow.SetAfter.{here, below}
 
@@ -36,28 +37,16 @@ pub set-laid : {limit column : ℕ} {row : List ℕ} {ws : List Word} {n : ℕ} 
 set-laid (here {w = w} a h o) = space (LaidAfter.word {w = w} a (own-laid o))
 set-laid (below o) = own-laid o
 
--- ---- no such row has fewer lines
+-- ---- such a row's words, by line
 
-module _ (es : List Encoding) (some : T (nonempty es)) (room column : ℕ) where
-  -- the lines after the name's have the same room
-  later-fit : (k : ℕ) (rs : List (List (List ℕ))) → AllFit (fitsRoom es room) (suc k) rs → AllFit (fitsAfter es room column) (suc k) rs
-  later-fit k [] f = tt
-  later-fit k (r ∷ rs) f = (f .0, later-fit (suc k) rs (f .1))
+module _ {es : List Encoding} (room column : ℕ) where
+  own-on : (k : ℕ) (ws : List Word) → AllProper es (room + 12) ws → OnLines (roomAfter room column) (suc k) ws (length ws)
+  own-on k [] p = OnLines.end
+  own-on k (w ∷ ws) p = OnLines.word {k = suc k} {w = w} (omega (arith, length-word w, first-proper p .short)) (own-on (suc k) ws (rest-proper p))
 
-  lines-fewest : (cs h : List (List ℕ)) (hs : List (List (List ℕ))) → AllFit (fitsAfter es room column) 0 (h ∷ hs) → h ++ joined hs ≡ cs
-      → length (runsAfter es room column cs) ≤ suc (length hs)
-  unfolding runsAfter
-  lines-fewest cs h hs f e = fewest (fitsAfter es room column) (fits-after-part es room column) 0 [] [] cs h hs f e
-
-  set-fewest : {row : List ℕ} {ws : List Word} {n : ℕ} → SetAfter (room + 12) column row ws n → AllProper es (room + 12) ws
-      → length (runsAfter es room column (chars (addedText ws))) ≤ n
-  set-fewest (here {w = w} {ws = ws} a s o) p =
-      rw (runs-of-whole es room (w ∷ ws) p, ← length-runs-of ws)
-      (lines-fewest (joined (runsOf (w ∷ ws))) (chars (w .added)) (runsOf ws)
-      (word-fits (room - column) 0 (first-proper p) (omega (arith, length-word w, s)), later-fit 0 (runsOf ws) (runs-of-fit es room 1 ws (rest-proper p))) refl)
-  set-fewest (below {ws = ws} o) p =
-      rw (runs-of-whole es room ws p, ← length-runs-of ws)
-      (lines-fewest (joined (runsOf ws)) [] (runsOf ws) (none-fits es some (room - column) 0, later-fit 0 (runsOf ws) (runs-of-fit es room 1 ws p)) refl)
+  set-on : {row : List ℕ} {ws : List Word} {n : ℕ} → SetAfter (room + 12) column row ws n → AllProper es (room + 12) ws → OnLines (roomAfter room column) 0 ws n × (0 < n)
+  set-on (here {w = w} {ws = ws} a s o) p = (OnLines.word {k = 0} {w = w} (omega (arith, length-word w, s)) (own-on 0 ws (rest-proper p)), omega arith)
+  set-on (below {ws = ws} o) p = (OnLines.without (own-on 0 ws p), omega arith)
 
 -- ---- our row
 
@@ -112,11 +101,6 @@ module _ (es : List Encoding) (room column : ℕ) where
       go [] p q = q
       go (b ∷ bytes) p q = cons-proper p q
 
-  runs-after-fit : T (nonempty es) → 12 ≤ room → (cs : List (List ℕ)) → T (all isChar cs) → AllFit (fitsAfter es room column) 0 (runsAfter es room column cs)
-  unfolding runsAfter
-  runs-after-fit n h cs t =
-      cut-fits (fitsAfter es room column) isChar (λ k c u. char-fits es n room h (suc k) c u) 0 [] cs (none-fits es n (room - column) 0) t
-
   pub runs-after-joined : (cs : List (List ℕ)) → joined (runsAfter es room column cs) ≡ cs
   unfolding runsAfter
   runs-after-joined cs = cut-joined (fitsAfter es room column) 0 [] cs
@@ -141,12 +125,14 @@ module _ (es : List Encoding) (room column : ℕ) where
   -- Demand 3 for a field, over the encodings, the room and the column. A room of 12 holds every character.
   pub field-demand-3-in : (text : List ℕ) → T (nonempty es) → 12 ≤ room → T (utf8 text)
       → Demand3In es (room + 12) (SetAfter (room + 12) column) text (rowAfterIn es room column text)
-  unfolding rowAfterIn utf8
-  field-demand-3-in text n h u = record {
-    count = length (runsAfter es room column (chars text));
-    ours = field-row text (runsAfter es room column (chars text)) u (runs-after-joined (chars text)) (runs-after-fit n h (chars text) u) (runs-after-first (chars text));
-    fewest = λ other n′ r. rw (r .reads) at (set-fewest es n room column (r .laid) (r .proper));
-  }
+  unfolding rowAfterIn runsAfter
+  field-demand-3-in text n h u =
+      let runs = runsAfter es room column (chars text) in
+      let l = by-line es (roomAfter room column) text n (λ k c t. char-fits es n room h (suc k) c t) u in record {
+        count = length runs;
+        ours = field-row text runs u (l .whole) (l .fit) (runs-after-first (chars text));
+        fewest = λ other m r. let o = set-on {es = es} room column (r .laid) (r .proper) in l .fewest-lines (room + 12) m (r .words) (r .proper) (r .reads) (o .0) (o .1);
+      }
 
 -- Demand 3 for a field.
 pub field-demand-3 : (column : ℕ) (text : List ℕ) → T (utf8 text) → FieldDemand3 column text (rowAfter column text)

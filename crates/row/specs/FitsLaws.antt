@@ -4,7 +4,7 @@ use mathlib.Core.Path.{_≡_, refl, ap}
 use mathlib.Core.Bool.{Bool, true, false, not, _||_}
 use mathlib.Core.Logic.{⊎-elim}
 use mathlib.Core.List.{List, [], _∷_, _++_, append-nil, List·Memᴰ, List·Memᴰ·head, List·Memᴰ·tail}
-use Prim.Native.Nat.{ℕ, zero, suc, _+_, _-_, _≤_, _<_}
+use Prim.Native.Nat.{ℕ, _+_, _≤_, _<_}
 use native.Mathlib.Omega.{arith}
 use lib.Dec.{T, leb→le, le→leb}
 use lib.ListN.{length, length-append}
@@ -20,7 +20,7 @@ use Rattle.word_spelling.specs.SpellingLaws.{length-spell, length-spell-append,
 use Rattle.row.specs.declared.Encoding.{Encoding}
 use Rattle.row.specs.declared.Encoding.the-variants.{Q, B}
 use Rattle.row.specs.Word.{openingIn, spellIn, word}
-use Rattle.row.specs.Row.{encodings, holds, fitsRoom, chosen, fitsAfter}
+use Rattle.row.specs.Row.{encodings, holds, fitsRoom, chosen, roomAfter, fitsAfter}
 
 pub or-left : (a b : Bool) → T a → T (a || b)
 or-left true b t = tt
@@ -78,8 +78,7 @@ fits-part (x ∷ es) room k d m e t =
 
 pub fits-after-part : (es : List Encoding) (room column k : ℕ) (d m e : List (List ℕ)) → T (fitsAfter es room column k (d ++ (m ++ e)))
     → T (fitsAfter es room column k m)
-fits-after-part es room column zero d m e t = fits-part es (room - column) zero d m e t
-fits-after-part es room column (suc k) d m e t = fits-part es room (suc k) d m e t
+fits-after-part es room column k d m e t = fits-part es (roomAfter room column k) k d m e t
 
 -- ---- what an encoding holds
 

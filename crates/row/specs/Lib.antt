@@ -12,6 +12,7 @@ pub mod Reading
 pub mod ReadingLaws
 pub mod ReadingCases
 pub mod Demand3
+pub mod RoomsLaws
 pub mod Demand3Laws
 pub mod FieldRow
 pub mod FieldRowLaws

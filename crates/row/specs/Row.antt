@@ -54,11 +54,15 @@ row text = rowIn encodings 63 text
 
 -- ---- the row set after a name and its colon, which have `column` characters
 
--- Whether line k of the field holds these characters. On line 0, the name's, "put the first word after the colon and one space, as far as 76
--- characters allow": a name of n characters leaves 62 - n, which is 63 less the name and its colon.
+-- The room of line k of the field. On line 0, the name's, "put the first word after the colon and one space, as far as 76 characters allow": a
+-- name of n characters leaves 62 - n, which is 63 less the name and its colon.
+abbrev pub roomAfter : ℕ → ℕ → ℕ → ℕ
+roomAfter room column zero = room - column
+roomAfter room column (suc k) = room
+
+-- whether line k of the field holds these characters
 abbrev pub fitsAfter : List Encoding → ℕ → ℕ → ℕ → List (List ℕ) → Bool
-fitsAfter es room column zero run = fitsRoom es (room - column) zero run
-fitsAfter es room column (suc k) run = fitsRoom es room (suc k) run
+fitsAfter es room column k run = fitsRoom es (roomAfter room column k) k run
 
 -- the characters on each line of the field; on line 0 there may be none
 unfoldable pub runsAfter : List Encoding → ℕ → ℕ → List (List ℕ) → List (List (List ℕ))

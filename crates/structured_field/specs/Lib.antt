@@ -1,7 +1,7 @@
-pub mod Tokens
-pub mod TokensLaws
 pub mod StructuredField
-pub mod StructuredFieldLaws
-pub mod WritingLaws
 pub mod Grammar
 pub mod GrammarLaws
+pub mod ValueLaws
+pub mod StructuredFieldLaws
+pub mod CalmLaws
+pub mod WritingLaws

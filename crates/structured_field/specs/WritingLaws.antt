@@ -1,5 +1,5 @@
 -- The writing of a structured field and the test of its value, step by step. Assumes nothing.
-use mathlib.Core.Path.{_≡_, sym, _∙_}
+use mathlib.Core.Path.{_≡_, sym, ap, _∙_}
 use mathlib.Core.Bool.{Bool, true, false, _&&_}
 use mathlib.Core.List.{List, [], _∷_, _++_, append-nil, map}
 use Prim.Native.Nat.{ℕ, _+_, _-_, _≤_, _<_}
@@ -18,9 +18,13 @@ use Rattle.comment.specs.PartsLaws.{parts-next, parts-over}
 use Rattle.comment.specs.BoundaryLaws.{length-run-text}
 use Rattle.piece.specs.PieceLaws.{MadeIn}
 use Rattle.encoded_word.specs.MappedLaws.{mapped-next, mapped-none}
-use Rattle.structured_field.specs.Tokens.{isComment, commentOrAscii, asciiOutsideComments, TookToken}
-use Rattle.structured_field.specs.TokensLaws.{tokens-next, tokens-over}
-use Rattle.structured_field.specs.StructuredField.{partSegments, tokenSegments, valueSegments, structuredField}
+use Rattle.encoded_word.specs.SegmentsLaws.{rendered-append}
+use Rattle.structured_token.specs.declared.Kind.{Kind}
+use Rattle.structured_token.specs.Tokens.{sizeOf, goesOn, calmLen, commentKind, Took}
+use Rattle.structured_token.specs.Walk.{clearAll, becoming}
+use Rattle.structured_token.specs.WalkLaws.{At, clear-over, becoming-over, clear-at, becoming-at}
+use Rattle.structured_field.specs.CalmLaws.{calm-clear, calm-bytes, structured-calm}
+use Rattle.structured_field.specs.StructuredField.{partSegments, clear, becomes, structuredFront, valueSegments, structuredField}
 
 -- a part is no longer than the whole
 pub part-served : (s : List ℕ) (i e room : ℕ) → length s ≤ 32768 → length s ≤ room
@@ -56,40 +60,48 @@ module _ (s : List ℕ) (i : ℕ) where
 
 -- ---- a value, token by token
 
-module _ (token : List ℕ) {comment : Bool} (k : comment ≡ isComment token) where
-  pub token-comment : comment ≡ true → rendered (joined (map partSegments (parts token))) ≡ rendered (tokenSegments token)
-  unfolding tokenSegments
+module _ (what : Kind) (token : List ℕ) {comment : Bool} (k : comment ≡ commentKind what) where
+  pub token-comment : comment ≡ true → rendered (joined (map partSegments (parts token))) ≡ rendered (becomes what token)
+  unfolding becomes
   token-comment e = rw (sym k ∙ e)
 
-  pub token-stays : comment ≡ false → token ≡ rendered (tokenSegments token)
-  unfolding tokenSegments rendered
+  pub token-stays : comment ≡ false → token ≡ rendered (becomes what token)
+  unfolding becomes rendered
   token-stays e = rw (sym k ∙ e) (sym (append-nil token))
 
-  pub passed-comment : comment ≡ true → true ≡ commentOrAscii token
-  unfolding commentOrAscii
-  passed-comment e = rw (sym k ∙ e)
+  pub clear-comment : comment ≡ true → true ≡ clear what token
+  unfolding clear
+  clear-comment e = rw (sym k ∙ e)
 
-  pub passed-other : comment ≡ false → all isAscii token ≡ commentOrAscii token
-  unfolding commentOrAscii
-  passed-other e = rw (sym k ∙ e)
+  pub clear-other : comment ≡ false → all isAscii token ≡ clear what token
+  unfolding clear
+  clear-other e = rw (sym k ∙ e)
 
-module _ {s : List ℕ} {i e : ℕ} {comment : Bool} (h : i < length s) (t : TookToken s i e comment) where
-  pub value-next : rendered (valueSegments (drop i s)) ≡ rendered (tokenSegments (take (e - i) (drop i s))) ++ rendered (valueSegments (drop e s))
-  unfolding valueSegments
-  value-next = mapped-next tokenSegments (tokens-next h t)
+module _ {comments on : Bool} {s : List ℕ} {i e : ℕ} {what : Kind} (h : i < length s) (t : Took comments s i what e) (o : on ≡ goesOn comments what) where
+  at-token : At structuredFront comments s i e (record { size = e - i; clear = clear what (take (e - i) (drop i s)); becomes = becomes what (take (e - i) (drop i s)); next = on })
+  at-token =
+      let size : sizeOf what (drop i s) ≡ e - i = omega (arith, t .is) in
+      record { is = rw (← t .what, size, o); end = omega (arith, t .some h); some = λ l. omega (arith, t .some h) }
 
-  pub outside-next : (r : Bool) → r ≡ commentOrAscii (take (e - i) (drop i s)) → asciiOutsideComments (drop i s) ≡ r && asciiOutsideComments (drop e s)
-  unfolding asciiOutsideComments
-  outside-next r q = rw (tokens-next h t, ← q)
+  -- the token, and the bytes after it that stay as they came
+  module _ (k : ℕ) (q : k ≡ e + calmLen (drop e s)) where
+    pub outside-step : {r : Bool} → r ≡ clear what (take (e - i) (drop i s)) → clearAll structuredFront comments (drop i s) ≡ r && clearAll structuredFront on (drop k s)
+    outside-step p =
+        rw p (clear-at structuredFront h at-token ∙ ap (λ x. clear what (take (e - i) (drop i s)) && x) (calm-clear structuredFront on (structured-calm on) s e k q))
 
-module _ (s : List ℕ) (i : ℕ) (h : length s ≤ i) where
-  pub value-none : rendered (valueSegments (drop i s)) ≡ []
-  unfolding valueSegments
-  value-none = mapped-none tokenSegments (tokens-over s i h)
+    pub value-calm : rendered (becoming structuredFront on (drop e s)) ≡ take (k - e) (drop e s) ++ rendered (becoming structuredFront on (drop k s))
+    value-calm = calm-bytes structuredFront on (structured-calm on) s e k q
 
-  pub outside-none : asciiOutsideComments (drop i s) ≡ true
-  unfolding asciiOutsideComments
-  outside-none = rw (tokens-over s i h)
+  pub value-step : rendered (becoming structuredFront comments (drop i s)) ≡ rendered (becomes what (take (e - i) (drop i s))) ++ rendered (becoming structuredFront on (drop e s))
+  value-step = ap rendered (becoming-at structuredFront h at-token) ∙ rendered-append (becomes what (take (e - i) (drop i s))) (becoming structuredFront on (drop e s))
+
+module _ (comments : Bool) (s : List ℕ) (i : ℕ) (h : length s ≤ i) where
+  pub value-none : rendered (becoming structuredFront comments (drop i s)) ≡ []
+  unfolding rendered
+  value-none = rw (becoming-over structuredFront comments s i h)
+
+  pub outside-none : clearAll structuredFront comments (drop i s) ≡ true
+  outside-none = clear-over structuredFront comments s i h
 
 -- ---- the field
 

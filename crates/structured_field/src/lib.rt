@@ -1,14 +1,8 @@
-// Structured fields: the tokens of a value, and what comments with non-ASCII become.
-mod tokens;
+// Structured fields: whether one is held, and what comments with non-ASCII become.
+mod held;
 mod writer;
 
-pub use tokens::ascii_outside_comments;
-pub use tokens::token_at;
+pub use held::ascii_outside_comments;
+pub use held::is_clear;
 pub use writer::add_comment;
 pub use writer::add_field;
-
-// The token at a place of a value: where it ends, and whether it is a comment.
-pub struct Token {
-    pub end: usize,
-    pub comment: bool,
-}

@@ -8,9 +8,8 @@ ghost use Rattle.buffer.specs.Buffer.{AppendedCapped};
 ghost use Rattle.encoded_word.specs.Segments.{rendered};
 ghost use Rattle.comment.specs.Parts.{parts};
 ghost use Rattle.piece.specs.Piece.{fitting};
-ghost use Rattle.structured_field.specs.Tokens.{isComment};
-ghost use Rattle.structured_field.specs.StructuredField.{partSegments, tokenSegments, valueSegments, structuredField};
-use crate::token_at;
+ghost use Rattle.structured_field.specs.StructuredField.{partSegments, becomes, valueSegments, structuredField};
+use structured_token::Kind;
 
 // A parenthesis or a run of a comment. The text of a run is made in the scratch.
 fn add_part(out: &mut [u8], at: usize, part: &[u8], scratch: &mut [u8]) -> usize
@@ -39,11 +38,11 @@ fn add_parts(out: &mut [u8], at: usize, comment: &[u8], scratch: &mut [u8]) -> u
     next
 }
 
-fn add_token(out: &mut [u8], at: usize, token: &[u8], comment: bool, scratch: &mut [u8]) -> usize
-    requires { ⌜ (comment ≡ isComment (now token)) × ((length (now token) ≤ 32768) × (length (now token) ≤ length (now scratch))) ⌝ }
-    ensures { λ r. ⌜ AppendedCapped (rendered (tokenSegments (now (token .entry)))) at (now (out .entry)) (now (out .exit)) r ⌝ }
+fn add_token(out: &mut [u8], at: usize, kind: Kind, token: &[u8], scratch: &mut [u8]) -> usize
+    requires { ⌜ (length (now token) ≤ 32768) × (length (now token) ≤ length (now scratch)) ⌝ }
+    ensures { λ r. ⌜ AppendedCapped (rendered (becomes kind (now (token .entry)))) at (now (out .entry)) (now (out .exit)) r ⌝ }
 {
-    if comment {
+    if structured_token::is_comment(kind) {
         return add_parts(out, at, token, scratch);
     }
     buffer::add_slice(out, at, token)
@@ -54,12 +53,17 @@ fn add_value(out: &mut [u8], at: usize, value: &[u8], scratch: &mut [u8]) -> usi
     ensures { λ r. ⌜ AppendedCapped (rendered (valueSegments (now (value .entry)))) at (now (out .entry)) (now (out .exit)) r ⌝ }
 {
     let mut next = at;
-    let mut i = 0;
+    let mut comments = true;
+    let mut i: usize = 0;
     while i < value.len() {
-        let token = token_at(value, i);
+        let token = structured_token::token_at(value, i, comments);
+        let kind = token.kind;
         let end = token.end;
-        next = add_token(out, next, &value[i..end], token.comment, scratch);
-        i = end;
+        let calm = structured_token::calm_end(value, end);
+        let begun = add_token(out, next, kind, &value[i..end], scratch);
+        next = buffer::add_slice(out, begun, &value[end..calm]);
+        comments = structured_token::goes_on(comments, kind);
+        i = calm;
     }
     next
 }

@@ -3,7 +3,7 @@ use mathlib.Core.Path.{_≡_}
 use mathlib.Core.List.{List, [], _∷_, _++_}
 use Prim.Native.Nat.{ℕ, _/_, _≤_, _<_}
 use lib.ListN.{length, take, drop, getD}
-use Rattle.call.specs.Outcome.{Outcome}
+use Rattle.call.specs.declared.Answer.{Answer}
 use Rattle.batch.specs.Batch.{Batch}
 use Rattle.batch.specs.BatchRecords.{fromRecord, envelopeOf, headerOf, used₂}
 
@@ -22,16 +22,16 @@ pub record SameSender (e f : List ℕ) : Type 0 where
   pub several : 2 ≤ length rcpts
   pub other-several : 2 ≤ length others
 
--- ---- two calls, which answer and leave o and p
+-- ---- two calls: what they answer, r and s, and the header buffers afterwards, c and d
 
 -- "the header bytes and header length are equal"
-pub record SameHeader (o p : Outcome) : Type 0 where
-  pub len : o .headerLen ≡ p .headerLen
-  pub bytes : take (o .headerLen) (o .headerBuffer) ≡ take (p .headerLen) (p .headerBuffer)
+pub record SameHeader (r : Answer) (c : List ℕ) (s : Answer) (d : List ℕ) : Type 0 where
+  pub len : r .«header_len» ≡ s .«header_len»
+  pub bytes : take (r .«header_len») c ≡ take (s .«header_len») d
 
 -- "If both calls succeed .., the header bytes and header length are equal.", for the envelopes e and f
-pub record Undisclosed (e f : List ℕ) (o p : Outcome) : Type 0 where
-  pub same : SameSender e f → o .number ≡ 0 → p .number ≡ 0 → SameHeader o p
+pub record Undisclosed (e f : List ℕ) (r : Answer) (c : List ℕ) (s : Answer) (d : List ℕ) : Type 0 where
+  pub same : SameSender e f → r .number ≡ 0 → s .number ≡ 0 → SameHeader r c s d
 
 -- ---- two records of batches
 

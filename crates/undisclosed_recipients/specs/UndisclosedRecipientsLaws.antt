@@ -10,11 +10,12 @@ use Rattle.rules.specs.declared.Rules.{Rules}
 use Rattle.envelope.specs.Envelope.{rcptReplacement}
 use Rattle.undisclosed_recipients.specs.FirstLineLaws.{same-mail, several-rcpts}
 use Rattle.call.specs.OutgoingHeader.{newFields, outgoingSegments, outgoingHeader}
-use Rattle.call.specs.Outcome.{Outcome, outcome}
+use Rattle.call.specs.declared.Answer.{Answer}
+use Rattle.call.specs.Outcome.{Outcome, outcome, observed}
 use Rattle.batch.specs.Batch.{Batch, pastEnd, rangeRefused, rangeOutcome, recordOutcome, batch}
 use Rattle.batch.specs.BatchRecords.{fromRecord, envelopeOf, headerOf, used₁, used₂}
 use Rattle.batch.specs.BatchRecordsLaws.{batch-done}
-use Rattle.demands.specs.DemandsLaws.{header-left}
+use Rattle.demands.specs.DemandsLaws.{headerOut, answerOf, header-left}
 use Rattle.undisclosed_recipients.specs.UndisclosedRecipients.{eachEnded, SameSender, Undisclosed, numberAt, headerLenAt, headerBytesAt, UndisclosedRecords}
 
 none-replaced : (mail : List ℕ) (rcpts : List (List ℕ)) → 2 ≤ length rcpts → rcptReplacement (eachEnded (mail ∷ rcpts)) ≡ []
@@ -32,16 +33,13 @@ pub same-outgoing : (rules : Rules) (e f h : List ℕ) → SameSender e f → ou
 unfolding outgoingHeader outgoingSegments
 same-outgoing rules e f h s = rw (same-new-fields e f s)
 
-pub undisclosed : (rules : Rules) (e f h b c b′ c′ : List ℕ) → Undisclosed e f (outcome rules e h b c) (outcome rules f h b′ c′)
-undisclosed rules e f h b c b′ c′ = record {
-  same = λ s z z′.
-      let o = header-left rules e h b c z in
-      let p = header-left rules f h b′ c′ z′ in
-      record {
-        len = o .0 ∙ ap length (same-outgoing rules e f h s) ∙ sym (p .0);
-        bytes = o .1 ∙ same-outgoing rules e f h s ∙ sym (p .1);
-      };
-}
+-- the same of two outcomes that answer 0
+same-header : (rules : Rules) (e f h b c b′ c′ : List ℕ) → SameSender e f → outcome rules e h b c .number ≡ 0 → outcome rules f h b′ c′ .number ≡ 0
+    → (outcome rules e h b c .headerLen ≡ outcome rules f h b′ c′ .headerLen) × (headerOut (outcome rules e h b c) ≡ headerOut (outcome rules f h b′ c′))
+same-header rules e f h b c b′ c′ s z z′ =
+    let o = header-left rules e h b c z in
+    let p = header-left rules f h b′ c′ z′ in
+    (o .0 ∙ ap length (same-outgoing rules e f h s) ∙ sym (p .0), o .1 ∙ same-outgoing rules e f h s ∙ sym (p .1))
 
 -- ---- records of batches
 
@@ -89,16 +87,22 @@ undisclosed-records rules input records b c input′ records′ b′ c′ = reco
       let p = called rules input′ records′ b′ c′ l (y .there) (y .number) in
       let sender : SameSender (envelopeOf input (fromRecord k records)) (envelopeOf input′ (fromRecord l records′)) = rw (x .envelope, y .envelope) s in
       let one : headerOf input (fromRecord k records) ≡ headerOf input′ (fromRecord l records′) = x .header ∙ sym (y .header) in
-      let same = undisclosed rules (envelopeOf input (fromRecord k records)) (envelopeOf input′ (fromRecord l records′)) (headerOf input (fromRecord k records)) (o .b) (o .c) (p .b) (p .c) .same sender (o .number)
+      let same = same-header rules (envelopeOf input (fromRecord k records)) (envelopeOf input′ (fromRecord l records′)) (headerOf input (fromRecord k records)) (o .b) (o .c) (p .b) (p .c) sender (o .number)
       (rw one (p .number)) in
-      (o .len ∙ same .len ∙ rw one (sym (p .len)), o .bytes ∙ same .bytes ∙ rw one (sym (p .bytes)));
+      (o .len ∙ same .0 ∙ rw one (sym (p .len)), o .bytes ∙ same .1 ∙ rw one (sym (p .bytes)));
 }
 
 -- ---- of whatever the calls leave
 
 module _ (rules : Rules) where
-  pub undisclosed-by : (e f h b c b′ c′ : List ℕ) {o p : Outcome} → o ≡ outcome rules e h b c → p ≡ outcome rules f h b′ c′ → Undisclosed e f o p
-  undisclosed-by e f h b c b′ c′ q r = rw (q, r) (undisclosed rules e f h b c b′ c′)
+  pub undisclosed-by : (e f h b c b′ c′ : List ℕ) {r s : Answer} {d d′ k k′ : List ℕ} → observed r d k ≡ outcome rules e h b c → observed s d′ k′ ≡ outcome rules f h b′ c′
+      → Undisclosed e f r k s k′
+  undisclosed-by e f h b c b′ c′ {r} {s} {d} {d′} {k} {k′} q p = by-outcome (observed r d k) (observed s d′ k′) q p
+    where
+      by-outcome : (o o′ : Outcome) → o ≡ outcome rules e h b c → o′ ≡ outcome rules f h b′ c′ → Undisclosed e f (answerOf o) (o .headerBuffer) (answerOf o′) (o′ .headerBuffer)
+      by-outcome o o′ q p = record {
+        same = λ t z z′. let m = same-header rules e f h b c b′ c′ t (rw q at z) (rw p at z′) in rw (q, p) (record { len = m .0; bytes = m .1 });
+      }
 
   pub records-undisclosed-by : (input records b c : List ℕ) {o : Batch} → o ≡ batch rules input records b c → UndisclosedRecords input records o input records o
   records-undisclosed-by input records b c q = rw q (undisclosed-records rules input records b c input records b c)

@@ -17,17 +17,10 @@ use Rattle.lists.specs.ByteLaws.{within-low, within-high}
 use Rattle.utf8.specs.Utf8.{continues}
 use Rattle.word_spelling.specs.Spelling.{bare, spellByte, spell}
 use Rattle.word_spelling.specs.Cost.{byteCost, cost}
+use Rattle.word_choice.specs.Block.{bit, count, plain, other}
 use Rattle.word_spelling.specs.SpellingLaws.{spell-bare, spell-space, spell-hex, spell-byte-some, length-spell-byte, length-spell-append}
 
 -- ---- bytes counted
-
-abbrev pub bit : Bool → ℕ
-bit t = cond t 1 0
-
--- how many bytes pass a test
-unfoldable pub count : (ℕ → Bool) → List ℕ → ℕ
-count f [] = 0
-count f (x ∷ xs) = bit (f x) + count f xs
 
 module _ (f : ℕ → Bool) where
   count-append : (a b : List ℕ) → count f (a ++ b) ≡ count f a + count f b
@@ -63,14 +56,6 @@ module _ (f : ℕ → Bool) where
       rw (← whole, take-add) (omega (arith, count-append (take k s) (take (n - k) (drop k s))))
 
 -- ---- what bytes take in Q
-
--- a letter, a digit or a space
-unfoldable pub plain : ℕ → Bool
-plain b = within 65 90 b || within 97 122 b || within 48 57 b || eqb b 32
-
--- any other byte
-abbrev pub other : ℕ → Bool
-other b = not (plain b)
 
 -- a byte that takes three characters
 abbrev pub dear : ℕ → Bool

@@ -3,12 +3,27 @@
 use mathlib.Core.List.{List}
 use Prim.Native.Nat.{ℕ}
 use lib.Dec.{T}
-use lib.ListN.{take}
+use lib.ListN.{length, take}
+use Rattle.lists.specs.Lists.{joined}
+use Rattle.utf8.specs.Utf8.{chars}
+use Rattle.row.specs.declared.Encoding.{Encoding}
 use Rattle.row.specs.declared.Encoding.the-variants.{Q, B}
 use Rattle.row.specs.Row.{holds}
+use Rattle.row.specs.Choice.{held, holdsMore}
 use Rattle.row.specs.WordEnd.{Span, WordEnd}
 use Rattle.word_choice.specs.declared.Choice.{Choice}
 use Rattle.word_choice.specs.declared.Choice.the-variants.{InQ, InB}
+
+-- by the encoding, and for B by the characters that it holds
+abbrev pub choiceIn : Encoding → List (List ℕ) → Choice
+choiceIn Q run = InQ
+choiceIn B run = InB (length (joined run))
+
+-- "the encoding that holds more whole characters in its room, Q when equal", and for B where the word ends
+unfoldable pub choiceOf : ℕ → List ℕ → Choice
+choiceOf room s = choiceIn (holdsMore room (chars s)) (held room B (chars s) .0)
+
+-- ---- what callers rely on
 
 -- whatever whole characters a word in B holds, one in Q holds too
 pub record AlsoInQ (room : ℕ) (s : List ℕ) : Type 0 where

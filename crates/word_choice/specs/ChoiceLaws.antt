@@ -4,11 +4,12 @@ use mathlib.Core.Bool.{Bool, true, false, not}
 use mathlib.Core.List.{List, [], _∷_, _++_, append-nil, nil≢cons}
 use Prim.Native.Nat.{ℕ, _+_, _-_, _*_, _/_, _≤_, _<_, min}
 use native.Mathlib.Omega.{arith}
-use lib.Dec.{T, leb, leb→le, le→leb}
+use lib.Dec.{T, leb, ltb, leb→le, le→leb, lt→ltb}
+use mir.Facts.{no-leb, no-ltb}
 use lib.ListN.{length, take, drop, getD, length-append, length-take, length-drop}
 use lib.Seq.{take-all}
 use Rattle.lists.specs.Lists.{joined}
-use Rattle.lists.specs.ListsLaws.{by-test}
+use Rattle.lists.specs.ListsLaws.{by-test, yes-true, no-false}
 use Rattle.utf8.specs.Utf8.{charLen, chars}
 use Rattle.utf8.specs.Utf8Laws.{chars-at, chars-end, chars-joined, char-len-some}
 use Rattle.base64.specs.Base64Laws.{length-base64}
@@ -19,7 +20,8 @@ use Rattle.row.specs.Row.{holds}
 use Rattle.row.specs.WordEnd.{Span, WordEnd}
 use Rattle.row.specs.WordEndLaws.{span-none, span-char, span-join, length-span, between, word-end-b}
 use Rattle.word_choice.specs.Choice.{AlsoInQ}
-use Rattle.word_choice.specs.BlockLaws.{other, count, count-front, others-cost, highs-cost, cost-front}
+use Rattle.word_choice.specs.Block.{other, count, surelyInQ}
+use Rattle.word_choice.specs.BlockLaws.{count-front, others-cost, highs-cost, cost-front}
 
 -- the most bytes that a word in B holds
 abbrev pub bytesInB : ℕ → ℕ
@@ -156,3 +158,22 @@ module _ {s : List ℕ} {e : ℕ} (p : Span s 0 e) where
 
     pub char-more : e < next
     char-more = omega (arith, n, char-len-some (getD s e 0))
+
+-- ---- the short test
+
+module _ (room : ℕ) (s : List ℕ) where
+  pub sure-short : length s < 48 → false ≡ surelyInQ room s
+  unfolding surelyInQ
+  sure-short h = let no : leb 48 (length s) ≡ false = no-false (leb 48 (length s)) (no-leb {a = 48} {b = length s} h) in rw no
+
+  module _ (h : 48 ≤ length s) where
+    there : leb 48 (length s) ≡ true
+    there = yes-true (leb 48 (length s)) (le→leb 48 (length s) h)
+
+    pub sure-high : 128 ≤ getD s 0 0 → false ≡ surelyInQ room s
+    unfolding surelyInQ
+    sure-high k = let no : ltb (getD s 0 0) 128 ≡ false = no-false (ltb (getD s 0 0) 128) (no-ltb {a = getD s 0 0} {b = 128} k) in rw (there, no)
+
+    pub sure-by : getD s 0 0 < 128 → (n : ℕ) → n ≡ count other (take 48 s) → leb (room / 4 * 3 + 2 * n) room ≡ surelyInQ room s
+    unfolding surelyInQ
+    sure-by k n e = let low : ltb (getD s 0 0) 128 ≡ true = yes-true (ltb (getD s 0 0) 128) (lt→ltb (getD s 0 0) 128 k) in rw (there, low, e)

@@ -18,7 +18,8 @@ use Rattle.utf8.specs.Utf8Laws.{chars-at}
 use Rattle.row.specs.declared.Encoding.the-variants.{B}
 use Rattle.row.specs.WordEnd.{Span, WordEnd}
 use Rattle.row.specs.WordEndLaws.{span-none, span-char, span-join}
-use Rattle.word_choice.specs.BlockLaws.{count, placed, Regular, stepBack}
+use Rattle.word_choice.specs.Block.{count}
+use Rattle.word_choice.specs.BlockLaws.{placed, Regular, stepBack}
 use Rattle.word_choice.specs.ChoiceLaws.{bytesInB, FullInB, word-in-b, highs-over}
 
 -- ---- one byte and the two before it

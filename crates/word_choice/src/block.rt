@@ -6,7 +6,8 @@ ghost use lib.Dec.{leb, eqb};
 ghost use lib.ListN.{length, take};
 ghost use Rattle.word_spelling.specs.Spelling.{bare};
 ghost use Rattle.utf8.specs.Utf8.{continues};
-ghost use Rattle.word_choice.specs.BlockLaws.{plain, other, dear, bit, count, placed, Regular, stepBack};
+ghost use Rattle.word_choice.specs.Block.{bit, count, plain, other};
+ghost use Rattle.word_choice.specs.BlockLaws.{dear, placed, Regular, stepBack};
 
 // Whether a byte is a letter, a digit or a space.
 fn is_plain(b: u8) -> bool

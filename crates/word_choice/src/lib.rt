@@ -7,7 +7,8 @@ ghost use mathlib.Core.Bool.{true};
 ghost use Prim.Native.Nat.{_≤_, min};
 ghost use lib.ListN.{length};
 ghost use Rattle.word_spelling.specs.Cost.{cost};
-ghost use Rattle.word_choice.specs.Choice.{Chosen};
+ghost use Rattle.word_choice.specs.Choice.{Chosen, choiceOf};
+ghost use Rattle.word_choice.specs.Block.{surelyInQ};
 ghost use Rattle.word_choice.specs.declared.Choice.the-variants.{InQ};
 ghost use Rattle.word_choice.specs.ChoiceLaws.{bytesInB, FullInB};
 use block::escaped;
@@ -99,7 +100,7 @@ fn by_block(text: &[u8], room: usize) -> Choice
 // Whether Q is surely chosen for the word at the front of a text, in a room of so many characters, at most 63: its first byte is ASCII, and
 // few of its first bytes are neither letters, digits nor spaces. A short test, for callers to make first.
 pub fn surely_in_q(text: &[u8], width: usize) -> bool
-    ensures { λ r. ⌜ (r ≡ true → Chosen (min width 63) (now (text .entry)) InQ) ⌝ }
+    ensures { λ r. ⌜ (r ≡ surelyInQ (min width 63) (now (text .entry))) × (r ≡ true → Chosen (min width 63) (now (text .entry)) InQ) ⌝ }
 {
     if text.len() < 48 {
         return false;
@@ -113,7 +114,7 @@ pub fn surely_in_q(text: &[u8], width: usize) -> bool
 
 // The choice for the word at the front of a text, in a room of so many characters, at most 63.
 pub fn choose(text: &[u8], width: usize) -> Choice
-    ensures { λ r. ⌜ Chosen (min width 63) (now (text .entry)) r ⌝ }
+    ensures { λ r. ⌜ (r ≡ choiceOf (min width 63) (now (text .entry))) × Chosen (min width 63) (now (text .entry)) r ⌝ }
 {
     let room = buffer::clip(width, 63);
     if text.len() <= room / 4 * 3 {

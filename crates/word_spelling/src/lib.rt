@@ -4,7 +4,7 @@ ghost use Prim.Native.Nat.{_+_, _-_, _≤_, min};
 ghost use lib.ListN.{length, take, drop, getD};
 ghost use Rattle.utf8.specs.Utf8.{charLen};
 ghost use Rattle.word_spelling.specs.FirstChars.{firstChars, costIn, costsIn};
-ghost use Rattle.word_spelling.specs.HighChar.{HighChar};
+ghost use Rattle.word_spelling.specs.HighChar.{HighChar, highSize};
 
 // The first character of each byte's spelling, 32 bytes to a line: its only one, or the `=` of an escape.
 const FIRST_CHARS: [u8; 256] = *b"\
@@ -78,31 +78,33 @@ pub fn char_cost(first: &[u8; 256], s: &[u8], i: usize) -> Taken
     Taken { end, cost: n }
 }
 
-// The length of the character at a place, where the text holds it whole and none of its bytes is ASCII; else 0. Callers rely on a length
-// that is not 0, and go the long way at 0.
+// The length of the character at a place, 2 to 4, where the text holds it whole and none of its bytes is ASCII; else 0.
 pub fn high_size(s: &[u8], i: usize) -> usize
-    ensures { λ r. ⌜ HighChar (now (s .entry)) i r ⌝ }
+    ensures { λ r. ⌜ (r ≡ highSize (now (s .entry)) i) × HighChar (now (s .entry)) i r ⌝ }
 {
     if s.len() <= i {
         return 0;
     }
     let size = utf8::char_len(s[i]);
+    if !((2 <= size) & (size <= 4) & (size <= s.len() - i)) {
+        return 0;
+    }
     let j = i + 1;
-    if (size == 2) & (2 <= s.len() - i) {
-        if 128 <= s[j] {
-            return 2;
-        }
+    if s[j] < 128 {
+        return 0;
     }
-    if (size == 3) & (3 <= s.len() - i) {
-        if (128 <= s[j]) & (128 <= s[j + 1]) {
-            return 3;
-        }
+    if size == 2 {
+        return 2;
     }
-    if (size == 4) & (4 <= s.len() - i) {
-        let k = j + 1;
-        if (128 <= s[j]) & (128 <= s[k]) & (128 <= s[k + 1]) {
-            return 4;
-        }
+    let k = j + 1;
+    if s[k] < 128 {
+        return 0;
     }
-    0
+    if size == 3 {
+        return 3;
+    }
+    if s[k + 1] < 128 {
+        return 0;
+    }
+    4
 }

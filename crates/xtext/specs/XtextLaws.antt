@@ -9,11 +9,12 @@ use lib.Dec.{T, eqb, ltb, leb}
 use Rattle.address.specs.TakenLaws.{ascii-address-bytes}
 use lib.ListN.{length, take, drop, getD, length-drop, drop-of-length-le, List·getD-eq-default}
 use lib.Seq.{drop-drop, getD-drop}
-use mir.Facts.{and-yes}
+use mir.Facts.{and-yes, ltb-yes}
 use Rattle.lists.specs.Lists.{all}
-use Rattle.lists.specs.ListsLaws.{cond-has}
+use Rattle.lists.specs.ListsLaws.{cond-has, true-yes}
 use Rattle.lists.specs.Byte.{within}
 use Rattle.hex.specs.Hex.{isHexDigit, hexValue}
+use Rattle.hex.specs.HexLaws.{reads-only}
 use Rattle.buffer.specs.Buffer.{Wrote, AppendedCapped, Reached, greatest}
 use Rattle.buffer.specs.BufferLaws.{reached-start, reached-then, reached-end, reached-within, length-reached, appended-of, wrote-from, overlay-front}
 use Rattle.address.specs.Address.{isAsciiAddress}
@@ -33,7 +34,7 @@ hexchar-at : (s : List ℕ) (i : ℕ) → isHexchar (drop i s) ≡ eqb (getD s i
 unfolding isHexchar
 hexchar-at s i = rw (front-byte s i, getD-drop i s 1 0, getD-drop i s 2 0)
 
--- `x` is the test of the byte at i, and `high` and `low` those of the two bytes after it, as code makes them
+-- `x` is the test of the byte at i, and `high` and `low` are the values of the two bytes after it, as code finds them
 module _ (s : List ℕ) (i : ℕ) (h : i < length s) (x : Bool) (e : x ≡ isXchar (getD s i 0)) where
   pub unit-bare : x ≡ true → UnitAt s i 1 (getD s i 0)
   unfolding unitLen unitByte
@@ -50,20 +51,28 @@ module _ (s : List ℕ) (i : ℕ) (h : i < length s) (x : Bool) (e : x ≡ isXch
       let past : getD s (i + 2) 0 ≡ 0 = List·getD-eq-default s 0 (omega arith) in
       unit-none n (rw (hexchar-at s i, past, and-false))
 
-  module _ (n : x ≡ false) (high low : Bool) (u : high ≡ isHexDigit (getD s (i + 1) 0)) (v : low ≡ isHexDigit (getD s (i + 2) 0)) where
-    pub unit-other : eqb (getD s i 0) 43 && high && low ≡ false → UnitAt s i 0 0
-    unit-other t = unit-none n (rw (hexchar-at s i, ← u, ← v) t)
+  module _ (n : x ≡ false) (high low : ℕ) (u : high ≡ hexValue (getD s (i + 1) 0)) (v : low ≡ hexValue (getD s (i + 2) 0)) where
+    tested : isHexchar (drop i s) ≡ eqb (getD s i 0) 43 && ltb high 16 && ltb low 16
+    tested = rw (hexchar-at s i, ← reads-only (getD s (i + 1) 0), ← reads-only (getD s (i + 2) 0), ← u, ← v)
 
-    pub unit-hex : eqb (getD s i 0) 43 && high && low ≡ true → 3 ≤ length s - i → (a b : ℕ) → a ≡ hexValue (getD s (i + 1) 0) → b ≡ hexValue (getD s (i + 2) 0)
-        → UnitAt s i 3 (a * 16 + b)
+    pub unit-other : eqb (getD s i 0) 43 && ltb high 16 && ltb low 16 ≡ false → UnitAt s i 0 0
+    unit-other t = unit-none n (tested ∙ t)
+
+    pub unit-hex : eqb (getD s i 0) 43 && ltb high 16 && ltb low 16 ≡ true → 3 ≤ length s - i → UnitAt s i 3 (high * 16 + low)
     unfolding unitLen unitByte
-    unit-hex t k a b p q =
-        let hex : isHexchar (drop i s) ≡ true = rw (hexchar-at s i, ← u, ← v) t in
+    unit-hex t k =
+        let hex : isHexchar (drop i s) ≡ true = tested ∙ t in
         record {
           size = rw (front-byte s i, ← e, n, hex);
-          byte = rw (front-byte s i, ← e, n, hex, getD-drop i s 1 0, getD-drop i s 2 0, p, q);
+          byte = rw (front-byte s i, ← e, n, hex, getD-drop i s 1 0, getD-drop i s 2 0, u, v);
           fits = omega arith;
         }
+
+-- two digits, by the test that code makes
+pub two-digits : (x : Bool) (high low : ℕ) → x && ltb high 16 && ltb low 16 ≡ true → (high < 16) × (low < 16)
+two-digits x high low t =
+    let p = and-yes (x && ltb high 16) (ltb low 16) (true-yes (x && ltb high 16 && ltb low 16) t) in
+    (ltb-yes (and-yes x (ltb high 16) (p .0) .1), ltb-yes (p .1))
 
 -- ---- decoding
 

@@ -34,16 +34,14 @@ fn unit_at(s: &[u8], at: usize) -> Unit
     if s.len() - at < 3 {
         return Unit { size: 0, byte: 0 };
     }
-    let high = s[at + 1];
-    let low = s[at + 2];
-    let h = hex::is_digit(high);
-    let l = hex::is_digit(low);
-    if !((b == b'+') & h & l) {
+    let high = hex::value(s[at + 1]);
+    let low = hex::value(s[at + 2]);
+    if !((b == b'+') & (high < 16) & (low < 16)) {
         return Unit { size: 0, byte: 0 };
     }
     Unit {
         size: 3,
-        byte: hex::value(high) * 16 + hex::value(low),
+        byte: high * 16 + low,
     }
 }
 

@@ -17,7 +17,7 @@ use std::fmt;
 use std::ops::Range;
 
 /// The version of hennelaku.h that this crate is written for.
-pub const VERSION: u32 = 300;
+pub const VERSION: u32 = 400;
 
 /// Bytes of an envelope and of a header, at most; longer ones are refused.
 pub const MAX_ENVELOPE: usize = 16_384;
@@ -36,7 +36,8 @@ pub const fn header_room_for(header_len: usize) -> usize {
     }
 }
 
-mod c {
+/// The C calls as hennelaku.h declares them; the functions of this crate are safe ones over them.
+pub mod c {
     use std::ffi::c_char;
 
     /// `hennelaku_answer`, member by member.
@@ -48,6 +49,24 @@ mod c {
         pub offset: usize,
         pub envelope_len: usize,
         pub header_len: usize,
+    }
+
+    /// `hennelaku_mailbox_answer`, member by member.
+    #[repr(C)]
+    pub struct MailboxAnswer {
+        pub number: u32,
+        pub place: usize,
+        pub offset: usize,
+        pub length: usize,
+    }
+
+    /// `hennelaku_read_answer`, member by member.
+    #[repr(C)]
+    pub struct ReadAnswer {
+        pub number: u32,
+        pub start: usize,
+        pub next: usize,
+        pub length: usize,
     }
 
     /// `hennelaku_reply`, member by member.
@@ -84,6 +103,19 @@ mod c {
             header_buffer: *mut u8,
             header_room: usize,
         );
+        pub fn hennelaku_downgrade_mailbox(
+            header: *const u8,
+            header_len: usize,
+            buffer: *mut u8,
+            room: usize,
+        ) -> MailboxAnswer;
+        pub fn hennelaku_read_downgraded(
+            header: *const u8,
+            header_len: usize,
+            place: usize,
+            buffer: *mut u8,
+            room: usize,
+        ) -> ReadAnswer;
     }
 }
 
@@ -384,5 +416,134 @@ pub fn downgrade_batch(
             header_buffer.as_mut_ptr(),
             header_buffer.len(),
         )
+    }
+}
+
+/// Downgrades the header of a stored message, by RFC 6857, for a program that knows only ASCII; how many bytes were written. The
+/// bytes past them, and after a refusal all bytes, are as they were. Of the reasons [`Reason::TooLong`], [`Reason::HeaderLine`],
+/// [`Reason::Held`] and [`Reason::HeaderRoom`] are given, and the input is always the header.
+///
+/// # Panics
+/// As [`downgrade`].
+pub fn downgrade_mailbox(header: &[u8], buffer: &mut [u8]) -> Result<usize, Refusal> {
+    check_version();
+    // SAFETY: each pointer comes from a slice with its length; the buffer is apart from the header.
+    let answer =
+        unsafe { c::hennelaku_downgrade_mailbox(header.as_ptr(), header.len(), buffer.as_mut_ptr(), buffer.len()) };
+    if answer.number == 0 {
+        return Ok(answer.length);
+    }
+    let (place, offset) = (answer.place, answer.offset);
+    Err(Refusal { reason: Reason::of(answer.number), input: Input::Header, place, offset })
+}
+
+/// Downgrades the header of a stored message into a buffer of its own, which always suffices.
+///
+/// # Panics
+/// As [`downgrade`].
+pub fn downgrade_mailbox_to_vec(header: &[u8]) -> Result<Vec<u8>, Refusal> {
+    let mut out = vec![0; header_room_for(header.len())];
+    let length = downgrade_mailbox(header, &mut out)?;
+    out.truncate(length);
+    out.shrink_to_fit();
+    Ok(out)
+}
+
+/// Why the text of a Downgraded field is not shown; the values are the library's numbers.
+#[derive(Clone, Copy, Debug, PartialEq, Eq, Hash)]
+pub enum ReadRefusal {
+    /// The field is malformed.
+    Field,
+    /// An encoded word is malformed or of another encoding.
+    Word,
+    /// An encoded word has another charset than UTF-8.
+    Charset,
+    /// The bytes of an encoded word are not UTF-8.
+    Utf8,
+    /// The buffer is short; so many bytes are needed.
+    Room(usize),
+}
+
+impl fmt::Display for ReadRefusal {
+    fn fmt(&self, f: &mut fmt::Formatter<'_>) -> fmt::Result {
+        match self {
+            ReadRefusal::Field => f.write_str("the field is malformed"),
+            ReadRefusal::Word => f.write_str("an encoded word is malformed or of another encoding"),
+            ReadRefusal::Charset => f.write_str("an encoded word has another charset"),
+            ReadRefusal::Utf8 => f.write_str("the bytes of an encoded word are not UTF-8"),
+            ReadRefusal::Room(needed) => write!(f, "the text needs {needed} bytes"),
+        }
+    }
+}
+
+impl std::error::Error for ReadRefusal {}
+
+/// Reads the first Downgraded field that begins at `place` or later: where it stands, and how many bytes of the buffer its text
+/// has. None where no field begins there. Past the text, and after a refusal, the buffer is as it was. A buffer as long as the
+/// header suffices for every text.
+///
+/// # Panics
+/// As [`downgrade`].
+pub fn read_downgraded_at(
+    header: &[u8],
+    place: usize,
+    buffer: &mut [u8],
+) -> Option<(Range<usize>, Result<usize, ReadRefusal>)> {
+    check_version();
+    // SAFETY: each pointer comes from a slice with its length; the buffer is apart from the header.
+    let answer = unsafe {
+        c::hennelaku_read_downgraded(header.as_ptr(), header.len(), place, buffer.as_mut_ptr(), buffer.len())
+    };
+    let text = match answer.number {
+        0 => Ok(answer.length),
+        1 => Err(ReadRefusal::Field),
+        2 => Err(ReadRefusal::Word),
+        3 => Err(ReadRefusal::Charset),
+        4 => Err(ReadRefusal::Utf8),
+        5 => Err(ReadRefusal::Room(answer.length)),
+        6 => return None,
+        number => panic!("libhennelaku answered {number}"),
+    };
+    Some((answer.start..answer.next, text))
+}
+
+/// A Downgraded field of a header.
+#[derive(Clone, Debug, PartialEq, Eq)]
+pub struct DowngradedField<'a> {
+    /// Its lines, each with its CRLF.
+    pub lines: &'a [u8],
+    /// What its encoded words and other text stand for: UTF-8, perhaps with control characters.
+    pub text: Result<Vec<u8>, ReadRefusal>,
+}
+
+/// The Downgraded fields of a header, in order; of [`read_downgraded`].
+#[derive(Clone, Debug)]
+pub struct DowngradedFields<'a> {
+    header: &'a [u8],
+    place: usize,
+    buffer: Vec<u8>,
+}
+
+/// Reads all Downgraded fields of a header: those that a call of this library added show the text that was encoded.
+///
+/// ```no_run
+/// for field in hennelaku::read_downgraded(b"Downgraded-X: =?UTF-8?Q?=C3=A9?=\r\n") {
+///     assert_eq!(field.text.as_deref(), Ok("é".as_bytes()));
+/// }
+/// ```
+///
+/// # Panics
+/// The iterator panics as [`downgrade`].
+pub fn read_downgraded(header: &[u8]) -> DowngradedFields<'_> {
+    DowngradedFields { header, place: 0, buffer: vec![0; header.len()] }
+}
+
+impl<'a> Iterator for DowngradedFields<'a> {
+    type Item = DowngradedField<'a>;
+
+    fn next(&mut self) -> Option<DowngradedField<'a>> {
+        let (range, text) = read_downgraded_at(self.header, self.place, &mut self.buffer)?;
+        self.place = range.end;
+        Some(DowngradedField { lines: &self.header[range], text: text.map(|length| self.buffer[..length].to_vec()) })
     }
 }

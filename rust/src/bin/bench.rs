@@ -1,301 +1,342 @@
-//! Times the proved calls beside the model, in one process.
+//! Times model, fast version and, with the feature `proved`, the proved calls, in one process, after having compared them.
 //!
-//!     bench [PART OF A LABEL]
+//!     bench [PART OF A LABEL] [--write FILE] [--inputs N]
+//!
+//! FILE gets the tables between its lines `<!-- bench -->` and `<!-- end of bench -->`. N made-up inputs are compared first.
 
-use hennelaku_model::batch::RECORD;
-use hennelaku_model::{downgrade, downgrade_batch, proved, Answer};
+use hennelaku_model::generate::{self, Random};
+use hennelaku_model::reader::{self, ReadAnswer};
+use hennelaku_model::rows::{self, Row};
+use hennelaku_model::versions::{self, Call, MailboxCall, ReadCall};
+use hennelaku_model::{downgrade, downgrade_mailbox, worst, Answer, MailboxAnswer};
+use std::fmt::Write;
 use std::hint::black_box;
-use std::time::{Duration, Instant};
+use std::time::Instant;
 
-type Call = fn(u64, &[u8], &[u8], &mut [u8], &mut [u8]) -> Answer;
+/// Places of the input in memory, and rounds at each. Where the input lies against the buffers moves a time by up to a half
+/// (stores that alias loads), so that the best time of the rounds is taken at each place, and the mean over the places is told.
+const PLACES: usize = 8;
+const ROUNDS: usize = 10;
+/// Nanoseconds that one round of a call is to take.
+const ROUND: f64 = 150_000.0;
+/// Larger than all that is written.
+const ENVELOPE_ROOM: usize = 20_000;
+const HEADER_ROOM: usize = 2_700_000;
 
-const ENVELOPE: &str = "MAIL FROM:<é@example.org> SIZE=1000 ALT-ADDRESS=e+2Bx@example.org\r\n\
-    RCPT TO:<b@example.net>\r\nRCPT TO:<αβ@example.net> ALT-ADDRESS=ab@example.net\r\n";
+/// A call on its input, with its buffers at hand.
+type Run<'a> = Box<dyn FnMut(&[u8], u32) + 'a>;
 
-/// One that a current message may have.
-const CURRENT_ENVELOPE: &str =
-    "MAIL FROM:<e+x@example.org> SIZE=1000\r\nRCPT TO:<b@example.net>\r\nRCPT TO:<ab@example.net>\r\n";
-
-/// A header of about `size` bytes: these fields over and over, the last one cut to an ASCII field.
-fn header(size: usize, fields: &[&str]) -> Vec<u8> {
-    let mut out = Vec::new();
-    let mut next = 0;
-    while out.len() + fields[next].len() + 8 < size {
-        out.extend_from_slice(fields[next].as_bytes());
-        next = (next + 1) % fields.len();
-    }
-    while out.len() + 8 < size {
-        let len = (size - out.len() - 5).min(900);
-        out.extend_from_slice(b"X: ");
-        out.resize(out.len() + len, b'x');
-        out.extend_from_slice(b"\r\n");
-    }
-    out
-}
-
-/// What a bulletin's header looks like: some fields ASCII, some not.
-const MIXED: &[&str] = &[
-    "Received: from mail.example.org (mail.example.org [192.0.2.1])\r\n\tby mx.example.net with ESMTP id 12345;\r\n\tMon, 1 Jan 2024 00:00:00 +0000\r\n",
-    "From: Jørgen Ås <jørgen@example.org <jorgen@example.org>>\r\n",
-    "To: b@example.net, \"Havn, Øst\" <c@example.net>, αβ@example.net\r\n",
-    "Subject: Strømvarsel for kysten, kuling fra nordvest\r\n",
-    "Date: Mon, 1 Jan 2024 00:00:00 +0000\r\n",
-    "Message-ID: <12345@example.org>\r\n",
-    "X-Area: Skåne, Öresund\r\n",
-];
-
-/// Greek, in plain text, encapsulated and address fields, some folded.
-const NON_ASCII: &[&str] = &[
-    "Subject: Πρόγνωση καιρού για το Αιγαίο\r\n",
-    "X-Note: Άνεμοι βόρειοι\r\n ισχυροί\r\n κατά τόπους\r\n",
-    "Cc: Λιμάνι Πειραιά <λιμάνι@example.gr <port@example.gr>>,\r\n πλοηγός@example.gr\r\n",
-    "Comments: 海上風警報 気象庁発表\r\n",
-];
-
-/// One long plain text field over many lines.
-const ONE_TEXT: &[&str] = &["Πρόγνωση "];
-
-const ASCII: &[&str] = &[
-    "Received: from mail.example.org (mail.example.org [192.0.2.1])\r\n\tby mx.example.net with ESMTP id 12345;\r\n\tMon, 1 Jan 2024 00:00:00 +0000\r\n",
-    "DKIM-Signature: v=1; a=rsa-sha256; c=relaxed/relaxed; d=example.org; s=key;\r\n h=from:to:subject:date; bh=47DEQpj8HBSa+/TImW+5JCeuQeRkm5NMpJWZG3hSuFU=;\r\n b=dzdVyOfAKCdLXdJOc9G2q8LoXSlEniSbav+yuU4zGeeruD00lszZVoG4ZHRNiYzR\r\n",
-    "X-Spam-Status: No, score=-1.9 required=5.0 tests=BAYES_00 autolearn=ham\r\n",
-    "Message-ID: <12345@example.org>\r\n",
-];
-
-/// Trace lines with clauses that go, and one whose clause stays.
-const RECEIVED: &[&str] = &[
-    "Received: from mail.example.gr (mail.example.gr [192.0.2.1])\r\n\tby mx.example.net (Λιμάνι Πειραιά) with ESMTP id 12345\r\n\tfor <λιμάνι@example.gr>;\r\n\tMon, 1 Jan 2024 00:00:00 +0000\r\n",
-    "Received: from a.example.gr by b.example.gr with UTF8SMTP id 54321 for <πλοηγός@example.gr>;\r\n\tMon, 1 Jan 2024 00:00:00 +0000\r\n",
-    "Received: by c.example.gr (βάση) id 1 for <port@example.gr>; Mon, 1 Jan 2024 00:00:00 +0000\r\n",
-];
-
-fn nearly_ascii(size: usize) -> Vec<u8> {
-    let mut out = "Subject: Strømvarsel\r\n".as_bytes().to_vec();
-    out.extend_from_slice(&header(size - 50, ASCII));
-    out.extend_from_slice("To: Øst <c@example.net>\r\n".as_bytes());
-    out
-}
-
-fn one_text(size: usize) -> Vec<u8> {
-    let mut out = b"Subject:".to_vec();
-    while out.len() + 500 < size {
-        out.extend_from_slice(b"\r\n ");
-        for _ in 0..24 {
-            out.extend_from_slice(ONE_TEXT[0].as_bytes());
-        }
-    }
-    out.extend_from_slice(b"\r\n");
-    out
-}
-
-/// One Subject of so many characters, folded where its lines would grow too long.
-fn subject(words: &str, characters: usize) -> Vec<u8> {
-    let mut out = b"Subject:".to_vec();
-    for (at, character) in words.chars().cycle().take(characters).enumerate() {
-        if at % 300 == 0 {
-            out.extend_from_slice(if at == 0 { b" " } else { b"\r\n " });
-        }
-        out.extend_from_slice(character.to_string().as_bytes());
-    }
-    out.extend_from_slice(b"\r\n");
-    out
-}
-
-const GREEK: &str = "Πρόγνωση καιρού για το Αιγαίο, άνεμοι βόρειοι ";
-const JAPANESE: &str = "海上風警報気象庁発表、北西の風が強まる見込み。";
-
-/// One field of nested comments; the unclosed one has a last `)` less.
-fn nested(size: usize, name: &str, closed: bool) -> Vec<u8> {
-    let mut out = format!("{name}: (é) ").into_bytes();
-    let lines = (size - 50) / 950;
-    let half = (size - 50 - 3 * lines) / 2;
-    let parentheses = [vec![b'('; half], vec![b')'; half - !closed as usize]].concat();
-    for line in parentheses.chunks(950) {
-        out.extend_from_slice(b"\r\n ");
-        out.extend_from_slice(line);
-    }
-    out.extend_from_slice(b"\r\n a@b\r\n");
-    out
-}
-
-struct Buffers {
-    envelope: Vec<u8>,
-    header: Vec<u8>,
-}
-
-/// Nanoseconds for each call, over `times` calls.
-fn time(call: Call, setting: u64, header: &[u8], buffers: &mut Buffers, times: u32) -> f64 {
-    let envelope = if setting == 0 { ENVELOPE } else { CURRENT_ENVELOPE };
-    let start = Instant::now();
-    for _ in 0..times {
-        let answer = call(
-            black_box(setting),
-            black_box(envelope.as_bytes()),
-            black_box(header),
-            &mut buffers.envelope,
-            &mut buffers.header,
-        );
-        black_box(answer);
-    }
-    start.elapsed().as_nanos() as f64 / times as f64
-}
-
-fn compare(label: &str, header: &[u8]) {
-    compare_set(label, 0, header);
-}
-
-/// The best of several rounds, the two by turns.
-fn compare_set(label: &str, setting: u64, header: &[u8]) {
-    if !label.contains(&std::env::args().nth(1).unwrap_or_default()) {
-        return;
-    }
-    let mut buffers = Buffers { envelope: vec![0; 1000], header: vec![0; 1_048_576] };
-    let mut again = Buffers { envelope: vec![0; 1000], header: vec![0; 1_048_576] };
-    let envelope = if setting == 0 { ENVELOPE } else { CURRENT_ENVELOPE }.as_bytes();
-    let model = downgrade(setting, envelope, header, &mut buffers.envelope, &mut buffers.header);
-    let other = proved::downgrade(setting, envelope, header, &mut again.envelope, &mut again.header);
-    assert_eq!((model, model.number), (other, 0));
-    assert!(buffers.envelope == again.envelope && buffers.header == again.header);
-    let once = time(downgrade, setting, header, &mut buffers, 20).max(1.0);
-    // Short rounds, so that many of them pass without a pause on a busy machine.
-    let times = ((Duration::from_micros(500).as_nanos() as f64 / once) as u32).max(1);
-    let (mut best_model, mut best_proved) = (f64::MAX, f64::MAX);
-    for _ in 0..200 {
-        best_model = best_model.min(time(downgrade, setting, header, &mut buffers, times));
-        best_proved = best_proved.min(time(proved::downgrade, setting, header, &mut buffers, times));
-    }
-    println!(
-        "{label:<34} {:>6} in {:>7} out   proved {best_proved:>9.0} ns   model {best_model:>9.0} ns   ratio {:.2}",
-        header.len(),
-        model.header_len,
-        best_proved / best_model
-    );
-}
-
-#[repr(C)]
-struct Timespec {
-    seconds: i64,
-    nanoseconds: i64,
-}
-
-extern "C" {
-    fn clock_gettime(clock: i32, time: *mut Timespec) -> i32;
-}
-
-/// This thread's time on a processor, in nanoseconds: a batch takes too long to pass without a pause on a busy machine.
-fn thread_time() -> f64 {
-    const CLOCK_THREAD_CPUTIME_ID: i32 = 3;
-    let mut time = Timespec { seconds: 0, nanoseconds: 0 };
-    // SAFETY: the pointer is to a timespec of 64-bit Linux.
-    assert_eq!(unsafe { clock_gettime(CLOCK_THREAD_CPUTIME_ID, &mut time) }, 0);
-    time.seconds as f64 * 1e9 + time.nanoseconds as f64
-}
-
-/// As many bulletins of 3 KB as records, each with an area of its own.
-fn bulletins(count: usize) -> (Vec<u8>, Vec<u32>) {
-    let (mut input, mut records) = (Vec::new(), Vec::new());
-    let rest = header(3000, MIXED);
-    for number in 0..count {
-        let start = input.len();
-        input.extend_from_slice(ENVELOPE.as_bytes());
-        let middle = input.len();
-        input.extend_from_slice(format!("X-Number: {number}\r\nX-Area: Öresund {number}\r\n").as_bytes());
-        input.extend_from_slice(&rest);
-        let ranges = [start, middle - start, middle, input.len() - middle];
-        records.extend(ranges.map(|number| number as u32));
-        records.resize(RECORD * (number + 1), 0);
-    }
-    (input, records)
-}
-
-type BatchCall = fn(u64, &[u8], &mut [u32], &mut [u8], &mut [u8]);
-
-/// As many single proved calls as records.
-fn single_calls(setting: u64, input: &[u8], records: &mut [u32], envelopes: &mut [u8], headers: &mut [u8]) {
-    let (mut envelopes, mut headers) = (envelopes, headers);
-    for record in records.chunks_exact_mut(RECORD) {
-        let [e, e_len, h, h_len]: [usize; 4] = std::array::from_fn(|at| record[at] as usize);
-        let answer = proved::downgrade(setting, &input[e..e + e_len], &input[h..h + h_len], envelopes, headers);
-        envelopes = &mut envelopes[answer.envelope_len..];
-        headers = &mut headers[answer.header_len..];
-        let numbers = [answer.number as usize, answer.place, answer.offset, answer.envelope_len, answer.header_len];
-        for (out, number) in record[4..].iter_mut().zip(numbers) {
-            *out = number as u32;
-        }
-    }
-}
-
-/// One batch of so many bulletins: proved, as single proved calls, by the model.
-fn compare_batch(count: usize) {
-    let label = format!("batch, {count} bulletins of 3 KB");
-    if !label.contains(&std::env::args().nth(1).unwrap_or_default()) {
-        return;
-    }
-    let (input, records) = bulletins(count);
-    let calls: [BatchCall; 3] = [proved::downgrade_batch, single_calls, downgrade_batch];
-    let mut best = [f64::MAX; 3];
-    let mut left = Vec::new();
-    let (mut envelopes, mut headers) = (vec![0; 200 * count], vec![0; 8000 * count]);
-    for _ in 0..(20_000 / count).clamp(5, 50) {
-        for (at, call) in calls.iter().enumerate() {
-            let mut records = records.clone();
-            let start = thread_time();
-            call(0, black_box(&input), &mut records, &mut envelopes, &mut headers);
-            best[at] = best[at].min(thread_time() - start);
-            if left.len() < calls.len() {
-                let used: Vec<usize> = [7, 8].map(|at| records.chunks(RECORD).map(|r| r[at] as usize).sum()).to_vec();
-                assert!(records.chunks(RECORD).all(|record| record[4] == 0));
-                left.push((records, envelopes[..used[0]].to_vec(), headers[..used[1]].to_vec()));
+/// The best times of some calls on this input, in nanoseconds for one call.
+fn times(input: &[u8], runs: &mut [Run], places: usize, rounds: usize) -> Vec<f64> {
+    let once = |run: &mut Run, input: &[u8], times: u32| {
+        let start = Instant::now();
+        run(input, times);
+        start.elapsed().as_nanos() as f64 / times as f64
+    };
+    let times = ((ROUND / once(&mut runs[0], input, 3).max(1.0)) as u32).max(1);
+    let mut arena = vec![0; input.len() + 257 * places];
+    let mut mean = vec![0.0; runs.len()];
+    for place in 0..places {
+        let at = 257 * place;
+        arena[at..at + input.len()].copy_from_slice(input);
+        let mut best = vec![f64::MAX; runs.len()];
+        for _ in 0..rounds {
+            for (run, best) in runs.iter_mut().zip(&mut best) {
+                *best = best.min(once(run, &arena[at..at + input.len()], times));
             }
         }
+        mean.iter_mut().zip(best).for_each(|(mean, best)| *mean += best / places as f64);
     }
-    assert!(left.iter().all(|other| *other == left[0]));
-    let [batch, singles, model] = best.map(|time| time / count as f64);
-    println!(
-        "{label:<34} {:>9} in {:>9} out   for each: proved {batch:>7.0} ns   single calls {singles:>7.0} ns   \
-         model {model:>7.0} ns   ratio {:.2}",
-        input.len(),
-        left[0].1.len() + left[0].2.len(),
-        batch / model
-    );
+    mean
+}
+
+/// A table in Markdown: for each row its labels, its times and their ratios to the fast version's.
+struct Table {
+    text: String,
+    fast: usize,
+    logarithms: Vec<Vec<f64>>,
+}
+
+impl Table {
+    fn new(names: &[&str], first: &str) -> Table {
+        let fast = names.iter().position(|name| *name == "fast").expect("a fast version");
+        let mut text = format!("| {first} | in | out |");
+        names.iter().for_each(|name| write!(text, " {name} ns |").unwrap());
+        for name in names.iter().filter(|name| **name != "fast") {
+            write!(text, " {name} / fast |").unwrap();
+        }
+        let columns = 3 + 2 * names.len() - 1;
+        writeln!(text, "\n|---|{}", "---:|".repeat(columns - 1)).unwrap();
+        print!("{text}");
+        Table { text, fast, logarithms: vec![Vec::new(); names.len()] }
+    }
+
+    fn row(&mut self, label: &str, input: usize, output: usize, times: &[f64]) {
+        let mut line = format!("| {label} | {input} | {output} |");
+        times.iter().for_each(|time| write!(line, " {time:.0} |").unwrap());
+        for (at, time) in times.iter().enumerate() {
+            let ratio = time / times[self.fast];
+            self.logarithms[at].push(ratio.ln());
+            if at != self.fast {
+                write!(line, " {ratio:.2} |").unwrap();
+            }
+        }
+        println!("{line}");
+        writeln!(self.text, "{line}").unwrap();
+    }
+
+    /// With the geometric mean of the ratios.
+    fn end(mut self) -> String {
+        let columns = self.logarithms.len();
+        let mut line = format!("| geometric mean | | |{}", " |".repeat(columns));
+        for (_, logarithms) in self.logarithms.iter().enumerate().filter(|(at, _)| *at != self.fast) {
+            let mean = (logarithms.iter().sum::<f64>() / logarithms.len().max(1) as f64).exp();
+            write!(line, " {mean:.2} |").unwrap();
+        }
+        println!("{line}\n");
+        writeln!(self.text, "{line}\n").unwrap();
+        self.text
+    }
+}
+
+/// The model and the versions beside it.
+fn calls() -> Vec<(&'static str, Call)> {
+    [("model", downgrade as Call)].into_iter().chain(versions::calls()).collect()
+}
+
+fn names<T>(calls: &[(&'static str, T)]) -> Vec<&'static str> {
+    calls.iter().map(|(name, _)| *name).collect()
+}
+
+/// The answer of a call, and both buffers.
+fn outcome(call: Call, row: &Row, rooms: (usize, usize)) -> (Answer, Vec<u8>, Vec<u8>) {
+    let (mut e, mut h) = (vec![0; rooms.0], vec![0; rooms.1]);
+    let answer = call(row.setting, &row.envelope, &row.header, &mut e, &mut h);
+    (answer, e, h)
+}
+
+/// Ends the program where two versions differ.
+fn compare(row: &Row, rooms: (usize, usize)) -> Answer {
+    let calls = calls();
+    let first = outcome(calls[0].1, row, rooms);
+    for (name, call) in &calls[1..] {
+        let other = outcome(*call, row, rooms);
+        let label = &row.label;
+        assert!(first == other, "{name} differs on {label}: {:?}, the model has {:?}", other.0, first.0);
+    }
+    first.0
+}
+
+/// All versions on one row in these rooms.
+fn time_row(row: &Row, rooms: (usize, usize), places: usize, rounds: usize) -> Vec<f64> {
+    let run = |(_, call): (&'static str, Call)| {
+        let (mut e, mut h) = (vec![0; rooms.0], vec![0; rooms.1]);
+        let run: Run = Box::new(move |header, times| {
+            for _ in 0..times {
+                black_box(call(black_box(row.setting), black_box(&row.envelope), black_box(header), &mut e, &mut h));
+            }
+        });
+        run
+    };
+    let mut runs: Vec<Run> = calls().into_iter().map(run).collect();
+    times(&row.header, &mut runs, places, rounds)
+}
+
+/// The whole call: kinds of header, in large and in tight buffers.
+fn whole_calls(filter: &str) -> String {
+    let mut table = Table::new(&names(&calls()), "whole call");
+    for row in rows::rows().iter().filter(|row| row.label.contains(filter)) {
+        let answer = compare(row, (ENVELOPE_ROOM, HEADER_ROOM));
+        assert_eq!(answer.number, 0, "{}", row.label);
+        let tight = (answer.envelope_len, answer.header_len);
+        compare(row, tight);
+        assert_eq!(compare(row, (tight.0, tight.1 - 1)).number, 8);
+        for (buffers, rooms) in [("large", (ENVELOPE_ROOM, HEADER_ROOM)), ("tight", tight)] {
+            let times = time_row(row, rooms, PLACES, ROUNDS);
+            table.row(&format!("{}, {buffers}", row.label), row.header.len(), answer.header_len, &times);
+        }
+    }
+    table.end()
+}
+
+/// The mailbox's call, in large and in tight buffers.
+fn mailbox_calls(filter: &str) -> String {
+    let calls: Vec<(&str, MailboxCall)> =
+        [("model", downgrade_mailbox as MailboxCall)].into_iter().chain(versions::mailbox_calls()).collect();
+    let mut table = Table::new(&names(&calls), "mailbox");
+    for (label, header) in rows::mailbox_rows().into_iter().filter(|(label, _)| label.contains(filter)) {
+        let outcome = |call: MailboxCall, room: usize| -> (MailboxAnswer, Vec<u8>) {
+            let mut buffer = vec![0; room];
+            (call(&header, &mut buffer), buffer)
+        };
+        let length = outcome(calls[0].1, HEADER_ROOM).0.length;
+        for (buffers, room) in [("large", HEADER_ROOM), ("tight", length)] {
+            let first = outcome(calls[0].1, room);
+            assert!(calls.iter().all(|(_, call)| outcome(*call, room) == first), "{label}");
+            let run = |(_, call): &(&str, MailboxCall)| {
+                let (call, mut buffer) = (*call, vec![0; room]);
+                let run: Run = Box::new(move |header, times| {
+                    for _ in 0..times {
+                        black_box(call(black_box(header), &mut buffer));
+                    }
+                });
+                run
+            };
+            let mut runs: Vec<Run> = calls.iter().map(run).collect();
+            let times = times(&header, &mut runs, PLACES, ROUNDS);
+            table.row(&format!("{label}, {buffers}"), header.len(), length, &times);
+        }
+    }
+    table.end()
+}
+
+/// All fields of a header, one call after another; the bytes of their texts.
+fn read_all(call: ReadCall, header: &[u8], buffer: &mut [u8]) -> (Vec<ReadAnswer>, usize) {
+    let (mut answers, mut place, mut length) = (Vec::new(), 0, 0);
+    loop {
+        let answer = call(header, place, buffer);
+        if answer.number == reader::NONE {
+            return (answers, length);
+        }
+        place = answer.next;
+        length += answer.length;
+        answers.push(answer);
+    }
+}
+
+/// Reading what the call has written for the rows' headers.
+fn read_calls(filter: &str) -> String {
+    let calls: Vec<(&str, ReadCall)> =
+        [("model", reader::read as ReadCall)].into_iter().chain(versions::read_calls()).collect();
+    let mut table = Table::new(&names(&calls), "reader, all fields");
+    let read = ["mixed 1K", "bulletin 3K", "Greek and addresses 30K", "one folded text 30K", "all ascii 30K"];
+    for row in rows::rows().iter().filter(|row| read.contains(&row.label.as_str()) && row.label.contains(filter)) {
+        let (answer, _, mut header) = outcome(downgrade, row, (ENVELOPE_ROOM, HEADER_ROOM));
+        header.truncate(answer.header_len);
+        let mut buffer = vec![0; header.len()];
+        let first = read_all(calls[0].1, &header, &mut buffer);
+        assert!(calls.iter().all(|(_, call)| read_all(*call, &header, &mut buffer) == first), "{}", row.label);
+        let run = |(_, call): &(&str, ReadCall)| {
+            let (call, mut buffer) = (*call, vec![0; header.len()]);
+            let run: Run = Box::new(move |header, times| {
+                for _ in 0..times {
+                    black_box(read_all(call, black_box(header), &mut buffer));
+                }
+            });
+            run
+        };
+        let mut runs: Vec<Run> = calls.iter().map(run).collect();
+        let times = times(&header, &mut runs, 2, ROUNDS);
+        table.row(&row.label, header.len(), first.1, &times);
+    }
+    table.end()
+}
+
+/// Nanoseconds for a byte of the header over its size: for the last version but the fast one.
+fn growth(filter: &str) -> String {
+    let (name, at) = last_version();
+    let sizes = [1, 2, 4, 8, 16, 32];
+    let mut text = format!("| {name}, ns for a byte of the header |");
+    sizes.iter().for_each(|size| write!(text, " {size} KB |").unwrap());
+    writeln!(text, " most / least |\n|---|{}", "---:|".repeat(sizes.len() + 1)).unwrap();
+    print!("{text}");
+    let labels: Vec<String> = rows::growing(1024).into_iter().map(|row| row.label).collect();
+    let worst: Vec<&str> = worst::headers(1024).into_iter().map(|(label, _)| label).collect();
+    for label in labels.iter().map(String::as_str).chain(worst).filter(|label| label.contains(filter)) {
+        let mut line = format!("| {label} |");
+        let (mut most, mut least) = (0f64, f64::MAX);
+        for size in sizes {
+            let row = sized(label, 1024 * size - 20);
+            compare(&row, (ENVELOPE_ROOM, HEADER_ROOM));
+            let time = time_row(&row, (ENVELOPE_ROOM, HEADER_ROOM), 1, 5)[at] / row.header.len() as f64;
+            (most, least) = (most.max(time), least.min(time));
+            write!(line, " {time:.2} |").unwrap();
+        }
+        writeln!(line, " {:.1} |", most / least).unwrap();
+        print!("{line}");
+        text += &line;
+    }
+    println!();
+    text + "\n"
+}
+
+/// A row by its label and its size.
+fn sized(label: &str, size: usize) -> Row {
+    let usual = rows::growing(size).into_iter().find(|row| row.label == label);
+    usual.unwrap_or_else(|| {
+        let (_, header) = worst::headers(size).into_iter().find(|(known, _)| *known == label).expect("a label");
+        Row { label: label.into(), setting: 0, envelope: rows::ASCII_ENVELOPE.into(), header }
+    })
+}
+
+/// The proved call where it is there, else the fast version; and its place among the calls.
+fn last_version() -> (&'static str, usize) {
+    let calls = calls();
+    let at = calls.iter().position(|(name, _)| *name == "proved").unwrap_or(calls.len() - 1);
+    (calls[at].0, at)
+}
+
+/// The worst headers of 32 KB, set against a usual one of that size.
+fn worst_headers(filter: &str) -> String {
+    let (name, at) = last_version();
+    let mut text = format!("| {name}, 32 KB | answer | out | microseconds | / mixed |\n|---|---:|---:|---:|---:|\n");
+    print!("{text}");
+    let usual = time_row(&sized("mixed", 32_700), (ENVELOPE_ROOM, HEADER_ROOM), 1, 20)[at];
+    let all = worst::headers(32_760).into_iter().chain(worst::largest()).filter(|(label, _)| label.contains(filter));
+    for (label, header) in all {
+        let row = Row { label: label.into(), setting: 0, envelope: rows::ASCII_ENVELOPE.into(), header };
+        let answer = compare(&row, (ENVELOPE_ROOM, HEADER_ROOM));
+        let time = time_row(&row, (ENVELOPE_ROOM, HEADER_ROOM), 1, 5)[at];
+        let (number, length) = (answer.number, answer.header_len);
+        let line = format!("| {label} | {number} | {length} | {:.0} | {:.1} |", time / 1000.0, time / usual);
+        println!("{line}");
+        writeln!(text, "{line}").unwrap();
+    }
+    println!();
+    text + "\n"
+}
+
+/// Made-up inputs: every version must answer alike.
+fn compare_made_up(count: usize) {
+    let mut r = Random::new(33);
+    for _ in 0..count {
+        let setting = generate::setting(&mut r);
+        let (envelope, header) = generate::input(&mut r, setting);
+        let row = Row { label: format!("{:?}", header.escape_ascii().to_string()), setting, envelope, header };
+        let whole = outcome(downgrade, &row, (ENVELOPE_ROOM, 80 * row.header.len() + 20_600)).0;
+        let short = r.below(3);
+        compare(&row, (whole.envelope_len + 1 - r.below(2), (whole.header_len + 1).saturating_sub(short)));
+    }
+    println!("{count} made-up inputs answered alike\n");
+}
+
+fn option(name: &str) -> Option<String> {
+    std::env::args().skip_while(|argument| argument != name).nth(1)
+}
+
+/// Between the two lines of the file.
+fn write_file(path: &str, tables: &str) {
+    let old = std::fs::read_to_string(path).expect("the file");
+    let (before, rest) = old.split_once("<!-- bench -->\n").expect("a line <!-- bench -->");
+    let (_, after) = rest.split_once("<!-- end of bench -->\n").expect("a line <!-- end of bench -->");
+    let new = format!("{before}<!-- bench -->\n{tables}<!-- end of bench -->\n{after}");
+    std::fs::write(path, new).expect("the file");
 }
 
 fn main() {
-    proved::check_version();
-    println!("the whole call; a ratio under 1 means that the proved call is faster");
-    compare("small, mixed, 1 KB", &header(1024, MIXED));
-    compare("long, non-ASCII, 30 KB", &header(30_720, NON_ASCII));
-    compare("long, one folded text, 30 KB", &one_text(30_720));
-    compare("long, nearly all ASCII, 30 KB", &nearly_ascii(30_720));
-    println!();
-    for size in [1, 4, 16, 32] {
-        compare(&format!("mixed, {size} KB"), &header(size * 1024, MIXED));
+    let filter = std::env::args().nth(1).filter(|argument| !argument.starts_with("--")).unwrap_or_default();
+    compare_made_up(option("--inputs").map_or(20_000, |count| count.parse().expect("a number")));
+    let mut tables = format!(
+        "Nanoseconds for one call: the best of {ROUNDS} rounds of {:.2} ms at each of {PLACES} places of the header in memory, the\n\
+         mean over the places, all versions by turns in one process. Large buffers have {ENVELOPE_ROOM} and {HEADER_ROOM} bytes,\n\
+         tight ones just what is written. A ratio over 1 means slower than the fast version in plain Rust.\n\n",
+        ROUND / 1e6
+    );
+    println!("{tables}");
+    for table in [whole_calls, mailbox_calls, read_calls, worst_headers, growth] {
+        tables += &table(&filter);
     }
-    for size in [1, 4, 16, 32] {
-        compare_set(&format!("mixed, current, {size} KB"), 1, &header(size * 1024, MIXED));
-    }
-    for size in [1, 4, 16, 32] {
-        compare(&format!("non-ASCII, {size} KB"), &header(size * 1024, NON_ASCII));
-    }
-    for size in [1, 4, 16, 32] {
-        compare(&format!("nearly all ASCII, {size} KB"), &nearly_ascii(size * 1024));
-    }
-    for (script, words) in [("Greek", GREEK), ("Japanese", JAPANESE)] {
-        for characters in [60, 2000] {
-            compare_set(&format!("row, {script}, {characters} characters"), 1, &subject(words, characters));
-        }
-    }
-    for size in [1, 4, 16, 32] {
-        compare(&format!("Received, {size} KB"), &header(size * 1024, RECEIVED));
-    }
-    for (name, closed) in [("To", true), ("To", false), ("Date", true), ("Date", false), ("Received", true)] {
-        for size in [1, 4, 16, 32] {
-            let label = if closed { "nested comments" } else { "unclosed comment" };
-            compare(&format!("{label}, {name}, {size} KB"), &nested(size * 1024, name, closed));
-        }
-    }
-    println!();
-    for count in [100, 1000, 10_000] {
-        compare_batch(count);
+    if let Some(path) = option("--write") {
+        write_file(&path, &tables);
     }
 }

@@ -1,22 +1,22 @@
-//! The proved call beside the model: equal answers and equal bytes on made-up inputs.
+//! The fast version beside the model, and with the feature `proved` the proved call: equal answers and equal bytes on made-up
+//! inputs.
 //!
 //!     fuzz [--seed N] [--count N] [--seconds N]
 
 use hennelaku_model::address_list::Parts;
-use hennelaku_model::call::{Setting, ENVELOPE, HEADER, NEITHER};
+use hennelaku_model::call::{Profile, Setting, ENVELOPE, HEADER, NEITHER};
+use hennelaku_model::checks::{unlike_rfc2231, unlike_rfc5322};
 use hennelaku_model::comment::{self, Part};
 use hennelaku_model::generate::{self, Random};
 use hennelaku_model::harness::{filled, pattern, Met, Run, GUARD};
-use hennelaku_model::header::{is_blank, kind, next_non_ascii, Field, Kind};
+use hennelaku_model::header::{kind, next_non_ascii, Field, Kind};
 use hennelaku_model::received::{self, Held, Stretch};
-use hennelaku_model::rfc5322::is_address_list;
 use hennelaku_model::utf8::char_len;
+use hennelaku_model::versions::{self, Call};
 use hennelaku_model::words::{base64_size, first_word, Encoding, SIZE};
-use hennelaku_model::{address_list, downgrade, header, proved, Answer};
+use hennelaku_model::{address_list, downgrade, header, parameter, Answer};
 use std::cmp::Ordering;
 use std::process::exit;
-
-type Call = fn(u64, &[u8], &[u8], &mut [u8], &mut [u8]) -> Answer;
 
 /// What a call leaves: its answer, and both buffers with their guards.
 #[derive(PartialEq)]
@@ -98,49 +98,20 @@ fn fault(input: &Input, got: &Outcome, salt: u8) -> Option<String> {
     None
 }
 
-/// The fields of a well-formed header, each with its lines.
-fn fields(header: &[u8]) -> Vec<&[u8]> {
-    let is_start = |at: usize| at == 0 || (header[at - 1] == b'\n' && !is_blank(header[at]));
-    let mut starts: Vec<usize> = (0..header.len()).filter(|&at| is_start(at)).collect();
-    starts.push(header.len());
-    starts.windows(2).map(|ends| &header[ends[0]..ends[1]]).collect()
-}
-
-/// A rewritten address field of the outgoing header that is no address list by RFC 5322, as one with a group inside a
-/// group.
-fn unlike_rfc5322(setting: Setting, header: &[u8], out: &[u8]) -> Option<String> {
-    let out = fields(out);
-    // For each field of the header whether it is rewritten as an address list, and how many are written for it.
-    let mut written = Vec::new();
-    for field in fields(header) {
-        let replaces = next_non_ascii(field, 0).filter(|field| kind(field.name) == Kind::Address).map(|field| {
-            let mut text = Vec::new();
-            header::unfolded(field.folded_text(), |part| text.extend_from_slice(part));
-            address_list::replaces(&text, setting)
-        });
-        written.push((matches!(replaces, Some(Some(_))), 1 + matches!(replaces, Some(Some(true))) as usize));
-    }
-    // Behind the new first fields.
-    let mut at = out.len() - written.iter().map(|(_, count)| count).sum::<usize>();
-    for (rewritten, count) in written {
-        let value = out[at].split_at(out[at].iter().position(|&b| b == b':')? + 1).1;
-        if rewritten && !is_address_list(value.strip_suffix(b"\r\n")?) {
-            return Some(format!("no address list by RFC 5322: \"{}\"", out[at].escape_ascii()));
-        }
-        at += count;
-    }
-    None
-}
-
 /// The header room from which on the proved call does not measure before it writes (`HENNELAKU_HEADER_ROOM_FOR`).
 fn ample(header: &[u8]) -> usize {
     30 * header.len() + 20600
 }
 
+/// The longest that any header can become, [7]'s parts with it.
+const LARGEST: usize = 2_700_000;
+
 /// Rooms just right, one short, zero, large, any; and those at which the proved call starts to write without measuring.
 fn rooms(r: &mut Random, whole: Answer, header: &[u8]) -> (usize, usize) {
     let (e, h) = (whole.envelope_len, whole.header_len);
-    match r.below(24) {
+    match r.below(26) {
+        24 => (e, ample(header) + 50 * header.len() - 1),
+        25 => (e, ample(header) + 50 * header.len()),
         20 => (e, ample(header) - 1),
         21 => (e, ample(header)),
         22 => (e + r.below(300), ample(header) + r.below(3000)),
@@ -241,6 +212,7 @@ fn equal_choice(text: &[u8], room: usize) -> bool {
 fn look(met: &mut Met, input: &Input, got: &Outcome) {
     let number = got.answer.number;
     let setting = Setting::new(input.setting);
+    let profile = Profile::Relay(setting);
     let current = setting == Setting::Current;
     let lines = |bytes: &[u8], len: usize| bytes.split(|&b| b == b'\n').any(|line| line.len() == len + 1);
     let envelope_lines = input.envelope.iter().filter(|&&b| b == b'\n').count();
@@ -256,6 +228,11 @@ fn look(met: &mut Met, input: &Input, got: &Outcome) {
     met.count("6 for an ORCPT", number == 6 && got.answer.input == ENVELOPE);
     met.count("6 for a field", number == 6 && got.answer.input == HEADER);
     met.count("6 for a field with a comment", number == 6 && held_beside_a_comment(&input.header));
+    let parameters = held_parameters(&input.header, got.answer);
+    met.count("6 for a parameter's name with a *", parameters == Some(parameter::Held::Star));
+    met.count("6 for a parameter's name that is shared", parameters == Some(parameter::Held::Shared));
+    met.count("6 for a parameter without room for a character", parameters == Some(parameter::Held::Room));
+    met.count("6 for non-ASCII outside parameters and comments", parameters == Some(parameter::Held::Elsewhere));
     let received = held_received(&input.header, got.answer);
     met.count("6 for a Received with a for without an address", received == Some(Held::NoAddress));
     met.count("6 for a Received with non-ASCII elsewhere", received == Some(Held::Elsewhere));
@@ -283,6 +260,7 @@ fn look(met: &mut Met, input: &Input, got: &Outcome) {
     let mut comments = Comments::default();
     let mut groups = Groups::default();
     let mut clauses = Clauses::default();
+    let mut parameters = Parameters::default();
     let mut no_longer_fit = 0;
     let (mut names_of_76, mut folded, mut words_of_900) = (0, 0, 0);
     let mut first_lines = [0; 6];
@@ -293,7 +271,7 @@ fn look(met: &mut Met, input: &Input, got: &Outcome) {
         header::unfolded(field.folded_text(), |part| text.extend_from_slice(part));
         let at = match kind(field.name) {
             Kind::Plain => 0,
-            Kind::Other | Kind::Held => 1,
+            Kind::Other | Kind::Held | Kind::EncapsulatedOutsideComments => 1,
             Kind::HeldOutsideComments => {
                 comment::stretches(field.value, |stretch, is_comment| {
                     if is_comment {
@@ -308,7 +286,12 @@ fn look(met: &mut Met, input: &Input, got: &Outcome) {
                 from = field.end;
                 continue;
             }
-            Kind::Address => match address_list::replaces(&text, setting) {
+            Kind::Parameters => {
+                parameters.look(&field);
+                from = field.end;
+                continue;
+            }
+            Kind::Address => match address_list::replaces(&text, profile) {
                 None => 2,
                 Some(false) => 3,
                 Some(true) if has(&text, b">>") => 4,
@@ -316,14 +299,14 @@ fn look(met: &mut Met, input: &Input, got: &Outcome) {
             },
         };
         fields[at] += 1;
-        no_longer_fit += (at == 2 && address_list::replaces(&text, Setting::Spool).is_some()) as usize;
+        no_longer_fit += (at == 2 && address_list::replaces(&text, Profile::Relay(Setting::Spool)).is_some()) as usize;
         if at < 3 {
             first_lines[first_line(written_name_len(&field), &text)] += 1;
             equal_choices += equal_choice(&text, 62usize.saturating_sub(written_name_len(&field))) as usize;
         }
         if at > 2 {
-            let _ = address_list::list(&text, setting, &mut comments);
-            let _ = address_list::list(&text, setting, &mut groups);
+            let _ = address_list::list(&text, profile, &mut comments);
+            let _ = address_list::list(&text, profile, &mut groups);
             words_of_900 += text.split(|&b| b" \t<>,:;\"".contains(&b)).any(|word| word.len() == 900) as usize;
         }
         names_of_76 += (field.name.len() == 76) as usize;
@@ -389,11 +372,12 @@ fn look(met: &mut Met, input: &Input, got: &Outcome) {
     met.count("Received with a line that grew to 998", clauses.line_of_998 > 0);
     met.count("Received with a comment rewritten, no clause removed", clauses.comment_alone > 0);
     met.count("Received that ends in a for", clauses.ends_in_for > 0);
+    parameters.count(met);
 }
 
 /// What a message from the spool would be answered, with all the room it wants.
 fn spool_answer(input: &Input) -> Answer {
-    downgrade(0, &input.envelope, &input.header, &mut vec![0; 17_000], &mut vec![0; 700_000])
+    downgrade(0, &input.envelope, &input.header, &mut vec![0; 17_000], &mut vec![0; LARGEST])
 }
 
 /// What became of the Received fields of a header that is written.
@@ -452,18 +436,108 @@ impl Clauses {
     }
 }
 
-/// Why the field that a 6 is about is held, if it is a Received.
-fn held_received(header: &[u8], answer: Answer) -> Option<Held> {
+/// The field that a 6 is about.
+fn held_field(header: &[u8], answer: Answer) -> Option<Field<'_>> {
     let mut from = 0;
     while (answer.number, answer.input) == (6, HEADER) && from <= answer.offset {
         let field = next_non_ascii(header, from)?;
         if field.end > answer.offset {
-            let is_received = kind(field.name) == Kind::Received;
-            return received::check(field.name.len(), field.value).err().filter(|_| is_received);
+            return Some(field);
         }
         from = field.end;
     }
     None
+}
+
+/// Why it is held, if it is a Received.
+fn held_received(header: &[u8], answer: Answer) -> Option<Held> {
+    let field = held_field(header, answer).filter(|field| kind(field.name) == Kind::Received)?;
+    received::check(field.name.len(), field.value).err()
+}
+
+/// Why it is held, if it is one with parameters.
+fn held_parameters(header: &[u8], answer: Answer) -> Option<parameter::Held> {
+    let field = held_field(header, answer).filter(|field| kind(field.name) == Kind::Parameters)?;
+    parameter::check(field.value).err()
+}
+
+/// What became of the fields with parameters of a header that is written.
+#[derive(Default)]
+struct Parameters {
+    converted: usize,
+    alone: usize,
+    full_line: usize,
+    one_over: usize,
+    most_parts: usize,
+    several: usize,
+    beside_ascii: usize,
+    beside_a_comment: usize,
+    escapes: usize,
+    folds: usize,
+    unclosed: usize,
+    comment_alone: usize,
+    behind: usize,
+}
+
+impl Parameters {
+    /// A field that is not held.
+    fn look(&mut self, field: &Field) {
+        let (mut converted, mut ascii, mut comments, mut open, mut last) = (0, 0, 0, false, false);
+        for part in parameter::parts(field.value) {
+            let was = std::mem::replace(&mut last, false);
+            match part {
+                parameter::Part::Comment(comment) => comments += !comment.is_ascii() as usize,
+                parameter::Part::Other(other) => {
+                    open |= other.contains(&b'(') && !other.contains(&b'"');
+                    self.behind += (was && !other.trim_ascii().is_empty() && other.trim_ascii() != b";") as usize;
+                }
+                parameter::Part::Parameter(found) if !parameter::is_converted(&found) => ascii += 1,
+                parameter::Part::Parameter(found) => {
+                    converted += 1;
+                    last = true;
+                    self.unclosed += open as usize;
+                    self.look_at(&found);
+                }
+            }
+        }
+        self.converted += converted;
+        self.several += (converted > 1) as usize;
+        self.beside_ascii += (converted > 0 && ascii > 0) as usize;
+        self.beside_a_comment += (converted > 0 && comments > 0) as usize;
+        self.comment_alone += (converted == 0 && comments > 0) as usize;
+    }
+
+    fn look_at(&mut self, found: &parameter::Parameter) {
+        let text = parameter::text(found.value);
+        let pieces = parameter::pieces(found.name.len(), &text).unwrap_or_default();
+        let size: usize = pieces.iter().map(Vec::len).sum();
+        let room = parameter::room(found.name.len(), None);
+        self.alone += (pieces.len() == 1) as usize;
+        self.full_line += (size == room) as usize;
+        self.one_over += (size == room + 1) as usize;
+        self.most_parts = self.most_parts.max(pieces.len());
+        self.escapes += (found.value.starts_with(b"\"") && found.value.contains(&b'\\')) as usize;
+        self.folds += found.value.contains(&b'\n') as usize;
+    }
+
+    fn count(&self, met: &mut Met) {
+        met.count("parameter converted", self.converted > 0);
+        met.count("parameter converted on one line", self.alone > 0);
+        met.count("parameter that fills one line", self.full_line > 0);
+        met.count("parameter one too long for one line", self.one_over > 0);
+        met.count("parameter in parts", self.most_parts > 1);
+        met.count("parameter in 10 parts", self.most_parts == 10);
+        met.count("parameter in more than 10 parts", self.most_parts > 10);
+        met.count("parameter in more than 100 parts", self.most_parts > 100);
+        met.count("parameters converted, several of a field", self.several > 0);
+        met.count("parameter converted beside one that is ASCII", self.beside_ascii > 0);
+        met.count("parameter converted beside a comment rewritten", self.beside_a_comment > 0);
+        met.count("parameter converted without escapes", self.escapes > 0);
+        met.count("parameter converted without folds", self.folds > 0);
+        met.count("parameter converted behind an unclosed parenthesis", self.unclosed > 0);
+        met.count("parameter converted, text behind it", self.behind > 0);
+        met.count("field with parameters, a comment rewritten alone", self.comment_alone > 0);
+    }
 }
 
 /// What stands in the comments of a header that is written.
@@ -597,12 +671,12 @@ fn held_beside_a_comment(header: &[u8]) -> bool {
     false
 }
 
-fn show(label: &str, input: &Input, model: &Outcome, other: &Outcome, why: &str) -> ! {
-    println!("difference at {label}: {why}");
+fn show(label: &str, input: &Input, model: &Outcome, other: (&str, &Outcome), why: &str) -> ! {
+    println!("difference at {label}, {}: {why}", other.0);
     println!("envelope ({} bytes): \"{}\"", input.envelope.len(), input.envelope.escape_ascii());
     println!("header ({} bytes): \"{}\"", input.header.len(), input.header.escape_ascii());
     println!("setting {}, rooms {} and {}", input.setting, input.envelope_room, input.header_room);
-    for (name, got) in [("model", model), ("proved", other)] {
+    for (name, got) in [("model", model), other] {
         println!("{name}: {:?}", got.answer);
         for (buffer, len) in [(&got.envelope, got.answer.envelope_len), (&got.header, got.answer.header_len)] {
             let end = buffer.len().min(GUARD.saturating_add(len));
@@ -624,41 +698,48 @@ fn next_input(r: &mut Random, scratch: &mut (Vec<u8>, Vec<u8>)) -> Input {
     Input { setting, envelope, header, envelope_room, header_room }
 }
 
-/// Both calls on one input; what the model left.
-fn compare(input: &Input, salt: u8, label: &str) -> Outcome {
+/// All calls on one input; what the model left.
+fn compare(input: &Input, calls: &[(&str, Call)], salt: u8, label: &str) -> Outcome {
     let model = outcome(downgrade, input, salt);
-    let other = outcome(proved::downgrade, input, salt);
-    for (name, got) in [("model", &model), ("proved", &other)] {
-        if let Some(why) = fault(input, got, salt) {
-            show(label, input, &model, &other, &format!("{name}: {why}"));
+    if let Some(why) = fault(input, &model, salt).or_else(|| unlike_papers(input, &model)) {
+        show(label, input, &model, ("model", &model), &why);
+    }
+    for (name, call) in calls {
+        let other = outcome(*call, input, salt);
+        if let Some(why) = fault(input, &other, salt) {
+            show(label, input, &model, (name, &other), &why);
         }
-    }
-    if model != other {
-        show(label, input, &model, &other, "answers or bytes differ");
-    }
-    let out = &other.header[GUARD..GUARD + other.answer.header_len];
-    if out.split(|&b| b == b'\n').any(|line| line.len() > 999) {
-        show(label, input, &model, &other, "a line of more than 998 bytes");
-    }
-    if let Some(why) =
-        (other.answer.number == 0).then(|| unlike_rfc5322(Setting::new(input.setting), &input.header, out)).flatten()
-    {
-        show(label, input, &model, &other, &why);
+        if model != other {
+            show(label, input, &model, (name, &other), "answers or bytes differ");
+        }
     }
     model
 }
 
+/// What the papers and the RFCs say of the outgoing header, seen from it alone.
+fn unlike_papers(input: &Input, got: &Outcome) -> Option<String> {
+    let out = &got.header[GUARD..GUARD + got.answer.header_len];
+    if out.split(|&b| b == b'\n').any(|line| line.len() > 999) {
+        return Some("a line of more than 998 bytes".into());
+    }
+    if got.answer.number != 0 {
+        return None;
+    }
+    let profile = Profile::Relay(Setting::new(input.setting));
+    unlike_rfc5322(profile, &input.header, out).or_else(|| unlike_rfc2231(&input.header, out))
+}
+
 fn main() {
-    proved::check_version();
+    let calls = versions::calls();
     let mut run = Run::from_arguments();
     let mut r = Random::new(run.seed);
-    let mut scratch = (vec![0; 17_000], vec![0; 700_000]);
+    let mut scratch = (vec![0; 17_000], vec![0; LARGEST]);
     let mut numbers = [0; 11];
     let mut met = Met::default();
     let mut line_faults = hennelaku_model::line_faults::LineFaults::default();
     while let Some(label) = run.begin_next() {
         let input = next_input(&mut r, &mut scratch);
-        let got = compare(&input, r.number() as u8, &label);
+        let got = compare(&input, &calls, r.number() as u8, &label);
         numbers[got.answer.number as usize] += 1;
         look(&mut met, &input, &got);
         line_faults.count(&input.envelope, &input.header, got.answer);
@@ -669,5 +750,6 @@ fn main() {
     }
     print!("{met}");
     print!("{line_faults}");
-    println!("{} inputs, 0 differences", run.done);
+    let names: Vec<&str> = calls.iter().map(|(name, _)| *name).collect();
+    println!("{} inputs, 0 differences (model, {})", run.done, names.join(", "));
 }

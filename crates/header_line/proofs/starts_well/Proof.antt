@@ -12,13 +12,13 @@ is-blank-requires : tie.Need-is-blank-requires
 is-blank-requires c κs = search needs
 
 returns : tie.Need-returns
-returns c = start-blank _ _ (ap blank (sym (c .before .before .byte-at .ensures)) ∙ sym (c .before .is-blank .ensures) ∙ c .if1 .taken)
+returns c = start-blank _ _ _ (ap blank (sym (c .before .before .byte-at .ensures)) ∙ sym (c .before .is-blank .ensures) ∙ c .if1 .taken)
 
 is-named-requires : tie.Need-is-named-requires
 is-named-requires c κs = search needs
 
 returns-2 : tie.Need-returns-2
-returns-2 c = c .is-named .ensures ∙ start-name _ _ (ap blank (sym (c .before .before .before .byte-at .ensures)) ∙ sym (c .before .before .is-blank .ensures) ∙ c .before .if1 .left)
+returns-2 c = c .is-named .ensures ∙ start-name _ _ _ (ap blank (sym (c .before .before .before .byte-at .ensures)) ∙ sym (c .before .before .is-blank .ensures) ∙ c .before .if1 .left)
 
 pub starts-well-spec : {M : Type 1} → statement M
 starts-well-spec =

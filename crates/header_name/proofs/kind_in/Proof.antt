@@ -60,8 +60,11 @@ loop-less c = omega arith
 loop-again : tie.Need-loop-again Inv-loop μ-loop
 loop-again c = sought-next (row _ _ _ _ (c .before .before .before .before .before .before .before .before .before .before .before .pre .0) (c .before .before .before .before .before .before .before .before .before .before .before .pre .1) (c .before .before .before .before .before .before .before .before .before .before .before .pre .2) (c .before .before .before .before .before .loop-test .taken)) (c .before .before .before .before .before .loop-test .taken) (sym (c .before .same-any-case .ensures) ∙ c .if1 .left) (c .before .before .before .before .before .before .loop .inv)
 
+other-kind-requires : tie.Need-other-kind-requires Inv-loop μ-loop
+other-kind-requires c κs = search needs
+
 returns-2 : tie.Need-returns-2 Inv-loop μ-loop
-returns-2 c = sought-end (c .loop-test .left) (c .before .loop .inv)
+returns-2 c = c .other-kind .ensures ∙ sought-end (c .before .loop-test .left) (c .before .before .loop .inv)
 
 pub kind-in-spec : {M : Type 1} → statement M
 kind-in-spec =
@@ -85,4 +88,5 @@ kind-in-spec =
     add-k
     loop-less
     loop-again
+    other-kind-requires
     returns-2)

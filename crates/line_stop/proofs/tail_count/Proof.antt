@@ -1,19 +1,22 @@
-use borrow.Author.Tests.{lt-ltb, le-ltb}
+use native.Mathlib.Omega.{arith}
+use Rattle.utf8.specs.Utf8Laws.{char-len-some, char-len-le}
 use Rattle.line_stop.specs.CharScan.{tailCount}
+use borrow.Author.Needs.{needs}
 use Rattle.line_stop.proofs.tail_count.Statement.{statement}
 use Rattle.line_stop.proofs.tail_count.Tie as tie
 
+char-len-requires : tie.Need-char-len-requires
+char-len-requires c κs = search needs
+
+sub-result : tie.Need-sub-result
+sub-result c = omega (arith, c .char-len .ensures, char-len-some (c .before .args .b))
+
+cast-result : tie.Need-cast-result
+cast-result c = omega (arith, c .char-len .ensures, char-len-le (c .before .args .b))
+
 returns : tie.Need-returns
 unfolding tailCount
-returns c = simp (lt-ltb _ _ (c .if1 .taken))
-
-returns-2 : tie.Need-returns-2
-unfolding tailCount
-returns-2 c = simp (le-ltb _ _ (c .before .if1 .left), lt-ltb _ _ (c .if2 .taken))
-
-returns-3 : tie.Need-returns-3
-unfolding tailCount
-returns-3 c = simp (le-ltb _ _ (c .before .if1 .left), le-ltb _ _ (c .if2 .left))
+returns c = rw (c .char-len .ensures)
 
 pub tail-count-spec : {M : Type 1} → statement M
-tail-count-spec = tie.close (tie.spec returns returns-2 returns-3)
+tail-count-spec = tie.close (tie.spec char-len-requires sub-result cast-result returns)

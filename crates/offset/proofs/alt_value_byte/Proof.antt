@@ -23,7 +23,7 @@ alt-place-requires c κs = search needs
 
 -- src/lib.rt:43:9
 returns : tie.Need-returns
-returns c = alt-byte-none _ _ _ _ (c .before .before .tail-start .ensures) (c .before .alt-place .ensures) (c .if1 .taken)
+returns c = alt-byte-none _ _ _ _ (c .before .before .tail-start .ensures .1) (c .before .alt-place .ensures) (c .if1 .taken)
 
 -- src/lib.rt:45:17
 add-start : tie.Need-add-start
@@ -55,7 +55,7 @@ clip-requires c κs = search needs
 
 -- src/lib.rt:38:1
 returns-2 : tie.Need-returns-2
-returns-2 c = alt-byte _ _ _ _ (c .before .before .before .before .before .before .before .before .tail-start .ensures) (c .before .before .before .before .before .before .before .alt-place .ensures) _ (c .before .before .before .before .before .param-end .ensures) (c .before .before .before .before .part .ensures) (omega (arith, c .before .before .before .before .before .before .if1 .left)) _ _ _ _ (c .before .before .before .keyword-len .ensures) (c .before .before .place-after .ensures) (c .before .place-after2 .ensures) (c .clip .ensures) (omega arith)
+returns-2 c = alt-byte _ _ _ _ (c .before .before .before .before .before .before .before .before .tail-start .ensures .1) (c .before .before .before .before .before .before .before .alt-place .ensures) _ (c .before .before .before .before .before .param-end .ensures) (c .before .before .before .before .part .ensures) (omega (arith, c .before .before .before .before .before .before .if1 .left)) _ _ _ _ (c .before .before .before .keyword-len .ensures) (c .before .before .place-after .ensures) (c .before .place-after2 .ensures) (c .clip .ensures) (omega arith)
 
 pub alt-value-byte-spec : {M : Type 1} → statement M
 alt-value-byte-spec =

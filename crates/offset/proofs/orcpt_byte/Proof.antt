@@ -24,7 +24,7 @@ clip-requires c κs = search needs
 -- src/lib.rt:51:1
 returns : tie.Need-returns
 unfolding asciiRun
-returns c = orcpt-byte _ _ _ _ _ (c .before .before .tail-start .ensures) (c .before .ascii-end .ensures) (c .clip .ensures)
+returns c = orcpt-byte _ _ _ _ _ (c .before .before .tail-start .ensures .1) (c .before .ascii-end .ensures) (c .clip .ensures)
 
 pub orcpt-byte-spec : {M : Type 1} → statement M
 orcpt-byte-spec = tie.close (tie.spec tail-start-requires ascii-end-requires clip-requires returns)

@@ -21,7 +21,7 @@ is-ascii-requires : tie.Need-is-ascii-requires
 is-ascii-requires c κs = search needs
 
 returns-2 : tie.Need-returns-2
-returns-2 c = orcpt-value _ (sym (c .before .before .before .before .is-orcpt .ensures) ∙ not-false _ (c .before .before .before .if1 .left)) (value-part _ _ (c .before .part .ensures) (c .before .before .value-start .ensures)) (c .is-ascii .ensures)
+returns-2 c = orcpt-value _ (sym (c .before .before .before .before .is-orcpt .ensures) ∙ not-false _ (c .before .before .before .if1 .left)) (value-part _ _ (c .before .part .ensures) (c .before .before .value-start .ensures .1)) (c .is-ascii .ensures)
 
 pub is-orcpt-clean-spec : {M : Type 1} → statement M
 is-orcpt-clean-spec =

@@ -11,7 +11,10 @@ place-after-requires : tie.Need-place-after-requires
 place-after-requires c κs = search needs
 
 returns : tie.Need-returns
-returns c = value-from _ _ (c .before .keyword-len .ensures) _ (c .place-after .ensures) (omega arith)
+returns c =
+    let k = c .before .keyword-len .ensures in
+    let r = c .place-after .ensures in
+    (rw (← k) r, value-from _ _ k _ r (omega arith))
 
 pub value-start-spec : {M : Type 1} → statement M
 value-start-spec = tie.close (tie.spec keyword-len-requires place-after-requires returns)

@@ -19,7 +19,7 @@ in-q-requires c κs = search needs
 
 -- src/lib.rt:47:9
 returns : tie.Need-returns
-returns c = word-at-q (sure-q (c .before .before .before .before .pre .1) (c .before .before .surely-in-q .ensures (c .before .if1 .taken))) (c .in-q .ensures)
+returns c = word-at-q (sure-q (c .before .before .before .before .pre .1) (c .before .before .surely-in-q .ensures .1 (c .before .if1 .taken))) (c .in-q .ensures)
 
 -- src/lib.rt:49:9
 choose-requires : tie.Need-choose-requires
@@ -39,19 +39,19 @@ enum-known-choice c = search needs
 
 -- src/lib.rt:54:20
 add-t16 : tie.Need-add-t16
-add-t16 c = omega (arith, word-b-end (c .before .before .before .before .before .before .before .pre .1) (chosen-b (c .before .before .before .before .before .before .before .pre .1) (c .before .choice .given .1) (c .before .before .before .choose .ensures)))
+add-t16 c = omega (arith, word-b-end (c .before .before .before .before .before .before .before .pre .1) (chosen-b (c .before .before .before .before .before .before .before .pre .1) (c .before .choice .given .1) (c .before .before .before .choose .ensures .1)))
 
 -- src/lib.rt:54:19
 mul-t18 : tie.Need-mul-t18
-mul-t18 c = omega (arith, word-b-end (c .before .before .before .before .before .before .before .pre .1) (chosen-b (c .before .before .before .before .before .before .before .pre .1) (c .before .choice .given .1) (c .before .before .before .choose .ensures)))
+mul-t18 c = omega (arith, word-b-end (c .before .before .before .before .before .before .before .pre .1) (chosen-b (c .before .before .before .before .before .before .before .pre .1) (c .before .choice .given .1) (c .before .before .before .choose .ensures .1)))
 
 -- src/lib.rt:42:1
 returns-2 : tie.Need-returns-2
-returns-2 c = word-at-q (chosen-q (c .before .before .before .before .before .before .before .pre .1) (c .before .enum-told .given .1) (c .before .before .before .choose .ensures)) (c .in-q2 .ensures)
+returns-2 c = word-at-q (chosen-q (c .before .before .before .before .before .before .before .pre .1) (c .before .enum-told .given .1) (c .before .before .before .choose .ensures .1)) (c .in-q2 .ensures)
 
 -- src/lib.rt:42:1
 returns-3 : tie.Need-returns-3
-returns-3 c = word-at-b (chosen-b (c .before .before .before .before .before .before .before .pre .1) (c .before .choice .given .1) (c .before .before .before .choose .ensures))
+returns-3 c = word-at-b (chosen-b (c .before .before .before .before .before .before .before .pre .1) (c .before .choice .given .1) (c .before .before .before .choose .ensures .1))
 
 pub word-at-spec : {M : Type 1} → statement M
 word-at-spec =

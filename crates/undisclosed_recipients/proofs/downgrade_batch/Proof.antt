@@ -1,3 +1,4 @@
+use Rattle.demands.specs.BatchDemandsLaws.{batch-met}
 use Rattle.undisclosed_recipients.specs.UndisclosedRecipientsLaws.{records-undisclosed-by}
 use Rattle.rules.specs.Rules.{settingRules}
 use borrow.Author.Needs.{needs}
@@ -19,8 +20,8 @@ same-length-3 c = search needs
 returns : tie.Need-returns
 returns c =
     let given = c .before .before .before .before .before .before .before .before .before .before .before .before .before .before .args in
-    records-undisclosed-by (settingRules (given .setting)) (given .input .now) (given .records .now) (given .envelope-buffer .now) (given .header-buffer .now)
-    (c .before .before .before .before .before .before .hennelaku-downgrade-batch-slices .ensures)
+    let left = c .before .before .before .before .before .before .hennelaku-downgrade-batch-slices .ensures in
+    (batch-met left, records-undisclosed-by (settingRules (given .setting)) (given .input .now) (given .records .now) (given .envelope-buffer .now) (given .header-buffer .now) left)
 
 pub downgrade-batch-spec : {M : Type 1} → statement M
 downgrade-batch-spec =

@@ -1,3 +1,4 @@
+use Rattle.demands.specs.DemandsLaws.{met}
 use Rattle.undisclosed_recipients.specs.UndisclosedRecipientsLaws.{undisclosed-by}
 use Rattle.rules.specs.Rules.{settingRules}
 use borrow.Author.Needs.{needs}
@@ -25,8 +26,11 @@ same-length-4 c = search needs
 returns : tie.Need-returns
 returns c =
     let given = c .before .before .before .before .before .before .before .before .before .before .before .before .before .before .before .before .before .before .before .before .before .args in
-    undisclosed-by (settingRules (given .setting)) (given .first .now) (given .second .now) (given .header .now) (given .first-envelope .now) (given .first-header .now) (given .second-envelope .now) (given .second-header .now)
-    (c .before .before .before .before .before .before .before .before .before .before .before .hennelaku-downgrade-slices .ensures) (c .before .before .before .before .hennelaku-downgrade-slices2 .ensures)
+    let one = c .before .before .before .before .before .before .before .before .before .before .before .hennelaku-downgrade-slices .ensures in
+    let other = c .before .before .before .before .hennelaku-downgrade-slices2 .ensures in (
+      met one,
+      (met other, undisclosed-by (settingRules (given .setting)) (given .first .now) (given .second .now) (given .header .now) (given .first-envelope .now) (given .first-header .now) (given .second-envelope .now) (given .second-header .now) one other),
+    )
 
 pub downgrade-both-spec : {M : Type 1} → statement M
 downgrade-both-spec =

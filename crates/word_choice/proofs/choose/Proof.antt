@@ -1,4 +1,4 @@
-use mathlib.Core.Path.{sym}
+use Rattle.word_choice.specs.ChoiceOfLaws.{chosen-both}
 use borrow.Author.Needs.{needs}
 use Rattle.word_choice.proofs.choose.Statement.{statement}
 use Rattle.word_choice.proofs.choose.Tie as tie
@@ -23,7 +23,7 @@ whole-requires c κs = search needs
 
 -- src/lib.rt:118:9
 returns : tie.Need-returns
-returns c = rw (← c .before .before .clip .ensures) (c .whole .ensures)
+returns c = chosen-both _ _ (rw (← c .before .before .clip .ensures) (c .whole .ensures))
 
 -- src/lib.rt:121:9
 by-block-requires : tie.Need-by-block-requires
@@ -31,7 +31,7 @@ by-block-requires c κs = search needs
 
 -- src/lib.rt:121:9
 returns-2 : tie.Need-returns-2
-returns-2 c = rw (← c .before .before .before .clip .ensures) (c .by-block .ensures)
+returns-2 c = chosen-both _ _ (rw (← c .before .before .before .clip .ensures) (c .by-block .ensures))
 
 -- src/lib.rt:123:5
 by-characters-requires : tie.Need-by-characters-requires
@@ -39,7 +39,7 @@ by-characters-requires c κs = search needs
 
 -- src/lib.rt:113:1
 returns-3 : tie.Need-returns-3
-returns-3 c = rw (← c .before .before .before .clip .ensures) (c .by-characters .ensures)
+returns-3 c = chosen-both _ _ (rw (← c .before .before .before .clip .ensures) (c .by-characters .ensures))
 
 pub choose-spec : {M : Type 1} → statement M
 choose-spec =

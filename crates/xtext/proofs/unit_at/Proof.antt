@@ -1,4 +1,6 @@
-use Rattle.xtext.specs.XtextLaws.{unit-bare, unit-short, unit-other, unit-hex}
+use lib.Dec.{eqb}
+use lib.ListN.{getD}
+use Rattle.xtext.specs.XtextLaws.{unit-bare, unit-short, unit-other, unit-hex, two-digits}
 use borrow.Author.Tests.{not-true, not-false}
 use native.Mathlib.Omega.{arith}
 use borrow.Author.Needs.{needs}
@@ -20,41 +22,35 @@ sub-if2 c = search needs
 returns-2 : tie.Need-returns-2
 returns-2 c = unit-short _ _ (c .before .before .before .before .before .pre) _ (c .before .before .is-xchar .ensures) (c .before .if1 .left) (c .if2 .taken)
 
-add-high : tie.Need-add-high
-add-high c = search needs
+add-value : tie.Need-add-value
+add-value c = search needs
 
-shared-slice-read-high : tie.Need-shared-slice-read-high
-shared-slice-read-high c = search needs
-
-add-low : tie.Need-add-low
-add-low c = search needs
-
-shared-slice-read-low : tie.Need-shared-slice-read-low
-shared-slice-read-low c = search needs
-
-is-digit-requires : tie.Need-is-digit-requires
-is-digit-requires c κs = search needs
-
-is-digit-requires-2 : tie.Need-is-digit-requires-2
-is-digit-requires-2 c κs = search needs
-
-returns-3 : tie.Need-returns-3
-returns-3 c = unit-other _ _ (c .before .before .before .before .before .before .before .before .before .before .pre) _ (c .before .before .before .before .before .before .before .is-xchar .ensures) (c .before .before .before .before .before .before .if1 .left) _ _ (c .before .before .is-digit .ensures) (c .before .is-digit2 .ensures) (not-true _ (c .if3 .taken))
+shared-slice-read-value : tie.Need-shared-slice-read-value
+shared-slice-read-value c = search needs
 
 value-requires : tie.Need-value-requires
 value-requires c κs = search needs
 
-mul-t19 : tie.Need-mul-t19
-mul-t19 c = search needs
+add-value-2 : tie.Need-add-value-2
+add-value-2 c = search needs
+
+shared-slice-read-value-2 : tie.Need-shared-slice-read-value-2
+shared-slice-read-value-2 c = search needs
 
 value-requires-2 : tie.Need-value-requires-2
 value-requires-2 c κs = search needs
 
-add-t21 : tie.Need-add-t21
-add-t21 c = search needs
+returns-3 : tie.Need-returns-3
+returns-3 c = unit-other _ _ (c .before .before .before .before .before .before .before .before .before .before .pre) _ (c .before .before .before .before .before .before .before .is-xchar .ensures) (c .before .before .before .before .before .before .if1 .left) _ _ (c .before .before .before .value .ensures .0) (c .before .value2 .ensures .0) (not-true _ (c .if3 .taken))
+
+mul-t7 : tie.Need-mul-t7
+mul-t7 c = let p = two-digits (eqb (getD (c .before .before .before .before .before .before .before .before .before .before .args .s .now) (c .before .before .before .before .before .before .before .before .before .before .args .at) 0) 43) (c .before .before .before .value .result) (c .before .value2 .result) (not-false _ (c .if3 .left)) in omega arith
+
+add-t19 : tie.Need-add-t19
+add-t19 c = let p = two-digits (eqb (getD (c .before .before .before .before .before .before .before .before .before .before .args .s .now) (c .before .before .before .before .before .before .before .before .before .before .args .at) 0) 43) (c .before .before .before .value .result) (c .before .value2 .result) (not-false _ (c .if3 .left)) in omega arith
 
 returns-4 : tie.Need-returns-4
-returns-4 c = unit-hex _ _ (c .before .before .before .before .before .before .before .before .before .before .before .before .pre) _ (c .before .before .before .before .before .before .before .before .before .is-xchar .ensures) (c .before .before .before .before .before .before .before .before .if1 .left) _ _ (c .before .before .before .before .is-digit .ensures) (c .before .before .before .is-digit2 .ensures) (not-false _ (c .before .before .if3 .left)) (omega arith) _ _ (c .before .value .ensures .0) (c .value2 .ensures .0)
+returns-4 c = unit-hex _ _ (c .before .before .before .before .before .before .before .before .before .before .pre) _ (c .before .before .before .before .before .before .before .is-xchar .ensures) (c .before .before .before .before .before .before .if1 .left) _ _ (c .before .before .before .value .ensures .0) (c .before .value2 .ensures .0) (not-false _ (c .if3 .left)) (omega arith)
 
 pub unit-at-spec : {M : Type 1} → statement M
 unit-at-spec =
@@ -65,15 +61,13 @@ unit-at-spec =
     returns
     sub-if2
     returns-2
-    add-high
-    shared-slice-read-high
-    add-low
-    shared-slice-read-low
-    is-digit-requires
-    is-digit-requires-2
-    returns-3
+    add-value
+    shared-slice-read-value
     value-requires
-    mul-t19
+    add-value-2
+    shared-slice-read-value-2
     value-requires-2
-    add-t21
+    returns-3
+    mul-t7
+    add-t19
     returns-4)

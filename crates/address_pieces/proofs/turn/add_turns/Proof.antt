@@ -41,25 +41,25 @@ part-put-turn-end : tie.Need-part-put-turn-end Inv-loop μ-loop
 part-put-turn-end c = omega arith
 
 sub-put-turn-2 : tie.Need-sub-put-turn-2 Inv-loop μ-loop
-sub-put-turn-2 c = c .before .before .next-from .ensures .there (c .before .before .before .loop-test .taken) .ordered
+sub-put-turn-2 c = c .before .before .next-from .ensures .1 .there (c .before .before .before .loop-test .taken) .ordered
 
 part-put-turn-start-2 : tie.Need-part-put-turn-start-2 Inv-loop μ-loop
-part-put-turn-start-2 c = c .before .before .next-from .ensures .there (c .before .before .before .loop-test .taken) .ordered
+part-put-turn-start-2 c = c .before .before .next-from .ensures .1 .there (c .before .before .before .loop-test .taken) .ordered
 
 part-put-turn-end-2 : tie.Need-part-put-turn-end-2 Inv-loop μ-loop
-part-put-turn-end-2 c = let w = c .before .before .next-from .ensures .there (c .before .before .before .loop-test .taken) in omega (arith, w .covers, w .within)
+part-put-turn-end-2 c = let w = c .before .before .next-from .ensures .1 .there (c .before .before .before .loop-test .taken) in omega (arith, w .covers, w .within)
 
 put-turn-requires : tie.Need-put-turn-requires Inv-loop μ-loop
-put-turn-requires c κs = turn-fits (c .before .before .before .before .next-from .ensures .there (c .before .before .before .before .before .loop-test .taken)) _ (c .before .before .before .before .before .before .before .before .before .before .pre .0) (omega (arith, c .before .before .before .before .before .before .loop .inv .1, c .before .before .before .before .before .before .before .before .before .before .pre .1))
+put-turn-requires c κs = turn-fits (c .before .before .before .before .next-from .ensures .1 .there (c .before .before .before .before .before .loop-test .taken)) _ (c .before .before .before .before .before .before .before .before .before .before .pre .0) (omega (arith, c .before .before .before .before .before .before .loop .inv .1, c .before .before .before .before .before .before .before .before .before .before .pre .1))
 
 place-after-requires : tie.Need-place-after-requires Inv-loop μ-loop
 place-after-requires c κs = search needs
 
 loop-less : tie.Need-loop-less Inv-loop μ-loop
-loop-less c = turn-less (c .before .before .before .before .before .before .before .before .before .before .before .loop-test .taken) (c .before .before .before .before .before .before .before .before .before .before .next-from .ensures .there (c .before .before .before .before .before .before .before .before .before .before .before .loop-test .taken) .on)
+loop-less c = turn-less (c .before .before .before .before .before .before .before .before .before .before .before .loop-test .taken) (c .before .before .before .before .before .before .before .before .before .before .next-from .ensures .1 .there (c .before .before .before .before .before .before .before .before .before .before .before .loop-test .taken) .on)
 
 loop-again : tie.Need-loop-again Inv-loop μ-loop
-loop-again c = (capped-turn (c .before .before .before .before .before .before .before .before .before .before .before .before .loop .inv .0) (turns-step (c .before .before .before .before .before .before .before .before .before .before .next-from .ensures .there (c .before .before .before .before .before .before .before .before .before .before .before .loop-test .taken))) (added-by _ _ _ _ _ (c .before .before .before .before .before .before .before .before .before .clip .ensures) (c .before .before .before .before .before .put-turn .ensures) (c .place-after .ensures)) (omega arith), omega (arith, c .before .before .before .before .before .before .before .before .before .before .before .before .loop .inv .1))
+loop-again c = (capped-turn (c .before .before .before .before .before .before .before .before .before .before .before .before .loop .inv .0) (turns-step (c .before .before .before .before .before .before .before .before .before .before .next-from .ensures .1 .there (c .before .before .before .before .before .before .before .before .before .before .before .loop-test .taken))) (added-by _ _ _ _ _ (c .before .before .before .before .before .before .before .before .before .clip .ensures) (c .before .before .before .before .before .put-turn .ensures) (c .place-after .ensures)) (omega arith), omega (arith, c .before .before .before .before .before .before .before .before .before .before .before .before .loop .inv .1))
 
 same-length : tie.Need-same-length Inv-loop μ-loop
 same-length c = length-capped (c .before .loop .inv .0)

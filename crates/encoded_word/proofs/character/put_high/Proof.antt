@@ -14,7 +14,7 @@ high-size-requires c κs = search needs
 
 -- src/character.rt:150:9
 put-whole-requires : tie.Need-put-whole-requires
-put-whole-requires c κs = let k = rw (c .before .if1 .taken) at (c .before .before .high-size .ensures) in (lit≤ tt, lit≤ tt, k .fits (lit≤ tt), c .before .before .before .before .before .pre .2, k)
+put-whole-requires c κs = let k = rw (c .before .if1 .taken) at (c .before .before .high-size .ensures .1) in (lit≤ tt, lit≤ tt, k .fits (lit≤ tt), c .before .before .before .before .before .pre .2, k)
 
 -- src/character.rt:150:9
 same-length : tie.Need-same-length
@@ -26,7 +26,7 @@ returns c = search needs
 
 -- src/character.rt:153:9
 put-whole-requires-2 : tie.Need-put-whole-requires-2
-put-whole-requires-2 c κs = let k = rw (c .before .if2 .taken) at (c .before .before .before .high-size .ensures) in (lit≤ tt, lit≤ tt, k .fits (lit≤ tt), c .before .before .before .before .before .before .pre .2, k)
+put-whole-requires-2 c κs = let k = rw (c .before .if2 .taken) at (c .before .before .before .high-size .ensures .1) in (lit≤ tt, lit≤ tt, k .fits (lit≤ tt), c .before .before .before .before .before .before .pre .2, k)
 
 -- src/character.rt:153:9
 same-length-2 : tie.Need-same-length-2
@@ -38,7 +38,7 @@ returns-2 c = search needs
 
 -- src/character.rt:156:9
 put-whole-requires-3 : tie.Need-put-whole-requires-3
-put-whole-requires-3 c κs = let k = rw (c .before .if3 .taken) at (c .before .before .before .before .high-size .ensures) in (lit≤ tt, lit≤ tt, k .fits (lit≤ tt), c .before .before .before .before .before .before .before .pre .2, k)
+put-whole-requires-3 c κs = let k = rw (c .before .if3 .taken) at (c .before .before .before .before .high-size .ensures .1) in (lit≤ tt, lit≤ tt, k .fits (lit≤ tt), c .before .before .before .before .before .before .before .pre .2, k)
 
 -- src/character.rt:156:9
 same-length-3 : tie.Need-same-length-3

@@ -26,7 +26,7 @@ same-length c = search needs
 
 -- src/word.rt:83:9
 returns : tie.Need-returns
-returns c = put-word-q (sure-q (c .before .before .before .before .before .before .before .before .pre .0) (c .before .before .before .before .before .surely-in-q .ensures (c .before .before .before .before .if1 .taken))) (c .before .before .put-word-in-q .ensures)
+returns c = put-word-q (sure-q (c .before .before .before .before .before .before .before .before .pre .0) (c .before .before .before .before .before .surely-in-q .ensures .1 (c .before .before .before .before .if1 .taken))) (c .before .before .put-word-in-q .ensures)
 
 -- src/word.rt:85:9
 choose-requires : tie.Need-choose-requires
@@ -54,11 +54,11 @@ part-put-word-in-b-start c = search needs
 
 -- src/word.rt:90:40
 part-put-word-in-b-end : tie.Need-part-put-word-in-b-end
-part-put-word-in-b-end c = chosen-b (c .before .before .before .before .before .before .before .before .before .pre .0) (c .before .before .choice .given .1) (c .before .before .before .before .choose .ensures) .span .within
+part-put-word-in-b-end c = chosen-b (c .before .before .before .before .before .before .before .before .before .pre .0) (c .before .before .choice .given .1) (c .before .before .before .before .choose .ensures .1) .span .within
 
 -- src/word.rt:90:17
 put-word-in-b-requires : tie.Need-put-word-in-b-requires
-put-word-in-b-requires c κs = let w = chosen-b (c .before .before .before .before .before .before .before .before .before .before .pre .0) (c .before .before .before .choice .given .1) (c .before .before .before .before .before .choose .ensures) in (rw length-take (omega (arith, word-b-end (c .before .before .before .before .before .before .before .before .before .before .pre .0) w)), c .before .before .before .before .before .before .before .before .before .before .pre .1)
+put-word-in-b-requires c κs = let w = chosen-b (c .before .before .before .before .before .before .before .before .before .before .pre .0) (c .before .before .before .choice .given .1) (c .before .before .before .before .before .choose .ensures .1) in (rw length-take (omega (arith, word-b-end (c .before .before .before .before .before .before .before .before .before .before .pre .0) w)), c .before .before .before .before .before .before .before .before .before .before .pre .1)
 
 -- src/word.rt:78:1
 same-length-2 : tie.Need-same-length-2
@@ -66,7 +66,7 @@ same-length-2 c = search needs
 
 -- src/word.rt:78:1
 returns-2 : tie.Need-returns-2
-returns-2 c = put-word-q (chosen-q (c .before .before .before .before .before .before .before .before .before .before .before .pre .0) (c .before .before .before .before .enum-told .given .1) (c .before .before .before .before .before .before .choose .ensures)) (c .before .before .put-word-in-q2 .ensures)
+returns-2 c = put-word-q (chosen-q (c .before .before .before .before .before .before .before .before .before .before .before .pre .0) (c .before .before .before .before .enum-told .given .1) (c .before .before .before .before .before .before .choose .ensures .1)) (c .before .before .put-word-in-q2 .ensures)
 
 -- src/word.rt:78:1
 same-length-3 : tie.Need-same-length-3
@@ -74,7 +74,7 @@ same-length-3 c = search needs
 
 -- src/word.rt:78:1
 returns-3 : tie.Need-returns-3
-returns-3 c = put-word-b (chosen-b (c .before .before .before .before .before .before .before .before .before .before .before .before .before .pre .0) (c .before .before .before .before .before .before .choice .given .1) (c .before .before .before .before .before .before .before .before .choose .ensures)) (c .before .before .put-word-in-b .ensures)
+returns-3 c = put-word-b (chosen-b (c .before .before .before .before .before .before .before .before .before .before .before .before .before .pre .0) (c .before .before .before .before .before .before .choice .given .1) (c .before .before .before .before .before .before .before .before .choose .ensures .1)) (c .before .before .put-word-in-b .ensures)
 
 pub put-word-spec : {M : Type 1} → statement M
 put-word-spec =

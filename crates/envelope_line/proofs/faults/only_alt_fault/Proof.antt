@@ -31,10 +31,10 @@ is-alt-address-requires : tie.Need-is-alt-address-requires
 is-alt-address-requires c κs = search needs
 
 returns-4 : tie.Need-returns-4
-returns-4 c = only-fine _ _ _ (has-value _ _ (c .before .before .before .before .before .before .before .before .keyword-len .ensures) (c .before .before .before .before .before .before .before .if1 .left)) (sym (c .before .before .before .before .before .before .allows-alternative .ensures) ∙ not-false _ (c .before .before .before .before .before .if2 .left)) (c .before .before .before .before .if3 .left) (value-part _ _ (c .before .before .part .ensures) (c .before .before .before .value-start .ensures)) (sym (c .before .is-alt-address .ensures) ∙ c .if4 .taken)
+returns-4 c = only-fine _ _ _ (has-value _ _ (c .before .before .before .before .before .before .before .before .keyword-len .ensures) (c .before .before .before .before .before .before .before .if1 .left)) (sym (c .before .before .before .before .before .before .allows-alternative .ensures) ∙ not-false _ (c .before .before .before .before .before .if2 .left)) (c .before .before .before .before .if3 .left) (value-part _ _ (c .before .before .part .ensures) (c .before .before .before .value-start .ensures .1)) (sym (c .before .is-alt-address .ensures) ∙ c .if4 .taken)
 
 returns-5 : tie.Need-returns-5
-returns-5 c = only-bad _ _ _ (has-value _ _ (c .before .before .before .before .before .before .before .before .keyword-len .ensures) (c .before .before .before .before .before .before .before .if1 .left)) (sym (c .before .before .before .before .before .before .allows-alternative .ensures) ∙ not-false _ (c .before .before .before .before .before .if2 .left)) (c .before .before .before .before .if3 .left) (value-part _ _ (c .before .before .part .ensures) (c .before .before .before .value-start .ensures)) (sym (c .before .is-alt-address .ensures) ∙ c .if4 .left)
+returns-5 c = only-bad _ _ _ (has-value _ _ (c .before .before .before .before .before .before .before .before .keyword-len .ensures) (c .before .before .before .before .before .before .before .if1 .left)) (sym (c .before .before .before .before .before .before .allows-alternative .ensures) ∙ not-false _ (c .before .before .before .before .before .if2 .left)) (c .before .before .before .before .if3 .left) (value-part _ _ (c .before .before .part .ensures) (c .before .before .before .value-start .ensures .1)) (sym (c .before .is-alt-address .ensures) ∙ c .if4 .left)
 
 pub only-alt-fault-spec : {M : Type 1} → statement M
 only-alt-fault-spec =

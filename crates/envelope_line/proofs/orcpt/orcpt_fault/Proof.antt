@@ -11,7 +11,7 @@ are-orcpt-clean-requires c κs = search needs
 
 returns : tie.Need-returns
 unfolding orcptFault
-returns c = rw (c .are-orcpt-clean .ensures, c .before .tail-start .ensures)
+returns c = rw (c .are-orcpt-clean .ensures, c .before .tail-start .ensures .1)
 
 pub orcpt-fault-spec : {M : Type 1} → statement M
 orcpt-fault-spec = tie.close (tie.spec tail-start-requires are-orcpt-clean-requires returns)

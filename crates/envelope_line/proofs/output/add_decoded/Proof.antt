@@ -35,7 +35,7 @@ same-length : tie.Need-same-length
 same-length c = search needs
 
 returns : tie.Need-returns
-returns c = added-by _ _ _ _ _ (c .before .before .before .before .before .before .before .clip .ensures) (wrote-same (ap decoded (value-part _ _ (c .before .before .before .before .before .part .ensures) (c .before .before .before .before .before .before .value-start .ensures))) (c .before .before .before .put-decoded .ensures)) (c .place-after .ensures)
+returns c = added-by _ _ _ _ _ (c .before .before .before .before .before .before .before .clip .ensures) (wrote-same (ap decoded (value-part _ _ (c .before .before .before .before .before .part .ensures) (c .before .before .before .before .before .before .value-start .ensures .1))) (c .before .before .before .put-decoded .ensures)) (c .place-after .ensures)
 
 pub add-decoded-spec : {M : Type 1} → statement M
 add-decoded-spec =

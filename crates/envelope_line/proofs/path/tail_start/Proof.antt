@@ -11,7 +11,10 @@ place-after-requires : tie.Need-place-after-requires
 place-after-requires c κs = search needs
 
 returns : tie.Need-returns
-returns c = tail-from _ _ _ _ (c .before .path-end .ensures) (c .place-after .ensures) (omega arith)
+returns c =
+    let n = c .before .path-end .ensures in
+    let r = c .place-after .ensures in
+    (rw (← n) r, tail-from _ _ _ _ n r (omega arith))
 
 pub tail-start-spec : {M : Type 1} → statement M
 tail-start-spec = tie.close (tie.spec path-end-requires place-after-requires returns)

@@ -1,4 +1,4 @@
-use Rattle.outgoing_field.specs.FateLaws.{added-copied, added-by-kind}
+use Rattle.outgoing_field.specs.FateLaws.{added-copied, added-by-method}
 use Rattle.header.specs.FieldLaws.{name-size}
 use mathlib.Core.Path.{sym, _∙_}
 use borrow.Author.Needs.{needs}
@@ -21,10 +21,13 @@ name-len-requires : tie.Need-name-len-requires
 name-len-requires c κs = search needs
 
 slice-aggregate-kind-of : tie.Need-slice-aggregate-kind-of
-slice-aggregate-kind-of c = name-size _ _ (c .before .before .name-len .ensures)
+slice-aggregate-kind-of c = name-size _ _ (c .before .name-len .ensures)
 
 kind-of-requires : tie.Need-kind-of-requires
 kind-of-requires c κs = search needs
+
+method-of-requires : tie.Need-method-of-requires
+method-of-requires c κs = search needs
 
 add-non-ascii-requires : tie.Need-add-non-ascii-requires
 add-non-ascii-requires c κs = search needs
@@ -33,7 +36,7 @@ same-length-2 : tie.Need-same-length-2
 same-length-2 c = search needs
 
 returns-2 : tie.Need-returns-2
-returns-2 c = added-by-kind _ _ _ (sym (c .before .before .before .before .before .before .before .before .value-is-ascii .ensures) ∙ c .before .before .before .before .before .before .before .if1 .left) (c .before .before .before .before .before .before .name-len .ensures) (c .before .before .before .kind-of .ensures) (c .before .before .add-non-ascii .ensures)
+returns-2 c = added-by-method _ _ _ (sym (c .before .before .before .before .before .before .before .before .before .value-is-ascii .ensures) ∙ c .before .before .before .before .before .before .before .before .if1 .left) (c .before .before .before .before .before .before .before .name-len .ensures) (c .before .before .before .before .before .kind-of .ensures) (c .before .before .before .method-of .ensures) (c .before .before .add-non-ascii .ensures)
 
 pub add-limited-spec : {M : Type 1} → statement M
 add-limited-spec =
@@ -46,6 +49,7 @@ add-limited-spec =
     name-len-requires
     slice-aggregate-kind-of
     kind-of-requires
+    method-of-requires
     add-non-ascii-requires
     same-length-2
     returns-2)

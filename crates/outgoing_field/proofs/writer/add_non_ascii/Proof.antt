@@ -17,11 +17,11 @@ enum-known-from c = search needs
 part-requires : tie.Need-part-requires
 part-requires c κs = search needs
 
-slice-aggregate-add-by-kind : tie.Need-slice-aggregate-add-by-kind
-slice-aggregate-add-by-kind c = search needs
+slice-aggregate-add-by-method : tie.Need-slice-aggregate-add-by-method
+slice-aggregate-add-by-method c = search needs
 
-add-by-kind-requires : tie.Need-add-by-kind-requires
-add-by-kind-requires c κs = served-placed _ _ (sym (c .before .before .before .before .before .before .before .before .needs-scratch .ensures) ∙ not-true _ (c .before .before .before .before .before .before .before .if1 .taken)) (c .before .before .before .before .before .before .before .before .before .before .before .pre) (text-placed _ (sym (c .before .before .before .before .before .before .place .ensures) ∙ c .before .before .before .before .from .given .1) (c .before .part .ensures))
+add-by-method-requires : tie.Need-add-by-method-requires
+add-by-method-requires c κs = served-placed _ _ (sym (c .before .before .before .before .before .before .before .before .needs-scratch .ensures) ∙ not-true _ (c .before .before .before .before .before .before .before .if1 .taken)) (c .before .before .before .before .before .before .before .before .before .before .before .pre) (text-placed _ (sym (c .before .before .before .before .before .before .place .ensures) ∙ c .before .before .before .before .from .given .1) (c .before .part .ensures))
 
 same-length : tie.Need-same-length
 same-length c = search needs
@@ -58,8 +58,8 @@ add-non-ascii-spec =
     place-requires
     enum-known-from
     part-requires
-    slice-aggregate-add-by-kind
-    add-by-kind-requires
+    slice-aggregate-add-by-method
+    add-by-method-requires
     same-length
     returns
     enum-told

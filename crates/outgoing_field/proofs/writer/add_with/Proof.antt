@@ -13,8 +13,8 @@ enum-known-from c = search needs
 part-requires : tie.Need-part-requires
 part-requires c κs = search needs
 
-add-by-kind-requires : tie.Need-add-by-kind-requires
-add-by-kind-requires c κs = served (c .before .before .before .before .before .before .before .before .before .before .before .pre) _ (text-placed _ (sym (c .before .before .before .before .before .before .place .ensures) ∙ c .before .before .before .before .from .given .1) (c .before .part .ensures))
+add-by-method-requires : tie.Need-add-by-method-requires
+add-by-method-requires c κs = served (c .before .before .before .before .before .before .before .before .before .before .before .pre) _ (text-placed _ (sym (c .before .before .before .before .before .before .place .ensures) ∙ c .before .before .before .before .from .given .1) (c .before .part .ensures))
 
 enum-told : tie.Need-enum-told
 enum-told c = search needs
@@ -22,14 +22,14 @@ enum-told c = search needs
 put-requires : tie.Need-put-requires
 put-requires c κs = search needs
 
-slice-reshare-prefix-add-by-kind : tie.Need-slice-reshare-prefix-add-by-kind
-slice-reshare-prefix-add-by-kind c = made-within (c .before .before .before .before .before .before .before .before .before .before .before .before .pre) (c .before .before .before .put .ensures)
+slice-reshare-prefix-add-by-method : tie.Need-slice-reshare-prefix-add-by-method
+slice-reshare-prefix-add-by-method c = made-within (c .before .before .before .before .before .before .before .before .before .before .before .before .pre) (c .before .before .before .put .ensures)
 
-slice-aggregate-add-by-kind : tie.Need-slice-aggregate-add-by-kind
-slice-aggregate-add-by-kind c = made-size (c .before .before .before .before .before .before .before .before .before .before .before .before .before .pre) (c .before .before .before .before .put .ensures)
+slice-aggregate-add-by-method : tie.Need-slice-aggregate-add-by-method
+slice-aggregate-add-by-method c = made-size (c .before .before .before .before .before .before .before .before .before .before .before .before .before .pre) (c .before .before .before .before .put .ensures)
 
-add-by-kind-requires-2 : tie.Need-add-by-kind-requires-2
-add-by-kind-requires-2 c κs = served (c .before .before .before .before .before .before .before .before .before .before .before .before .before .before .pre) _ (text-made (c .before .before .before .before .before .before .before .before .before .before .before .before .before .before .pre) (c .before .before .before .before .before .put .ensures))
+add-by-method-requires-2 : tie.Need-add-by-method-requires-2
+add-by-method-requires-2 c κs = served (c .before .before .before .before .before .before .before .before .before .before .before .before .before .before .pre) _ (text-made (c .before .before .before .before .before .before .before .before .before .before .before .before .before .before .pre) (c .before .before .before .before .before .put .ensures))
 
 same-length : tie.Need-same-length
 same-length c = search needs
@@ -59,12 +59,12 @@ add-with-spec =
     place-requires
     enum-known-from
     part-requires
-    add-by-kind-requires
+    add-by-method-requires
     enum-told
     put-requires
-    slice-reshare-prefix-add-by-kind
-    slice-aggregate-add-by-kind
-    add-by-kind-requires-2
+    slice-reshare-prefix-add-by-method
+    slice-aggregate-add-by-method
+    add-by-method-requires-2
     same-length
     same-length-2
     returns

@@ -22,17 +22,17 @@ part-word-start c = omega (arith, c .white-len .ensures, white-le (c .before .be
 part-word-end : tie.Need-part-word-end
 part-word-end c = omega arith
 
-is-for-requires : tie.Need-is-for-requires
-is-for-requires c κs = search needs
+is-for-there-requires : tie.Need-is-for-there-requires
+is-for-there-requires c κs = search needs
 
 returns-2 : tie.Need-returns-2
-returns-2 c = clause-other _ _ (c .before .before .before .white-len .ensures) (sym (c .before .is-for .ensures) ∙ not-true _ (c .if2 .taken))
+returns-2 c = clause-other _ _ (c .before .before .before .white-len .ensures) (sym (c .before .is-for-there .ensures) ∙ not-true _ (c .if2 .taken))
 
 sub-more : tie.Need-sub-more
-sub-more c = let k = more-long (c .before .before .before .before .before .before .args .s .now) _ (c .before .before .before .white-len .ensures) (sym (c .before .is-for .ensures) ∙ not-false _ (c .if2 .left)) in omega arith
+sub-more c = let k = more-long (c .before .before .before .before .before .before .args .s .now) _ (c .before .before .before .white-len .ensures) (sym (c .before .is-for-there .ensures) ∙ not-false _ (c .if2 .left)) in omega arith
 
 part-more-start : tie.Need-part-more-start
-part-more-start c = let k = more-long (c .before .before .before .before .before .before .args .s .now) _ (c .before .before .before .white-len .ensures) (sym (c .before .is-for .ensures) ∙ not-false _ (c .if2 .left)) in omega arith
+part-more-start c = let k = more-long (c .before .before .before .before .before .before .args .s .now) _ (c .before .before .before .white-len .ensures) (sym (c .before .is-for-there .ensures) ∙ not-false _ (c .if2 .left)) in omega arith
 
 part-more-end : tie.Need-part-more-end
 part-more-end c = omega arith
@@ -53,19 +53,19 @@ angled-len-requires : tie.Need-angled-len-requires
 angled-len-requires c κs = search needs
 
 returns-3 : tie.Need-returns-3
-returns-3 c = clause-bare _ _ (c .before .before .before .before .before .before .before .before .white-len .ensures) (sym (c .before .before .before .before .before .before .is-for .ensures) ∙ not-false _ (c .before .before .before .before .before .if2 .left)) _ _ (c .before .before .before .white-len2 .ensures) (c .before .angled-len .ensures) (c .if3 .taken)
+returns-3 c = clause-bare _ _ (c .before .before .before .before .before .before .before .before .white-len .ensures) (sym (c .before .before .before .before .before .before .is-for-there .ensures) ∙ not-false _ (c .before .before .before .before .before .if2 .left)) _ _ (c .before .before .before .white-len2 .ensures) (c .before .angled-len .ensures) (c .if3 .taken)
 
 add-result : tie.Need-add-result
-add-result c = let k = clause-long (c .before .before .before .before .before .before .before .before .before .before .before .args .s .now) _ (c .before .before .before .before .before .before .before .before .white-len .ensures) (sym (c .before .before .before .before .before .before .is-for .ensures) ∙ not-false _ (c .before .before .before .before .before .if2 .left)) _ _ (c .before .before .before .white-len2 .ensures) (c .before .angled-len .ensures) in omega arith
+add-result c = let k = clause-long (c .before .before .before .before .before .before .before .before .before .before .before .args .s .now) _ (c .before .before .before .before .before .before .before .before .white-len .ensures) (sym (c .before .before .before .before .before .before .is-for-there .ensures) ∙ not-false _ (c .before .before .before .before .before .if2 .left)) _ _ (c .before .before .before .white-len2 .ensures) (c .before .angled-len .ensures) in omega arith
 
 add-result-2 : tie.Need-add-result-2
-add-result-2 c = let k = clause-long (c .before .before .before .before .before .before .before .before .before .before .before .args .s .now) _ (c .before .before .before .before .before .before .before .before .white-len .ensures) (sym (c .before .before .before .before .before .before .is-for .ensures) ∙ not-false _ (c .before .before .before .before .before .if2 .left)) _ _ (c .before .before .before .white-len2 .ensures) (c .before .angled-len .ensures) in omega arith
+add-result-2 c = let k = clause-long (c .before .before .before .before .before .before .before .before .before .before .before .args .s .now) _ (c .before .before .before .before .before .before .before .before .white-len .ensures) (sym (c .before .before .before .before .before .before .is-for-there .ensures) ∙ not-false _ (c .before .before .before .before .before .if2 .left)) _ _ (c .before .before .before .white-len2 .ensures) (c .before .angled-len .ensures) in omega arith
 
 add-result-3 : tie.Need-add-result-3
-add-result-3 c = let k = clause-long (c .before .before .before .before .before .before .before .before .before .before .before .args .s .now) _ (c .before .before .before .before .before .before .before .before .white-len .ensures) (sym (c .before .before .before .before .before .before .is-for .ensures) ∙ not-false _ (c .before .before .before .before .before .if2 .left)) _ _ (c .before .before .before .white-len2 .ensures) (c .before .angled-len .ensures) in omega arith
+add-result-3 c = let k = clause-long (c .before .before .before .before .before .before .before .before .before .before .before .args .s .now) _ (c .before .before .before .before .before .before .before .before .white-len .ensures) (sym (c .before .before .before .before .before .before .is-for-there .ensures) ∙ not-false _ (c .before .before .before .before .before .if2 .left)) _ _ (c .before .before .before .white-len2 .ensures) (c .before .angled-len .ensures) in omega arith
 
 returns-4 : tie.Need-returns-4
-returns-4 c = clause-there _ _ (c .before .before .before .before .before .before .before .before .white-len .ensures) (sym (c .before .before .before .before .before .before .is-for .ensures) ∙ not-false _ (c .before .before .before .before .before .if2 .left)) _ _ (c .before .before .before .white-len2 .ensures) (c .before .angled-len .ensures) (c .if3 .left)
+returns-4 c = clause-there _ _ (c .before .before .before .before .before .before .before .before .white-len .ensures) (sym (c .before .before .before .before .before .before .is-for-there .ensures) ∙ not-false _ (c .before .before .before .before .before .if2 .left)) _ _ (c .before .before .before .white-len2 .ensures) (c .before .angled-len .ensures) (c .if3 .left)
 
 pub clause-len-spec : {M : Type 1} → statement M
 clause-len-spec =
@@ -76,7 +76,7 @@ clause-len-spec =
     sub-word
     part-word-start
     part-word-end
-    is-for-requires
+    is-for-there-requires
     returns-2
     sub-more
     part-more-start

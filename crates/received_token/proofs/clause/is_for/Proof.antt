@@ -1,4 +1,6 @@
-use Rattle.received_token.specs.ClauseLaws.{for-is}
+use native.Mathlib.Omega.{arith}
+use borrow.Author.Tests.{not-true, not-false}
+use Rattle.received_token.specs.TokensLaws.{for-not, for-within, for-rest}
 use borrow.Author.Needs.{needs}
 use Rattle.received_token.proofs.clause.is_for.Statement.{statement}
 use Rattle.received_token.proofs.clause.is_for.Tie as tie
@@ -6,28 +8,32 @@ use Rattle.received_token.proofs.clause.is_for.Tie as tie
 byte-at-requires : tie.Need-byte-at-requires
 byte-at-requires c κs = search needs
 
-part-requires : tie.Need-part-requires
-part-requires c κs = search needs
-
-slice-aggregate-same-any-case : tie.Need-slice-aggregate-same-any-case
-slice-aggregate-same-any-case c = search needs
-
-same-any-case-requires : tie.Need-same-any-case-requires
-same-any-case-requires c κs = search needs
-
-is-white-requires : tie.Need-is-white-requires
-is-white-requires c κs = search needs
-
 returns : tie.Need-returns
-returns c = for-is _ _ (c .before .before .before .part .ensures) (c .before .same-any-case .ensures) (c .before .before .before .before .byte-at .ensures) (c .is-white .ensures)
+returns c = for-not (c .before .before .before .args .s .now) (c .before .before .before .args .at) (c .before .byte-at .ensures) (not-true _ (c .if1 .taken))
+
+sub-is-for-there : tie.Need-sub-is-for-there
+sub-is-for-there c = let k = for-within (c .before .before .before .args .s .now) (c .before .before .before .args .at) (c .before .byte-at .ensures) (not-false _ (c .if1 .left)) in omega (arith, k)
+
+part-is-for-there-start : tie.Need-part-is-for-there-start
+part-is-for-there-start c = let k = for-within (c .before .before .before .args .s .now) (c .before .before .before .args .at) (c .before .byte-at .ensures) (not-false _ (c .if1 .left)) in omega (arith, k)
+
+part-is-for-there-end : tie.Need-part-is-for-there-end
+part-is-for-there-end c = search needs
+
+is-for-there-requires : tie.Need-is-for-there-requires
+is-for-there-requires c κs = search needs
+
+returns-2 : tie.Need-returns-2
+returns-2 c = for-rest (c .before .before .before .before .before .args .s .now) (c .before .before .before .before .before .args .at) (c .is-for-there .ensures)
 
 pub is-for-spec : {M : Type 1} → statement M
 is-for-spec =
     tie.close
     (tie.spec
     byte-at-requires
-    part-requires
-    slice-aggregate-same-any-case
-    same-any-case-requires
-    is-white-requires
-    returns)
+    returns
+    sub-is-for-there
+    part-is-for-there-start
+    part-is-for-there-end
+    is-for-there-requires
+    returns-2)

@@ -6,7 +6,8 @@ use borrow.Author.Needs.{needs}
 use borrow.Author.Tests.{not-true, not-false}
 use Rattle.lists.specs.RunLaws.{run-step, run-stop, run-end}
 use Rattle.lists.specs.Run.{run}
-use Rattle.received_token.specs.Clause.{isWhite, whiteLen}
+use Rattle.structured_token.specs.Tokens.{isWhite}
+use Rattle.received_token.specs.Clause.{whiteLen}
 use Rattle.received_token.specs.ClauseLaws.{white-from}
 use Rattle.received_token.proofs.clause.white_len.Statement.{statement}
 use Rattle.received_token.proofs.clause.white_len.Tie as tie

@@ -18,7 +18,7 @@ add-t7 c = search needs
 
 -- src/character.rt:36:9
 returns : tie.Need-returns
-returns c = stepped-high (lit≤ tt) (rw (c .if1 .taken) at (c .before .high-size .ensures))
+returns c = stepped-high (lit≤ tt) (rw (c .if1 .taken) at (c .before .high-size .ensures .1))
 
 -- src/character.rt:43:18
 add-t8 : tie.Need-add-t8
@@ -26,7 +26,7 @@ add-t8 c = search needs
 
 -- src/character.rt:42:9
 returns-2 : tie.Need-returns-2
-returns-2 c = stepped-high (lit≤ tt) (rw (c .if2 .taken) at (c .before .before .high-size .ensures))
+returns-2 c = stepped-high (lit≤ tt) (rw (c .if2 .taken) at (c .before .before .high-size .ensures .1))
 
 -- src/character.rt:49:18
 add-t9 : tie.Need-add-t9
@@ -34,7 +34,7 @@ add-t9 c = search needs
 
 -- src/character.rt:48:9
 returns-3 : tie.Need-returns-3
-returns-3 c = stepped-high (lit≤ tt) (rw (c .if3 .taken) at (c .before .before .before .high-size .ensures))
+returns-3 c = stepped-high (lit≤ tt) (rw (c .if3 .taken) at (c .before .before .before .high-size .ensures .1))
 
 -- src/character.rt:53:5
 any-char-requires : tie.Need-any-char-requires

@@ -4,6 +4,9 @@ use borrow.Author.Needs.{needs}
 use Rattle.structured_field.proofs.writer.add_token.Statement.{statement}
 use Rattle.structured_field.proofs.writer.add_token.Tie as tie
 
+is-comment-requires : tie.Need-is-comment-requires
+is-comment-requires c κs = search needs
+
 add-parts-requires : tie.Need-add-parts-requires
 add-parts-requires c κs = search needs
 
@@ -14,7 +17,7 @@ same-length-2 : tie.Need-same-length-2
 same-length-2 c = search needs
 
 returns : tie.Need-returns
-returns c = capped-same (token-comment _ (c .before .before .before .before .before .before .before .before .before .before .before .pre .0) (c .before .before .before .before .before .before .before .if1 .taken)) (c .before .before .before .before .add-parts .ensures)
+returns c = capped-same (token-comment _ _ (c .before .before .before .before .before .before .before .before .is-comment .ensures) (c .before .before .before .before .before .before .before .if1 .taken)) (c .before .before .before .before .add-parts .ensures)
 
 add-slice-requires : tie.Need-add-slice-requires
 add-slice-requires c κs = search needs
@@ -23,12 +26,13 @@ same-length-3 : tie.Need-same-length-3
 same-length-3 c = search needs
 
 returns-2 : tie.Need-returns-2
-returns-2 c = capped-same (token-stays _ (c .before .before .before .before .before .before .before .before .pre .0) (c .before .before .before .before .if1 .left)) (c .before .before .add-slice .ensures)
+returns-2 c = capped-same (token-stays _ _ (c .before .before .before .before .before .is-comment .ensures) (c .before .before .before .before .if1 .left)) (c .before .before .add-slice .ensures)
 
 pub add-token-spec : {M : Type 1} → statement M
 add-token-spec =
     tie.close
     (tie.spec
+    is-comment-requires
     add-parts-requires
     same-length
     same-length-2

@@ -1,45 +1,66 @@
-use Rattle.structured_field.specs.WritingLaws.{part-served, value-next, value-none}
-use Rattle.structured_field.specs.StructuredField.{valueSegments}
-use Rattle.encoded_word.specs.Segments.{rendered}
-use Rattle.buffer.specs.BufferLaws.{capped-start, capped-turn, capped-end, length-capped}
-use Rattle.buffer.specs.Buffer.{ReachedCapped}
-use borrow.Author.Needs.{needs}
-use native.Mathlib.Omega.{arith}
-use lib.ListN.{length, drop}
-use mathlib.Core.Path.{_≡_, refl}
 use Prim.Native.Nat.{_-_}
+use mathlib.Core.Path.{_≡_, refl}
+use lib.ListN.{length, drop}
+use native.Mathlib.Omega.{arith}
+use Rattle.buffer.specs.Buffer.{ReachedCapped}
+use Rattle.buffer.specs.BufferLaws.{capped-start, capped-turn, capped-end, length-capped}
+use Rattle.encoded_word.specs.Segments.{rendered}
+use Rattle.structured_token.specs.TokensLaws.{calm-within, calm-less}
+use Rattle.structured_token.specs.Walk.{becoming}
+use Rattle.structured_field.specs.StructuredField.{structuredFront, valueSegments}
+use Rattle.structured_field.specs.WritingLaws.{part-served, value-step, value-calm, value-none}
+use borrow.Author.Needs.{needs}
 use Rattle.structured_field.proofs.writer.add_value.Statement.{statement}
 use Rattle.structured_field.proofs.writer.add_value.Tie as tie
 
 abbrev Inv-loop : tie.InvT-loop
-Inv-loop out₀ at value scratch₀ next₀ i₀ out scratch next i = ReachedCapped (rendered (valueSegments value)) (rendered (valueSegments (drop i value))) at out₀ out next × (length scratch ≡ length scratch₀)
+Inv-loop out₀ at value scratch₀ next₀ comments₀ i₀ out scratch next comments i = ReachedCapped (rendered (valueSegments value)) (rendered (becoming structuredFront comments (drop i value))) at out₀ out next × (length scratch ≡ length scratch₀)
 
 abbrev μ-loop : tie.MeasureT-loop
-μ-loop out₀ at value scratch₀ next₀ i₀ out scratch next i = length value - i
+μ-loop out₀ at value scratch₀ next₀ comments₀ i₀ out scratch next comments i = length value - i
 
 loop-holds : tie.Need-loop-holds Inv-loop μ-loop
+unfolding valueSegments
 loop-holds c = (capped-start _ _ _ (omega arith), refl)
 
 token-at-requires : tie.Need-token-at-requires Inv-loop μ-loop
 token-at-requires c κs = search needs
 
+calm-end-requires : tie.Need-calm-end-requires Inv-loop μ-loop
+calm-end-requires c κs = search needs
+
 sub-add-token : tie.Need-sub-add-token Inv-loop μ-loop
-sub-add-token c = omega (arith, c .before .token-at .ensures .some (c .before .before .loop-test .taken))
+sub-add-token c = omega (arith, c .before .before .token-at .ensures .some (c .before .before .before .loop-test .taken))
 
 part-add-token-start : tie.Need-part-add-token-start Inv-loop μ-loop
-part-add-token-start c = omega (arith, c .before .token-at .ensures .some (c .before .before .loop-test .taken))
+part-add-token-start c = omega (arith, c .before .before .token-at .ensures .some (c .before .before .before .loop-test .taken))
 
 part-add-token-end : tie.Need-part-add-token-end Inv-loop μ-loop
-part-add-token-end c = c .before .token-at .ensures .within (c .before .before .loop-test .taken)
+part-add-token-end c = c .before .before .token-at .ensures .within (c .before .before .before .loop-test .taken)
 
 add-token-requires : tie.Need-add-token-requires Inv-loop μ-loop
-add-token-requires c κs = (c .before .before .before .token-at .ensures .kind, part-served (c .before .before .before .before .before .before .before .before .before .args .value .now) (c .before .before .before .before .before .loop .i) (c .before .before .before .token-at .result .end) _ (c .before .before .before .before .before .before .before .before .before .pre .0) (omega (arith, c .before .before .before .before .before .before .before .before .before .pre .1, c .before .before .before .before .before .loop .inv .1)))
+add-token-requires c κs = part-served (c .before .before .before .before .before .before .before .before .before .before .args .value .now) (c .before .before .before .before .before .before .loop .i) (c .before .before .before .before .token-at .result .end) _ (c .before .before .before .before .before .before .before .before .before .before .pre .0) (omega (arith, c .before .before .before .before .before .before .before .before .before .before .pre .1, c .before .before .before .before .before .before .loop .inv .1))
+
+sub-add-slice : tie.Need-sub-add-slice Inv-loop μ-loop
+sub-add-slice c = omega (arith, c .before .before .before .before .before .before .before .before .before .calm-end .ensures)
+
+part-add-slice-start : tie.Need-part-add-slice-start Inv-loop μ-loop
+part-add-slice-start c = omega (arith, c .before .before .before .before .before .before .before .before .before .calm-end .ensures)
+
+part-add-slice-end : tie.Need-part-add-slice-end Inv-loop μ-loop
+part-add-slice-end c = calm-within (c .before .before .before .before .before .before .before .before .before .before .before .before .before .before .before .before .args .value .now) (c .before .before .before .before .before .before .before .before .before .before .token-at .result .end) (c .before .before .before .before .before .before .before .before .before .calm-end .ensures) (c .before .before .before .before .before .before .before .before .before .before .token-at .ensures .within (c .before .before .before .before .before .before .before .before .before .before .before .loop-test .taken))
+
+add-slice-requires : tie.Need-add-slice-requires Inv-loop μ-loop
+add-slice-requires c κs = search needs
+
+goes-on-requires : tie.Need-goes-on-requires Inv-loop μ-loop
+goes-on-requires c κs = search needs
 
 loop-less : tie.Need-loop-less Inv-loop μ-loop
-loop-less c = omega (arith, c .before .before .before .before .before .before .before .before .token-at .ensures .some (c .before .before .before .before .before .before .before .before .before .loop-test .taken))
+loop-less c = calm-less (c .before .before .before .before .before .before .before .before .before .before .before .before .before .before .before .before .before .before .before .before .before .args .value .now) (c .before .before .before .before .before .before .before .before .before .before .before .before .before .before .before .before .before .loop .i) (c .before .before .before .before .before .before .before .before .before .before .before .before .before .before .before .token-at .result .end) (c .before .before .before .before .before .before .before .before .before .before .before .before .before .before .before .before .loop-test .taken) (c .before .before .before .before .before .before .before .before .before .before .before .before .before .before .before .token-at .ensures .some (c .before .before .before .before .before .before .before .before .before .before .before .before .before .before .before .before .loop-test .taken)) (c .before .before .before .before .before .before .before .before .before .before .before .before .before .before .calm-end .ensures)
 
 loop-again : tie.Need-loop-again Inv-loop μ-loop
-loop-again c = (capped-turn (c .before .before .before .before .before .before .before .before .before .before .loop .inv .0) (value-next (c .before .before .before .before .before .before .before .before .before .loop-test .taken) (c .before .before .before .before .before .before .before .before .token-at .ensures)) (c .before .before .before .before .add-token .ensures) (omega arith), omega arith)
+loop-again c = (capped-turn (capped-turn (c .before .before .before .before .before .before .before .before .before .before .before .before .before .before .before .before .before .loop .inv .0) (value-step (c .before .before .before .before .before .before .before .before .before .before .before .before .before .before .before .before .loop-test .taken) (c .before .before .before .before .before .before .before .before .before .before .before .before .before .before .before .token-at .ensures) (c .goes-on .ensures)) (c .before .before .before .before .before .before .before .before .before .before .add-token .ensures) (omega arith)) (value-calm (c .before .before .before .before .before .before .before .before .before .before .before .before .before .before .before .before .loop-test .taken) (c .before .before .before .before .before .before .before .before .before .before .before .before .before .before .before .token-at .ensures) (c .goes-on .ensures) _ (c .before .before .before .before .before .before .before .before .before .before .before .before .before .before .calm-end .ensures)) (c .before .before .before .add-slice .ensures) (omega arith), omega (arith, c .before .before .before .before .before .before .before .before .before .before .before .before .before .before .before .before .before .loop .inv .1))
 
 same-length : tie.Need-same-length Inv-loop μ-loop
 same-length c = length-capped (c .before .loop .inv .0)
@@ -48,7 +69,7 @@ same-length-2 : tie.Need-same-length-2 Inv-loop μ-loop
 same-length-2 c = c .before .loop .inv .1
 
 returns : tie.Need-returns Inv-loop μ-loop
-returns c = capped-end (c .before .loop .inv .0) (value-none _ _ (c .loop-test .left))
+returns c = capped-end (c .before .loop .inv .0) (value-none _ _ _ (c .loop-test .left))
 
 pub add-value-spec : {M : Type 1} → statement M
 add-value-spec =
@@ -58,10 +79,16 @@ add-value-spec =
     μ-loop
     loop-holds
     token-at-requires
+    calm-end-requires
     sub-add-token
     part-add-token-start
     part-add-token-end
     add-token-requires
+    sub-add-slice
+    part-add-slice-start
+    part-add-slice-end
+    add-slice-requires
+    goes-on-requires
     loop-less
     loop-again
     same-length

@@ -1,4 +1,5 @@
-use Rattle.word_choice.specs.BlockLaws.{dear, bit, count, count-none, count-next, count-all}
+use Rattle.word_choice.specs.Block.{bit, count}
+use Rattle.word_choice.specs.BlockLaws.{dear, count-none, count-next, count-all}
 use borrow.Author.Needs.{needs}
 use native.Mathlib.Omega.{arith}
 use lib.ListN.{length, take}

@@ -1,4 +1,5 @@
-use Rattle.word_choice.specs.BlockLaws.{bit, count, count-none, count-next, count-all}
+use Rattle.word_choice.specs.Block.{bit, count}
+use Rattle.word_choice.specs.BlockLaws.{count-none, count-next, count-all}
 use borrow.Author.Needs.{needs}
 use native.Mathlib.Omega.{arith}
 use lib.ListN.{length, take, getD}

@@ -1,4 +1,4 @@
-use Rattle.word_choice.specs.BlockLaws.{plain}
+use Rattle.word_choice.specs.Block.{plain}
 use mathlib.Core.Path.{refl}
 use Rattle.word_choice.proofs.block.is_plain.Statement.{statement}
 use Rattle.word_choice.proofs.block.is_plain.Tie as tie

@@ -1,4 +1,5 @@
-use Rattle.word_choice.specs.BlockLaws.{other, bit, count, count-none, count-next, count-done}
+use Rattle.word_choice.specs.Block.{other, bit, count}
+use Rattle.word_choice.specs.BlockLaws.{count-none, count-next, count-done}
 use borrow.Author.Needs.{needs}
 use native.Mathlib.Omega.{arith}
 use lib.ListN.{length, take}

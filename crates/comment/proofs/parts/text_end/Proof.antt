@@ -1,0 +1,56 @@
+use Prim.Native.Nat.{_+_, _-_}
+use mathlib.Core.Path.{_≡_, refl, sym, _∙_}
+use lib.ListN.{length, drop}
+use native.Mathlib.Omega.{arith}
+use borrow.Author.Needs.{needs}
+use borrow.Author.Tests.{not-true, not-false}
+use Rattle.lists.specs.RunLaws.{run-step, run-stop, run-end}
+use Rattle.lists.specs.Run.{run}
+use Rattle.comment.specs.Comment.{isParen, isText}
+use Rattle.comment.proofs.parts.text_end.Statement.{statement}
+use Rattle.comment.proofs.parts.text_end.Tie as tie
+
+abbrev Inv-loop : tie.InvT-loop
+Inv-loop s at i₀ i = at + run (isText isParen) (drop at s) ≡ i + run (isText isParen) (drop i s)
+
+abbrev μ-loop : tie.MeasureT-loop
+μ-loop s at i₀ i = length s - i
+
+loop-holds : tie.Need-loop-holds Inv-loop μ-loop
+loop-holds c = refl
+
+shared-slice-read-is-text : tie.Need-shared-slice-read-is-text Inv-loop μ-loop
+shared-slice-read-is-text c = omega arith
+
+is-text-requires : tie.Need-is-text-requires Inv-loop μ-loop
+is-text-requires c κs = search needs
+
+returns : tie.Need-returns Inv-loop μ-loop
+returns c = sym (c .before .before .before .before .loop .inv ∙ run-stop (isText isParen) _ _ (c .before .before .before .loop-test .taken) (sym (c .before .is-text .ensures) ∙ not-true _ (c .if1 .taken)))
+
+add-i : tie.Need-add-i Inv-loop μ-loop
+add-i c = omega arith
+
+loop-less : tie.Need-loop-less Inv-loop μ-loop
+loop-less c = omega arith
+
+loop-again : tie.Need-loop-again Inv-loop μ-loop
+loop-again c = c .before .before .before .before .loop .inv ∙ run-step (isText isParen) _ _ (c .before .before .before .loop-test .taken) (sym (c .before .is-text .ensures) ∙ not-false _ (c .if1 .left))
+
+returns-2 : tie.Need-returns-2 Inv-loop μ-loop
+returns-2 c = sym (c .before .loop .inv ∙ run-end (isText isParen) _ _ (c .loop-test .left))
+
+pub text-end-spec : {M : Type 1} → statement M
+text-end-spec =
+    tie.close
+    (tie.spec
+    Inv-loop
+    μ-loop
+    loop-holds
+    shared-slice-read-is-text
+    is-text-requires
+    returns
+    add-i
+    loop-less
+    loop-again
+    returns-2)

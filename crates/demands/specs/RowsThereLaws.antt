@@ -1,0 +1,31 @@
+-- Demand 3 of a header speaks of each text of which it asks encoded words: a header that has nothing there does not meet it. Assumes nothing.
+use mathlib.Core.Path.{_≡_, ap, sym, _∙_}
+use mathlib.Core.List.{List, [], _∷_, _++_}
+use Prim.Native.Nat.{ℕ}
+use native.Mathlib.Omega.{arith}
+use lib.ListN.{length, length-append}
+use Rattle.rules.specs.declared.Rules.{Rules}
+use Rattle.row.specs.Demand3.{Demand3}
+use Rattle.row.specs.CounterexampleLaws.{row-empty}
+use Rattle.encoded_word.specs.Segments.{Segment, rendered}
+use Rattle.encoded_word.specs.Segments.Segment.{words}
+use Rattle.demands.specs.Downgraded.{Downgraded}
+use Rattle.demands.specs.Demands.{DemandThree}
+
+module _ (rules : Rules) (e h e′ h′ : List ℕ) (d : DemandThree (Downgraded rules e h e′) h′) where
+  pub no-words : (before : List Segment) (b : ℕ) (text : List ℕ) (after : List Segment) → Downgraded rules e h e′ (before ++ (words (b ∷ text) ∷ after))
+      → h′ ≡ rendered before ++ rendered after → ⊥
+  no-words before b text after g p =
+      let there = d .alone before (b ∷ text) after g in
+      none (there .0) (sym (there .1) ∙ p) (there .2)
+    where
+      none : (row : List ℕ) → rendered before ++ (row ++ rendered after) ≡ rendered before ++ rendered after → Demand3 (b ∷ text) row → ⊥
+      none [] q t = row-empty b text t
+      none (x ∷ row) q t =
+          omega (
+            arith,
+            ap length q,
+            length-append (rendered before) ((x ∷ row) ++ rendered after),
+            length-append (x ∷ row) (rendered after),
+            length-append (rendered before) (rendered after),
+          )

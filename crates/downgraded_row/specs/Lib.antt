@@ -1,0 +1,4 @@
+pub mod RowTurnsLaws
+pub mod RowLinesLaws
+pub mod RowFieldLaws
+pub mod ReadBackLaws

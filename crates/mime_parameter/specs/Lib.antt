@@ -1,0 +1,12 @@
+pub mod Extended
+pub mod Number
+pub mod Pieces
+pub mod Parameter2231
+pub mod ExtendedLaws
+pub mod NumberLaws
+pub mod PiecesLaws
+pub mod Parameter2231Laws
+pub mod CounterexampleLaws
+pub mod PartLaws
+pub mod WritingLaws
+pub mod PieceCases

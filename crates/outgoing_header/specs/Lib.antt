@@ -1,0 +1,3 @@
+pub mod HeaderOutcome
+pub mod HeaderOutcomeLaws
+pub mod HeaderBoundLaws

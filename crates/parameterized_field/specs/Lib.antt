@@ -1,0 +1,4 @@
+pub mod Value
+pub mod StepLaws
+pub mod NamesLaws
+pub mod WritingLaws

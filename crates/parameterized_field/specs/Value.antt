@@ -1,0 +1,153 @@
+-- What becomes of a value with parameters, and when its field is held. Assumes nothing.
+use mathlib.Core.Bool.{Bool, true, false, not, cond, _&&_, _||_}
+use mathlib.Core.List.{List, [], _∷_, _++_, map}
+use Prim.Native.Nat.{ℕ}
+use lib.Dec.{ltb}
+use lib.ListN.{take, drop}
+use Rattle.lists.specs.Byte.{isAscii}
+use Rattle.lists.specs.Lists.{all, joined}
+use Rattle.letter_case.specs.LetterCase.{sameAnyCase}
+use Rattle.encoded_word.specs.Segments.{Segment}
+use Rattle.encoded_word.specs.Segments.Segment.{raw}
+use Rattle.field.specs.Field.{named}
+use Rattle.comment.specs.Parts.{parts}
+use Rattle.structured_token.specs.declared.Kind.{Kind}
+use Rattle.structured_token.specs.declared.Kind.the-variants.{Comment, Quoted, White, Open, Semicolon, Plain, End}
+use Rattle.structured_token.specs.Tokens.{kindOf, sizeOf, goesOn, commentKind, whiteKind}
+use Rattle.structured_token.specs.Walk.{Front, walk, clearOf, becomesOf}
+use Rattle.structured_field.specs.StructuredField.{partSegments}
+use Rattle.mime_parameter.specs.Pieces.{valueText, parameterLines}
+use Rattle.field_parameter.specs.Parameter.{parameterLen, nameOf, valueOf, isConverted, parameterClear, convertedNext}
+use Rattle.parameterized_field.specs.declared.State.{State}
+
+-- ---- items
+
+-- a value is a row of items: a parameter that is converted, one that stays, or something else
+pub data Item : Type 0 where
+  piece : List ℕ → Item
+  stays : List ℕ → Item
+  other : List Segment → Item
+
+abbrev pub itemSegments : Item → List Segment
+itemSegments (piece parameter) = raw (parameterLines (nameOf parameter) (valueText (valueOf parameter))) ∷ []
+itemSegments (stays parameter) = raw parameter ∷ []
+itemSegments (other segments) = segments
+
+abbrev pub itemNames : Item → List (List ℕ)
+itemNames (piece parameter) = nameOf parameter ∷ []
+itemNames (stays parameter) = nameOf parameter ∷ []
+itemNames (other segments) = []
+
+-- ---- the state: whether a comment may start; whether a `;` is the last thing but white space, folds and comments; whether a converted
+-- piece is the last thing but white space, folds and its `;`; whether that `;` may still come
+
+abbrev pub start : State
+start = record { comments = true; after = false; fresh = false; own = false }
+
+-- "What follows the last piece and its `;` [..] starts a new line with a space"
+abbrev pub newLine : Bool → List Item
+newLine true = other (raw (13 ∷ 10 ∷ 32 ∷ []) ∷ []) ∷ []
+newLine false = []
+
+-- ---- tokens
+
+-- "A parameter follows a `;` outside comments and quoted strings, white space, folds and comments between"
+abbrev pub staysAfter : Bool → Kind → Bool
+staysAfter after Comment = after
+staysAfter after Quoted = false
+staysAfter after White = after
+staysAfter after Open = false
+staysAfter after Semicolon = true
+staysAfter after Plain = false
+staysAfter after End = after
+
+abbrev pub semicolonKind : Kind → Bool
+semicolonKind Comment = false
+semicolonKind Quoted = false
+semicolonKind White = false
+semicolonKind Open = false
+semicolonKind Semicolon = true
+semicolonKind Plain = false
+semicolonKind End = false
+
+-- "white space and folds before it go"; so do those after the last piece and after its `;`
+unfoldable pub dropped : State → Kind → List ℕ → Bool
+dropped state what more = whiteKind what && (state .fresh || (state .after && convertedNext (state .comments) more))
+
+-- the `;` of the last piece
+abbrev pub ownMark : State → Kind → Bool
+ownMark state what = semicolonKind what && state .own
+
+-- "Comments follow [1].", all else byte for byte
+unfoldable pub tokenSegments : Kind → List ℕ → List Segment
+tokenSegments what t = cond (commentKind what) (joined (map partSegments (parts t))) (raw t ∷ [])
+
+-- a token, and what follows it
+unfoldable pub tokenItems : State → Kind → List ℕ → List ℕ → List Item
+tokenItems state what t more =
+    cond (dropped state what more) [] (newLine (state .fresh && not (ownMark state what)) ++ (other (tokenSegments what t) ∷ []))
+
+abbrev pub afterToken : State → Kind → State
+afterToken state what = record {
+  comments = goesOn (state .comments) what;
+  after = staysAfter (state .after) what;
+  fresh = state .fresh && (whiteKind what || ownMark state what);
+  own = state .own && whiteKind what;
+}
+
+-- ---- parameters
+
+unfoldable pub parameterItems : State → List ℕ → List Item
+parameterItems state parameter = cond (isConverted parameter) (piece parameter ∷ []) (newLine (state .fresh) ++ (stays parameter ∷ []))
+
+abbrev pub afterParameter : State → Bool → State
+afterParameter state converted = record { comments = state .comments; after = false; fresh = converted; own = converted }
+
+-- ---- what stands at the front of a text
+
+abbrev pub parameterHere : State → List ℕ → Bool
+parameterHere state s = state .after && ltb 0 (parameterLen (state .comments) s)
+
+abbrev pub parameterFront : State → List ℕ → Front State Item
+parameterFront state s =
+    let n = parameterLen (state .comments) s in
+    let p = take n s in
+    record { size = n; clear = parameterClear p; becomes = parameterItems state p; next = afterParameter state (isConverted p) }
+
+abbrev pub tokenFront : State → List ℕ → Front State Item
+tokenFront state s =
+    let what = kindOf (state .comments) s in
+    let n = sizeOf what s in
+    let t = take n s in
+    let more = drop n s in
+    record { size = n; clear = commentKind what || all isAscii t; becomes = tokenItems state what t more; next = afterToken state what }
+
+unfoldable pub front : State → List ℕ → Front State Item
+front state s = cond (parameterHere state s) (parameterFront state s) (tokenFront state s)
+
+-- ---- the value
+
+unfoldable pub itemsFrom : State → List ℕ → List Item
+itemsFrom state s = joined (map becomesOf (walk front state s))
+
+unfoldable pub clearFrom : State → List ℕ → Bool
+clearFrom state s = all clearOf (walk front state s)
+
+unfoldable pub segmentsFrom : State → List ℕ → List Segment
+segmentsFrom state s = joined (map itemSegments (itemsFrom state s))
+
+unfoldable pub namesFrom : State → List ℕ → List (List ℕ)
+namesFrom state s = joined (map itemNames (itemsFrom state s))
+
+-- no name is "shared by two parameters (any case)"
+unfoldable pub distinct : List (List ℕ) → Bool
+distinct [] = true
+distinct (name ∷ names) = all (λ other. not (sameAnyCase name other)) names && distinct names
+
+-- "Where a parameter name has `*`, is shared by two parameters (any case) or leaves no room for a character, or non-ASCII stands elsewhere,
+-- the field stays held."
+unfoldable pub passes : List ℕ → Bool
+passes value = clearFrom start value && distinct (namesFrom start value)
+
+unfoldable pub parameterizedField : List ℕ → List ℕ → List Segment
+parameterizedField name value = named name (segmentsFrom start value)

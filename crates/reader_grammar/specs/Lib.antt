@@ -1,0 +1,2 @@
+pub mod ReaderGrammar
+pub mod StartLaws

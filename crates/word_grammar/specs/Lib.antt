@@ -1,0 +1,2 @@
+pub mod WordGrammar
+pub mod WordGrammarLaws

@@ -1,0 +1,4 @@
+pub mod Each
+pub mod EachLaws
+pub mod Word
+pub mod WordLaws
