@@ -1,2 +1,3 @@
 pub mod ReaderGrammar
 pub mod StartLaws
+pub mod CallLaws

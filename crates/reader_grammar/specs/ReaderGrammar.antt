@@ -1,5 +1,6 @@
 -- Where the fields of a header begin, and the first from a place on. Assumes nothing.
-use mathlib.Core.List.{List}
+use mathlib.Core.Bool.{cond}
+use mathlib.Core.List.{List, [], _∷_}
 use Prim.Native.Nat.{ℕ, _+_, _≤_, _<_}
 use lib.Dec.{T}
 use lib.ListN.{drop}
@@ -21,3 +22,8 @@ pub record FirstField (h : List ℕ) (place start : ℕ) : Type 0 where
   pub up : place ≤ start
   pub begins : FieldBegins h start
   pub none-before : (p : ℕ) → place ≤ p → p < start → FieldBegins h p → ⊥
+
+-- how many of these fields are Downgraded fields
+unfoldable pub downgradedCount : List (List ℕ) → ℕ
+downgradedCount [] = 0
+downgradedCount (field ∷ more) = cond (isDowngraded field) 1 0 + downgradedCount more

@@ -1,0 +1,5 @@
+pub mod ReadBack
+pub mod Calls
+pub mod CallsLaws
+pub mod WrittenLaws
+pub mod ReadBackLaws
