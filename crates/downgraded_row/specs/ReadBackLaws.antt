@@ -116,41 +116,41 @@ record Apart (before : List Segment) (label text : List ℕ) (after : List Segme
   pub after-is : after ≡ raw (13 ∷ 10 ∷ []) ∷ back
   pub rest : WrittenFields back
 
-none-there : {before after : List Segment} {s : Segment} → [] ≡ before ++ (s ∷ after) → ⊥
-none-there {[]} e = let z : _≡_ {A = ℕ} 0 1 = cc in omega arith
-none-there {x ∷ before} e = let z : _≡_ {A = ℕ} 0 1 = cc in omega arith
+none-there : (before : List Segment) (s : Segment) (after : List Segment) → [] ≡ before ++ (s ∷ after) → ⊥
+none-there [] s after e = let z : _≡_ {A = ℕ} 0 1 = cc in omega arith
+none-there (x ∷ before) s after e = let z : _≡_ {A = ℕ} 0 1 = cc in omega arith
 
-no-label : {label text bytes : List ℕ} {a b : List Segment} → raw bytes ∷ a ≡ labelled label text ∷ b → ⊥
-no-label e = let z : _≡_ {A = ℕ} 0 1 = cc in omega arith
+has-label : (s : Segment) {label text : List ℕ} {a b : List Segment} → T (unlabelled s) → s ∷ a ≡ labelled label text ∷ b → ⊥
+has-label (raw bytes) t e = let z : _≡_ {A = ℕ} 0 1 = cc in omega arith
+has-label (words text) t e = let z : _≡_ {A = ℕ} 0 1 = cc in omega arith
+has-label (labelled label text) t e = t
 
-has-label : {s : Segment} {label text : List ℕ} {a b : List Segment} → T (unlabelled s) → s ∷ a ≡ labelled label text ∷ b → ⊥
-has-label {raw bytes} t e = no-label e
-has-label {words w} t e = let z : _≡_ {A = ℕ} 0 1 = cc in omega arith
-has-label {labelled l x} t e = t
+tails : {x y : Segment} {a b : List Segment} → x ∷ a ≡ y ∷ b → a ≡ b
+tails e = cc
+
+both : {x y : Segment} {a b : List Segment} → x ≡ y → b ≡ a → y ∷ b ≡ x ∷ a
+both p q = cc
 
 -- it stands after segments that have none
 past-other : {label text : List ℕ} (segments more before after : List Segment) → T (all unlabelled segments) → segments ++ more ≡ before ++ (labelled label text ∷ after)
     → (rest : List Segment) × (before ≡ segments ++ rest) × (more ≡ rest ++ (labelled label text ∷ after))
 past-other [] more before after t e = (before, refl, e)
-past-other (s ∷ segments) more [] after t e = absurd (has-label (and-yes (unlabelled s) (all unlabelled segments) t .0) e)
+past-other (s ∷ segments) more [] after t e = absurd (has-label s (and-yes (unlabelled s) (all unlabelled segments) t .0) e)
 past-other (s ∷ segments) more (x ∷ before) after t e =
-    let r = past-other segments more before after (and-yes (unlabelled s) (all unlabelled segments) t .1) cc in
+    let r = past-other segments more before after (and-yes (unlabelled s) (all unlabelled segments) t .1) (tails e) in
     let first : s ≡ x = cc in
-    (r .0, rw (first, r .1) refl, r .2)
+    (r .0, both first (r .1), r .2)
 
 apart : {ss : List Segment} → WrittenFields ss → (before : List Segment) (label text : List ℕ) (after : List Segment) → ss ≡ before ++ (labelled label text ∷ after) → Apart before label text after
 unfolding labelledField
-apart WrittenFields.none before label text after e = absurd (none-there e)
-apart (WrittenFields.encoded {l} t {more} k u w) [] label text after e =
+apart WrittenFields.none before label text after e = absurd (none-there before (labelled label text) after e)
+apart (WrittenFields.encoded {label = l} t {more} k u w) [] label text after e =
     let same : l ≡ label = cc in
     let texts : t ≡ text = cc in
     record { front = WrittenFields.none; label-is = rw same at k; text-is = rw texts at u; back = more; after-is = cc; rest = w }
-apart (WrittenFields.encoded {l} t {more} k u w) (x ∷ []) label text after e = absurd (no-label (tails e))
-  where
-    tails : {y : Segment} {a b : List Segment} → y ∷ a ≡ x ∷ b → a ≡ b
-    tails e = cc
-apart (WrittenFields.encoded {l} t {more} k u w) (x ∷ y ∷ before) label text after e =
-    let r = apart w before label text after cc in
+apart (WrittenFields.encoded {label = l} t {more} k u w) (x ∷ []) label text after e = absurd (has-label (raw (13 ∷ 10 ∷ [])) tt (tails e))
+apart (WrittenFields.encoded {label = l} t {more} k u w) (x ∷ y ∷ before) label text after e =
+    let r = apart w before label text after (tails (tails e)) in
     let first : labelled l t ≡ x = cc in
     let second : raw (13 ∷ 10 ∷ []) ≡ y = cc in
     record { front = rw (← first, ← second) (WrittenFields.encoded t k u (r .front)); label-is = r .label-is; text-is = r .text-is; back = r .back; after-is = r .after-is; rest = r .rest }
