@@ -4,6 +4,7 @@ use mathlib.Core.List.{List}
 use Prim.Native.Nat.{ℕ, zero, suc, _+_, _-_, _≤_, _<_}
 use native.Mathlib.Nat.{add-zero}
 use native.Mathlib.Omega.{arith}
+use lib.Dec.{leb}
 use lib.ListN.{length, drop}
 use borrow.Author.Tests.{lt-ltb}
 use Rattle.buffer.specs.Buffer.{overlay}
@@ -20,26 +21,6 @@ use Rattle.downgraded_reader.specs.Reader.{fieldStart, fieldAt, ofField, leftBy
 use Rattle.reader_grammar.specs.CallLaws.{Reached}
 use Rattle.read_back.specs.Calls.{outcomeAfter}
 
--- ---- as code makes them
-
-pub record Going (h : List ℕ) (k : ℕ) (first : List ℕ) (place left : ℕ) (buffer : List ℕ) : Type 0 where
-  pub same : outcomeAfter h place buffer left ≡ outcomeAfter h 0 first k
-
-pub going-start : {h : List ℕ} {k : ℕ} {first : List ℕ} → Going h k first 0 k first
-going-start = record { same = refl }
-
-module _ {h : List ℕ} {k : ℕ} {first : List ℕ} {place left : ℕ} {buffer : List ℕ} (g : Going h k first place left buffer) where
-  pub going-on : {a : ReadAnswer} {after : List ℕ} → 0 < left → observed a after ≡ outcome h place buffer → Going h k first (a .next) (left - 1) after
-  unfolding outcomeAfter
-  going-on {a} {after} some e =
-      let one : suc (left - 1) ≡ left = omega arith in
-      let step : outcomeAfter h place buffer (suc (left - 1)) ≡ outcomeAfter h (a .next) after (left - 1) = rw (← e) refl in
-      record { same = sym step ∙ ap (outcomeAfter h place buffer) one ∙ g .same }
-
-  pub going-end : {a : ReadAnswer} {after : List ℕ} → left ≡ 0 → observed a after ≡ outcome h place buffer → observed a after ≡ outcomeAfter h 0 first k
-  unfolding outcomeAfter
-  going-end z e = e ∙ rw z at (g .same)
-
 -- ---- their places
 
 left-length : (r : Found) (text buffer : List ℕ) → length (leftBy r text buffer) ≡ length buffer
@@ -54,7 +35,7 @@ left-length Nothing text buffer = refl
 
 field-next : (end room start next : ℕ) (r : FieldRead) → nextOf end (ofField room start next r) ≡ next
 unfolding ofField nextOf
-field-next end room start next (FieldText size) = cond-has (λ (f : Found). nextOf end f ≡ next) _ (Text start next size) (Room start next size) (λ t. refl) (λ t. refl)
+field-next end room start next (FieldText size) = cond-has (λ (f : Found). nextOf end f ≡ next) (leb size room) (Text start next size) (Room start next size) (λ t. refl) (λ t. refl)
 field-next end room start next FieldMalformed = refl
 field-next end room start next FieldWord = refl
 field-next end room start next FieldCharset = refl
@@ -70,6 +51,33 @@ module _ (h : List ℕ) (place : ℕ) (buffer : List ℕ) where
   buffer-size : length (outcome h place buffer .buffer) ≡ length buffer
   unfolding outcome bufferAfter
   buffer-size = left-length (reading h place (length buffer)) (fieldText (fieldAt h (fieldStart h place))) buffer
+
+-- ---- as code makes them
+
+pub record Going (h : List ℕ) (k : ℕ) (first : List ℕ) (place left : ℕ) (buffer : List ℕ) : Type 0 where
+  pub same : outcomeAfter h place buffer left ≡ outcomeAfter h 0 first k
+  pub size : length buffer ≡ length first
+
+pub going-start : {h : List ℕ} {k : ℕ} {first : List ℕ} → Going h k first 0 k first
+going-start = record { same = refl; size = refl }
+
+module _ {h : List ℕ} {k : ℕ} {first : List ℕ} {place left : ℕ} {buffer : List ℕ} (g : Going h k first place left buffer) {a : ReadAnswer} {after : List ℕ} (e : observed a after ≡ outcome h place buffer) where
+  pub going-size : length after ≡ length first
+  going-size = ap (λ (o : Outcome). length (o .buffer)) e ∙ buffer-size h place buffer ∙ g .size
+
+  pub going-on : 0 < left → Going h k first (a .next) (left - 1) after
+  unfolding outcomeAfter
+  going-on some =
+      let one : suc (left - 1) ≡ left = omega arith in
+      let step : outcomeAfter h place buffer (suc (left - 1)) ≡ outcomeAfter h (a .next) after (left - 1) =
+      ap (λ (o : Outcome). outcomeAfter h (o .next) (o .buffer) (left - 1)) (sym e) in
+      record { same = sym step ∙ ap (outcomeAfter h place buffer) one ∙ g .same; size = going-size }
+
+  pub going-end : left ≡ 0 → observed a after ≡ outcomeAfter h 0 first k
+  unfolding outcomeAfter
+  going-end z = e ∙ rw z at (g .same)
+
+-- ---- by their numbers
 
 -- a call at a place, with a buffer of the same length
 pub record CallAt (h first : List ℕ) (k place : ℕ) : Type 0 where
