@@ -1,3 +1,6 @@
 pub mod ReaderGrammar
+pub mod FieldGrammar
 pub mod StartLaws
 pub mod CallLaws
+pub mod TurnLaws
+pub mod FoldLaws
