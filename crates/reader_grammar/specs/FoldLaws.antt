@@ -283,7 +283,7 @@ unfolding spacing blank
 lf-spacing = refl
 
 module _ (v : List ℕ) where
-  after-gap : run spacing v < length v → spacing (getD (drop (run spacing v) v) 0 0) ≡ false
+  pub after-gap : run spacing v < length v → spacing (getD (drop (run spacing v) v) 0 0) ≡ false
   after-gap k = rw (getD-drop (run spacing v) v 0 0, add-zero) (run-after spacing v k)
 
   pub folded-start : Folded v → Folded (drop (run spacing v) v)

@@ -4,3 +4,5 @@ pub mod StartLaws
 pub mod CallLaws
 pub mod TurnLaws
 pub mod FoldLaws
+pub mod FieldLinesLaws
+pub mod FieldGrammarLaws
