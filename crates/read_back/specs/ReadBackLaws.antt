@@ -17,6 +17,8 @@ use Rattle.outgoing_field.specs.Fate.{headerSegments}
 use Rattle.outgoing_header.specs.declared.HeaderAnswer.{HeaderAnswer}
 use Rattle.downgraded_reader.specs.declared.ReadAnswer.{ReadAnswer}
 use Rattle.downgraded_reader.specs.Reader.{Outcome, outcome, observed}
+use Rattle.reader_grammar.specs.ReaderGrammar.{Reads}
+use Rattle.reader_grammar.specs.ReaderGrammarLaws.{reads}
 use Rattle.downgraded_row.specs.ReadBackLaws.{WrittenFields, Shows, reads-back}
 use Rattle.demands.specs.Downgraded.{Downgraded, HeaderBecomes}
 use Rattle.demands.specs.Downgraded.HeaderBecomes.{all-become}
@@ -80,3 +82,8 @@ module _ {h c : List ℕ} {r : HeaderAnswer} {c′ : List ℕ} (d : MailboxDeman
           let two = d .demand-2 z in
           let m = mailbox-lines w in
           (rw (m .1) (m .0), two .header ∙ ap rendered (mailbox-lines (two .becomes) .1 ∙ sym (m .1)))
+
+-- ---- the reader's call by its rules
+
+pub read-by-rules : {h : List ℕ} {place : ℕ} {t t′ : List ℕ} {a : ReadAnswer} → observed a t′ ≡ outcome h place t → Reads h place t (observed a t′)
+read-by-rules {h} {place} {t} e = rw e (reads h place t)

@@ -1,5 +1,5 @@
-// That the reader shows what we encoded: specs/ReadBack.antt states it of the reader's calls over a header that a call of ours wrote, and here
-// the exported calls are checked against it.
+// What the reader shows: reader_grammar has the rules for any header, and specs/ReadBack.antt states of a header that a call of ours wrote that
+// the reader shows what we encoded. Here the exported calls are checked against both.
 ghost use mathlib.Core.Path.{_≡_};
 ghost use lib.ListN.{take};
 ghost use Rattle.rules.specs.Rules.{settingRules};
@@ -8,12 +8,20 @@ ghost use Rattle.demands.specs.Downgraded.{Downgraded, HeaderBecomes};
 ghost use Rattle.demands.specs.Demands.{Demands};
 ghost use Rattle.demands.specs.MailboxDemands.{MailboxDemands};
 ghost use Rattle.downgraded_reader.specs.Reader.{observed};
+ghost use Rattle.reader_grammar.specs.ReaderGrammar.{Reads};
 ghost use Rattle.read_back.specs.Calls.{outcomeAfter};
 ghost use Rattle.read_back.specs.ReadBack.{ReadsBack};
 use call::Answer;
 use downgraded_reader::ReadAnswer;
 use outgoing_header::HeaderAnswer;
 use reader::hennelaku_read_downgraded_slices as read;
+
+// The exported call of the reader: what it answers and leaves is what the rules give.
+pub fn read_downgraded(header: &[u8], place: usize, text: &mut [u8]) -> ReadAnswer
+    ensures { λ r. ⌜ Reads (now (header .entry)) place (now (text .entry)) (observed r (now (text .exit))) ⌝ }
+{
+    read(header, place, text)
+}
 
 // What the call and the reader answer.
 pub struct Answers {
