@@ -5,9 +5,14 @@ use mathlib.Core.List.{List, _∷_, _++_}
 use Prim.Native.Nat.{ℕ, _≤_}
 use lib.Dec.{T}
 use lib.ListN.{length, take}
+use Rattle.rules.specs.declared.Rules.{Rules}
+use Rattle.rules.specs.declared.Rules.the-variants.{Mailbox}
 use Rattle.encoded_word.specs.Segments.{Segment, rendered}
 use Rattle.encoded_word.specs.Segments.Segment.{labelled}
 use Rattle.header.specs.Fields.{fieldsOf}
+use Rattle.call.specs.declared.Answer.{Answer}
+use Rattle.outgoing_header.specs.declared.HeaderAnswer.{HeaderAnswer}
+use Rattle.demands.specs.Downgraded.{HeaderBecomes, Downgraded}
 use Rattle.downgraded_reader.specs.declared.ReadAnswer.{ReadAnswer}
 use Rattle.downgraded_reader.specs.Reader.{isDowngraded}
 use Rattle.reader_grammar.specs.ReaderGrammar.{downgradedCount}
@@ -20,3 +25,11 @@ pub record ReadsBack (Written : List Segment → Type 0) (k : ℕ) (t : List ℕ
   pub shown : (before : List Segment) (label text : List ℕ) (after : List Segment) → Written (before ++ (labelled label text ∷ after))
       → T (isDowngraded label) → k ≡ downgradedCount (fieldsOf (rendered before)) → length text ≤ length t
       → (a .number ≡ 0) × (a .start ≡ length (rendered before)) × (a .length ≡ length text) × (take (a .length) t′ ≡ text)
+
+-- of the call with rules, an envelope e and a header h, which answers r and leaves the envelope buffer b′
+abbrev pub CallReadsBack : Rules → List ℕ → List ℕ → Answer → List ℕ → ℕ → List ℕ → ReadAnswer → List ℕ → Type 0
+CallReadsBack rules e h r b′ k t a t′ = r .number ≡ 0 → ReadsBack (Downgraded rules e h (take (r .«envelope_len») b′)) k t a t′
+
+-- of the call for a mailbox with a header h, which answers r
+abbrev pub MailboxReadsBack : List ℕ → HeaderAnswer → ℕ → List ℕ → ReadAnswer → List ℕ → Type 0
+MailboxReadsBack h r k t a t′ = r .number ≡ 0 → ReadsBack (HeaderBecomes Mailbox h) k t a t′

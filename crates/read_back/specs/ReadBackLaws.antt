@@ -45,14 +45,16 @@ module _ {len : ℕ} {before after : List ℕ} (k : KeptPast len before after) w
 
 module _ {Written : List Segment → Type 0} {h′ : List ℕ} (right : (ss : List Segment) → Written ss → WrittenFields ss × (h′ ≡ rendered ss)) where
   pub all-shown : {k : ℕ} {t t′ : List ℕ} {a : ReadAnswer} → observed a t′ ≡ outcomeAfter h′ 0 t k → ReadsBack Written k t a t′
-  all-shown {k} {t} {t′} {a} e = record { shown = λ before label text after w d n room.
-      let r = right (before ++ (labelled label text ∷ after)) w in
-      let s = rw (← r .1) at (reads-back (r .0) before label text after refl d) in
-      let c = call-at t (rw (← n) at (s .reached)) in
-      let size : length text ≤ length (c .buffer) = rw (c .size) room in
-      let o = e ∙ call-is c ∙ s .outcome-is (c .buffer) size in
-      let length-is = ap (λ (x : Outcome). x .size) o in
-      (ap (λ (x : Outcome). x .number) o, ap (λ (x : Outcome). x .start) o, length-is, rw (length-is, ap (λ (x : Outcome). x .buffer) o) (overlay-front text (c .buffer) size)) }
+  all-shown {k} {t} {t′} {a} e = record {
+    shown = λ before label text after w d n room.
+        let r = right (before ++ (labelled label text ∷ after)) w in
+        let s = rw (← r .1) at (reads-back (r .0) before label text after refl d) in
+        let c = call-at t (rw (← n) at (s .reached)) in
+        let size : length text ≤ length (c .buffer) = rw (c .size) room in
+        let o = e ∙ call-is c ∙ s .outcome-is (c .buffer) size in
+        let length-is = ap (λ (x : Outcome). x .size) o in
+        (ap (λ (x : Outcome). x .number) o, ap (λ (x : Outcome). x .start) o, length-is, rw (length-is, ap (λ (x : Outcome). x .buffer) o) (overlay-front text (c .buffer) size));
+  }
 
 -- ---- the call
 
