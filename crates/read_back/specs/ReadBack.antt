@@ -1,5 +1,5 @@
--- "On a header we wrote, given room, each Downgraded field that we added shows exactly the text we encoded in it, in order." ReadBackLaws.antt
--- proves it of what the exported calls answer and leave. Assumes nothing.
+-- "On a header we wrote, given room, each Downgraded field that we added shows exactly the text we encoded in it, in order."
+-- ReadBackLaws.antt proves it of what the exported calls answer and leave. Assumes nothing.
 use mathlib.Core.Path.{_≡_}
 use mathlib.Core.List.{List, _∷_, _++_}
 use Prim.Native.Nat.{ℕ, _≤_}
@@ -17,10 +17,10 @@ use Rattle.downgraded_reader.specs.declared.ReadAnswer.{ReadAnswer}
 use Rattle.downgraded_reader.specs.Reader.{isDowngraded}
 use Rattle.reader_grammar.specs.ReaderGrammar.{downgradedCount}
 
--- The reader's calls over a header that is rendered of segments which are `Written`, numbered from 0 on: the first is at the header's start, each
--- other at the place after the field before. Call number k has a buffer t, answers a and leaves t′. Wherever the segments have a label of a
--- Downgraded field with the encoded words of a text, the call with that field's number, which is how many Downgraded fields stand before it,
--- shows exactly the text. Fields of such names that came in are counted, and read like any other.
+-- The reader's calls over a header that is rendered of segments which are `Written` are numbered from 0 on: the first is at the header's
+-- start, each other at the place after the field before. Call number k has a buffer t, answers a and leaves t′. Wherever the segments have
+-- a label of a Downgraded field with the encoded words of a text, the call with the number of that field, which is how many Downgraded
+-- fields stand before it, shows exactly the text. Fields of such names that came in are counted, and read like any other.
 pub record ReadsBack (Written : List Segment → Type 0) (k : ℕ) (t : List ℕ) (a : ReadAnswer) (t′ : List ℕ) : Type 0 where
   pub shown : (before : List Segment) (label text : List ℕ) (after : List Segment) → Written (before ++ (labelled label text ∷ after))
       → T (isDowngraded label) → k ≡ downgradedCount (fieldsOf (rendered before)) → length text ≤ length t

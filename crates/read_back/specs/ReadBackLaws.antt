@@ -5,21 +5,19 @@ use Prim.Native.Nat.{ℕ, _≤_}
 use native.Mathlib.Omega.{arith}
 use lib.ListN.{length, take}
 use lib.Seq.{length-take-le}
-use Rattle.buffer.specs.Buffer.{overlay}
 use Rattle.buffer.specs.BufferLaws.{overlay-front}
 use Rattle.encoded_word.specs.Segments.{Segment, rendered}
 use Rattle.encoded_word.specs.Segments.Segment.{labelled}
 use Rattle.rules.specs.declared.Rules.{Rules}
 use Rattle.rules.specs.declared.Rules.the-variants.{Mailbox}
 use Rattle.call.specs.declared.Answer.{Answer}
-use Rattle.call.specs.OutgoingHeader.{outgoingSegments}
 use Rattle.outgoing_field.specs.Fate.{headerSegments}
 use Rattle.outgoing_header.specs.declared.HeaderAnswer.{HeaderAnswer}
 use Rattle.downgraded_reader.specs.declared.ReadAnswer.{ReadAnswer}
 use Rattle.downgraded_reader.specs.Reader.{Outcome, outcome, observed}
 use Rattle.reader_grammar.specs.ReaderGrammar.{Reads}
 use Rattle.reader_grammar.specs.ReaderGrammarLaws.{reads}
-use Rattle.downgraded_row.specs.ReadBackLaws.{WrittenFields, Shows, reads-back}
+use Rattle.downgraded_row.specs.ReadBackLaws.{WrittenFields, reads-back}
 use Rattle.demands.specs.Downgraded.{Downgraded, HeaderBecomes}
 use Rattle.demands.specs.Downgraded.HeaderBecomes.{all-become}
 use Rattle.demands.specs.Demands.{KeptPast, Demands}
