@@ -284,6 +284,10 @@ module _ (rules : Rules) (field : List ℕ) {before after : List ℕ} {at r : �
 unfoldable pub limitedLen : ℕ → ℕ
 limitedLen n = cond (leb n 32768) n 0
 
+pub limited-small : {n : ℕ} (m : ℕ) → n ≡ limitedLen m → n ≤ 32768
+unfolding limitedLen
+limited-small m e = rw e (cond-has (λ (k : ℕ). k ≤ 32768) (leb m 32768) m 0 (λ t. leb-yes t) (λ t. omega arith))
+
 module _ (s : List ℕ) (n : ℕ) (e : n ≡ limitedLen (length s)) where
   pub limited-part : take n s ≡ limited s
   unfolding limited limitedLen
@@ -301,9 +305,7 @@ module _ (s : List ℕ) (n : ℕ) (e : n ≡ limitedLen (length s)) where
   limited-size = sym (length-take-le n s limited-le)
 
   pub limited-within : length (take n s) ≤ 32768
-  unfolding limitedLen
-  limited-within =
-      rw (length-take-le n s limited-le, e) (cond-has (λ n. n ≤ 32768) (leb (length s) 32768) (length s) 0 (λ t. leb-yes t) (λ t. omega arith))
+  limited-within = rw (length-take-le n s limited-le) (limited-small (length s) e)
 
 pub limited-short : (s : List ℕ) → length s ≤ 32768 → limited s ≡ s
 unfolding limited

@@ -1,42 +1,33 @@
+use Rattle.outgoing_field.specs.FateLaws.{limited-small, limited-size, limited-within}
+use Rattle.outgoing_field.specs.MostLaws.{ample-any, scant-any, ample-most}
+use native.Mathlib.Omega.{arith}
 use borrow.Author.Needs.{needs}
 use Rattle.outgoing_field.proofs.most.is_ample.Statement.{statement}
 use Rattle.outgoing_field.proofs.most.is_ample.Tie as tie
-use Rattle.outgoing_field.proofs.most.is_ample.Reads as reads
-use Rattle.outgoing_field.proofs.most.is_ample.Lts as lts
-use Rattle.outgoing_field.proofs.limited_len.Reads as limited-len-reads
-use Rattle.outgoing_field.proofs.most.most.Reads as most-reads
 
--- src/most.rt:65:9
 limited-len-requires : tie.Need-limited-len-requires
 limited-len-requires c κs = search needs
 
--- src/most.rt:66:8
 mul-if1 : tie.Need-mul-if1
-mul-if1 c = ?
+mul-if1 c = omega (arith, limited-small _ (c .limited-len .ensures))
 
--- src/most.rt:67:9
 returns : tie.Need-returns
-returns c = ?
+returns c = ample-any _ _ (c .before .limited-len .ensures) (c .if1 .taken)
 
--- src/most.rt:69:15
 mul-if2 : tie.Need-mul-if2
-mul-if2 c = ?
+mul-if2 c = omega (arith, limited-small _ (c .before .limited-len .ensures))
 
--- src/most.rt:70:9
 returns-2 : tie.Need-returns-2
-returns-2 c = ?
+returns-2 c = scant-any _ _ (c .before .before .limited-len .ensures) (c .if2 .taken)
 
--- src/most.rt:72:17
 slice-aggregate-most : tie.Need-slice-aggregate-most
-slice-aggregate-most c = ?
+slice-aggregate-most c = limited-size _ _ (c .before .before .before .limited-len .ensures)
 
--- src/most.rt:72:5
 most-requires : tie.Need-most-requires
-most-requires c κs = ?
+most-requires c κs = limited-within _ _ (c .before .before .before .limited-len .ensures)
 
--- src/most.rt:62:1
 returns-3 : tie.Need-returns-3
-returns-3 c = ?
+returns-3 c = ample-most _ _ (c .before .before .before .before .limited-len .ensures) _ (c .most .ensures)
 
 pub is-ample-spec : {M : Type 1} → statement M
 is-ample-spec =
