@@ -26,7 +26,7 @@ pub data Ends (comments : Bool) : List ℕ → Type 0 where
   end : Ends comments []
   white : {b : ℕ} {more : List ℕ} → T (isWhite b) → Ends comments (b ∷ more)
   semicolon : {more : List ℕ} → Ends comments (59 ∷ more)
-  comment : {c more : List ℕ} → T comments → Comment c → Ends comments (c ++ more)
+  comment : {c : List ℕ} (more : List ℕ) → T comments → Comment c → Ends comments (c ++ more)
 
 -- "a token of RFC 2045, `=`" (61) and a value: the parameter's name, its value as it stands, and what follows it
 pub record Parameter (comments : Bool) (name value more : List ℕ) : Type 0 where

@@ -1,5 +1,5 @@
 -- `parameterLen` takes exactly the parameters that the rules make; where UTF-8 may be cut. Assumes nothing.
-use borrow.Author.Tests.{lt-ltb}
+use borrow.Author.Tests.{lt-ltb, le-ltb}
 use mathlib.Core.Path.{_≡_, refl, sym, ap, _∙_}
 use mathlib.Core.Logic.{⊎-elim}
 use mathlib.Core.Bool.{Bool, true, false, not, cond, _&&_, _||_, and-false}
@@ -10,7 +10,7 @@ use native.Mathlib.Omega.{arith}
 use lib.Dec.{T, eqb, ltb, eqb→eq, lt→ltb}
 use lib.ListN.{length, take, drop, getD, length-append, length-take, take-append-drop}
 use lib.Seq.{take-append-seam, drop-append-seam, drop-append-add, getD-append-seam, split-at}
-use mir.Facts.{and-yes, or-yes, or-no, ltb-yes, eqb-no}
+use mir.Facts.{and-yes, or-yes, ltb-yes, ltb-no, eqb-no}
 use Rattle.lists.specs.Byte.{isAscii, within}
 use Rattle.lists.specs.ByteLaws.{within-high}
 use Rattle.lists.specs.Lists.{all, nonempty}
@@ -52,20 +52,21 @@ data Stops : List ℕ → Type 0 where
 ends-stops : {comments : Bool} {more : List ℕ} → Ends comments more → Stops more
 unfolding isTokenByte
 ends-stops Ends.end = Stops.none
-ends-stops (Ends.white {b} h) = white-has (λ b. Stops (b ∷ _)) (Stops.first refl (omega arith)) (Stops.first refl (omega arith)) (Stops.first refl (omega arith)) (Stops.first refl (omega arith)) b h
-ends-stops Ends.semicolon = Stops.first refl (omega arith)
-ends-stops (Ends.comment h (Comment.comment i)) = Stops.first refl (omega arith)
+ends-stops (Ends.white {b} {more} h) =
+    white-has (λ b. Stops (b ∷ more)) (Stops.first {b = 32} refl (omega arith)) (Stops.first {b = 9} refl (omega arith)) (Stops.first {b = 13} refl (omega arith)) (Stops.first {b = 10} refl (omega arith)) b h
+ends-stops Ends.semicolon = Stops.first {b = 59} refl (omega arith)
+ends-stops (Ends.comment more h (Comment.comment i)) = Stops.first {b = 40} refl (omega arith)
 
 ends-kind : {comments : Bool} {more : List ℕ} → Ends comments more → T (endsValue (kindOf comments more))
 unfolding kindOf
 ends-kind Ends.end = tt
 ends-kind {comments} (Ends.white {b} {more} h) = white-has (λ b. T (endsValue (kindOf comments (b ∷ more)))) tt tt tt tt b h
 ends-kind Ends.semicolon = tt
-ends-kind {true} (Ends.comment {c} {more} h i) = rw (token-taken (Token.comment {more = more} i) .what-is) tt
-ends-kind {false} (Ends.comment h i) = absurd h
+ends-kind {comments = true} (Ends.comment more h i) = rw (token-taken (Token.comment {more = more} i) .what-is) tt
+ends-kind {comments = false} (Ends.comment more h i) = absurd h
 
 token-ends : {comments : Bool} {what : Kind} {t more : List ℕ} → Token comments what t more → T (endsValue what) → Ends comments (t ++ more)
-token-ends (Token.comment i) e = Ends.comment tt i
+token-ends (Token.comment {more = more} i) e = Ends.comment more tt i
 token-ends (Token.quoted a) e = absurd e
 token-ends (Token.white {w = []} n h k) e = absurd n
 token-ends (Token.white {w = b ∷ w} n h k) e = Ends.white (and-yes (isWhite b) (all isWhite w) h .0)
@@ -165,46 +166,80 @@ parameter-taken {comments} {name} {value} {more} p =
 abbrev ClosedAt : List ℕ → Type 0
 ClosedAt text = runTo isQuote false text < length text → Closed (take (suc (runTo isQuote false text)) text)
 
-closed-escaped : (text : List ℕ) → ClosedAt (drop 1 text) → ClosedAt (92 ∷ text)
+string-plain : (b : ℕ) (text : List ℕ) → T (not (eqb b 34 || eqb b 92)) → runTo isQuote false (b ∷ text) ≡ suc (runTo isQuote false text)
 unfolding runTo
-closed-escaped [] r = λ h. absurd (not-suc-le-zero {n = 0} (omega arith))
-closed-escaped (b ∷ text) r = rw (and-false (eqb b 34)) (λ h. Closed.escaped (r (omega arith)))
+string-plain b text t = rw (neither-first b 34 92 t, neither-second b 34 92 t)
+
+string-escaped : (b : ℕ) (text : List ℕ) → runTo isQuote false (92 ∷ b ∷ text) ≡ suc (suc (runTo isQuote false text))
+unfolding runTo
+string-escaped b text = rw (and-false (eqb b 34))
+
+closed-quote : (text : List ℕ) → ClosedAt (34 ∷ text)
+unfolding runTo
+closed-quote text h = Closed.quote
+
+closed-backslash : ClosedAt (92 ∷ [])
+unfolding runTo
+closed-backslash h = absurd (not-suc-le-zero {n = 0} (omega arith))
+
+closed-escaped : (text : List ℕ) → ClosedAt (drop 1 text) → ClosedAt (92 ∷ text)
+closed-escaped [] r = closed-backslash
+closed-escaped (b ∷ text) r = rw (string-escaped b text) (λ h. Closed.escaped (r (omega arith)))
 
 closed-step : (b : ℕ) (text : List ℕ) → ClosedAt text → ClosedAt (drop 1 text) → ClosedAt (b ∷ text)
-unfolding runTo
 closed-step b text q r =
     by-test (eqb b 34 || eqb b 92)
     (λ t. by-test (eqb b 34)
-    (λ u. rw (eqb→eq b 34 u) (λ h. Closed.quote))
+    (λ u. rw (eqb→eq b 34 u) (closed-quote text))
     (λ u. let e : b ≡ 92 = eqb→eq b 92 (rw (no-false (eqb b 34) u) at t) in rw e (closed-escaped text r)))
-    (λ t. rw (neither-first b 34 92 t, neither-second b 34 92 t) (λ h. Closed.plain t (q (omega arith))))
+    (λ t. rw (string-plain b text t) (λ h. Closed.plain t (q (omega arith))))
 
 -- of a text, and of it without its first byte
 closed-both : (text : List ℕ) → ClosedAt text × ClosedAt (drop 1 text)
 closed-both [] = (λ h. absurd (not-suc-le-zero h), λ h. absurd (not-suc-le-zero h))
 closed-both (b ∷ text) = let q = closed-both text in (closed-step b text (q .0) (q .1), q .0)
 
+closed-size : (s : List ℕ) → runTo isQuote false s + 1 < suc (length s) → closedLen (34 ∷ s) ≡ suc (suc (runTo isQuote false s))
+unfolding closedLen
+closed-size s h = rw (lt-ltb (runTo isQuote false s + 1) (suc (length s)) h) (omega arith)
+
+unclosed-size : (s : List ℕ) → suc (length s) ≤ runTo isQuote false s + 1 → closedLen (34 ∷ s) ≡ 0
+unfolding closedLen
+unclosed-size s h = rw (le-ltb (runTo isQuote false s + 1) (suc (length s)) h)
+
+quoted-made : (s : List ℕ) → 0 < closedLen (34 ∷ s) → ParameterValue (take (closedLen (34 ∷ s)) (34 ∷ s))
+quoted-made s =
+    by-test (ltb (runTo isQuote false s + 1) (suc (length s)))
+    (λ t.
+    let less : runTo isQuote false s + 1 < suc (length s) = ltb-yes t in
+    rw (closed-size s less) (λ h. ParameterValue.quoted (closed-both s .0 (omega arith))))
+    (λ t. rw (unclosed-size s (ltb-no t)) (λ h. absurd (not-suc-le-zero h)))
+
+some-taken : (n b : ℕ) (s : List ℕ) → 0 < n → T (nonempty (take n (b ∷ s)))
+some-taken zero b s h = absurd (not-suc-le-zero h)
+some-taken (suc n) b s h = tt
+
+bare-made : (b : ℕ) (s : List ℕ) → 0 < run isValueByte (b ∷ s) → ParameterValue (take (run isValueByte (b ∷ s)) (b ∷ s))
+bare-made b s h = ParameterValue.bare (some-taken (run isValueByte (b ∷ s)) b s h) (run-all isValueByte (b ∷ s))
+
+value-quoted : (s : List ℕ) → valueLen (34 ∷ s) ≡ closedLen (34 ∷ s)
+unfolding valueLen
+value-quoted s = refl
+
+value-bare : (b : ℕ) (s : List ℕ) → eqb b 34 ≡ false → valueLen (b ∷ s) ≡ run isValueByte (b ∷ s)
+unfolding valueLen
+value-bare b s e = rw e
+
+value-none : valueLen [] ≡ 0
+unfolding valueLen run
+value-none = refl
+
 value-made : (s : List ℕ) → 0 < valueLen s → ParameterValue (take (valueLen s) s)
-unfolding valueLen closedLen run
-value-made [] h = absurd (not-suc-le-zero h)
+value-made [] = rw value-none (λ h. absurd (not-suc-le-zero h))
 value-made (b ∷ s) =
     by-test (eqb b 34)
-    (λ t. rw (eqb→eq b 34 t) (closed-made s))
-    (λ t. rw (no-false (eqb b 34) t) (λ h. ParameterValue.bare (some-nonempty _ (taken (run isValueByte (b ∷ s)) h)) (run-all isValueByte (b ∷ s))))
-  where
-    taken : (n : ℕ) → 0 < n → 0 < length (take n (b ∷ s))
-    taken zero h = absurd (not-suc-le-zero h)
-    taken (suc n) h = omega arith
-
-    closed-made : (s : List ℕ) → 0 < cond (ltb (runTo isQuote false s + 1) (suc (length s))) (runTo isQuote false s + 2) 0
-        → ParameterValue (take (cond (ltb (runTo isQuote false s + 1) (suc (length s))) (runTo isQuote false s + 2) 0) (34 ∷ s))
-    closed-made s =
-        by-test (ltb (runTo isQuote false s + 1) (suc (length s)))
-        (λ t.
-        let n = runTo isQuote false s in
-        let more : n + 2 ≡ suc (suc n) = omega arith in
-        rw (yes-true (ltb (n + 1) (suc (length s))) t, more) (λ h. ParameterValue.quoted (closed-both s .0 (omega (arith, ltb-yes {a = n + 1} {b = suc (length s)} t)))))
-        (λ t. rw (no-false (ltb (runTo isQuote false s + 1) (suc (length s))) t) (λ h. absurd (not-suc-le-zero h)))
+    (λ t. rw (eqb→eq b 34 t, value-quoted s) (quoted-made s))
+    (λ t. rw (value-bare b s (no-false (eqb b 34) t)) (bare-made b s))
 
 pub record FoundParameter (comments : Bool) (s : List ℕ) : Type 0 where
   pub name : List ℕ
@@ -267,13 +302,13 @@ module _ (comments : Bool) (s : List ℕ) where
       not-suc-le-zero {n = 0} (omega (arith, k .some, k .size, ap (parameterLen comments) e))
 
   pub found-none : NoParameter comments s → parameterLen comments s ≡ 0
-  found-none none =
+  found-none absent =
       by-test (eqb (parameterLen comments s) 0)
       (λ t. eqb→eq (parameterLen comments s) 0 t)
       (λ t.
       let some = eqb-no {a = parameterLen comments s} {b = 0} t in
       let f = found-parameter (omega arith) in
-      absurd (none (f .name) (f .value) (f .more) (f .made) (f .is)))
+      absurd (absent (f .name) (f .value) (f .more) (f .made) (f .is)))
 
 -- ---- where UTF-8 may be cut
 
