@@ -2,3 +2,4 @@ pub mod Value
 pub mod StepLaws
 pub mod NamesLaws
 pub mod WritingLaws
+pub mod Grammar

@@ -105,6 +105,10 @@ module _ (state : State) (s : List ℕ) (at : ℕ) where
 
 -- ---- step by step
 
+pub map-append : {A : Type 0} (f : Item → List A) (a b : List Item) → joined (map f (a ++ b)) ≡ joined (map f a) ++ joined (map f b)
+map-append f [] b = refl
+map-append f (x ∷ a) b = rw (map-append f a b) (sym (append-assoc (f x) (joined (map f a)) (joined (map f b))))
+
 module _ {state : State} {s : List ℕ} {at : ℕ} {parameter converted : Bool} {kind : Kind} {end : ℕ} (t : TookPart state s at parameter converted kind end) where
   abbrev part : List ℕ
   part = take (end - at) (drop at s)
@@ -127,10 +131,6 @@ module _ {state : State} {s : List ℕ} {at : ℕ} {parameter converted : Bool} 
   items-step : itemsFrom state (drop at s) ≡ items ++ itemsFrom (partNext state parameter converted kind) (drop end s)
   unfolding itemsFrom
   items-step = rw (walk-step, t .is)
-
-  map-append : {A : Type 0} (f : Item → List A) (a b : List Item) → joined (map f (a ++ b)) ≡ joined (map f a) ++ joined (map f b)
-  map-append f [] b = refl
-  map-append f (x ∷ a) b = rw (map-append f a b) (sym (append-assoc (f x) (joined (map f a)) (joined (map f b))))
 
   pub names-step : namesFrom state (drop at s) ≡ joined (map itemNames items) ++ namesFrom (partNext state parameter converted kind) (drop end s)
   unfolding namesFrom

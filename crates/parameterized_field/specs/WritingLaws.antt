@@ -18,7 +18,7 @@ use Rattle.lists.specs.RunLaws.{run-le}
 use Rattle.buffer.specs.Buffer.{AppendedCapped, greatest}
 use Rattle.buffer.specs.BufferLaws.{capped-none, capped-then, capped-same}
 use Rattle.encoded_word.specs.Segments.{Segment, rendered}
-use Rattle.encoded_word.specs.Segments.Segment.{raw}
+use Rattle.encoded_word.specs.Segments.Segment.{raw, parameter}
 use Rattle.field.specs.FieldLaws.{named-added}
 use Rattle.comment.specs.Parts.{parts}
 use Rattle.piece.specs.Piece.{fitting}
@@ -168,10 +168,10 @@ parameter-bytes : (state : State) (p : List ℕ) → rendered (joined (map itemS
 unfolding parameterItems parameterBytes
 parameter-bytes state p = go (isConverted p)
   where
-    go : (b : Bool) → rendered (joined (map itemSegments (cond b (Item.piece p ∷ []) (newLine (state .fresh) ++ (Item.stays p ∷ [])))))
+    go : (b : Bool) → rendered (joined (map itemSegments (cond b (Item.piece (nameOf p) (valueText (valueOf p)) ∷ []) (newLine (state .fresh) ++ (Item.stays (nameOf p) p ∷ [])))))
         ≡ cond b (parameterLines (nameOf p) (valueText (valueOf p))) (lineStart (state .fresh) ++ p)
-    go true = rendered-one (raw (parameterLines (nameOf p) (valueText (valueOf p))))
-    go false = line-bytes (state .fresh) (Item.stays p) ∙ ap (λ (l : List ℕ). lineStart (state .fresh) ++ l) (rendered-one (raw p))
+    go true = rendered-one (parameter (nameOf p) (valueText (valueOf p)))
+    go false = line-bytes (state .fresh) (Item.stays (nameOf p) p) ∙ ap (λ (l : List ℕ). lineStart (state .fresh) ++ l) (rendered-one (raw p))
 
 module _ (p : List ℕ) {converted : Bool} (c : converted ≡ isConverted p) where
   pub converted-added : converted ≡ true → (fresh : Bool) {before after : List ℕ} {at r : ℕ} → AppendedCapped (parameterLines (nameOf p) (valueText (valueOf p))) at before after r
