@@ -28,7 +28,7 @@ use Rattle.structured_token.specs.Grammar.{Token}
 use Rattle.structured_token.specs.GrammarLaws.{token-taken, found}
 use Rattle.structured_token.specs.TokensLaws.{neither-first, neither-second}
 use Rattle.mime_parameter.specs.Extended.{isTokenByte}
-use Rattle.field_parameter.specs.Parameter.{isValueByte, closedLen, valueLen, endsValue, parameterLen, nameOf, valueOf}
+use Rattle.field_parameter.specs.Parameter.{isValueByte, closedLen, valueLen, endsValue, parameterLen, nameOf, valueOf, isConverted, convertedNext}
 use Rattle.field_parameter.specs.Grammar.{Closed, ParameterValue, Ends, Parameter, standing, NoParameter}
 
 -- ---- what follows a parameter
@@ -309,6 +309,45 @@ module _ (comments : Bool) (s : List ℕ) where
       let some = eqb-no {a = parameterLen comments s} {b = 0} t in
       let f = found-parameter (omega arith) in
       absurd (absent (f .name) (f .value) (f .more) (f .made) (f .is)))
+
+pub white-ascii : (b : ℕ) → T (isWhite b) → T (isAscii b)
+white-ascii b h = white-has (λ b. T (isAscii b)) tt tt tt tt b h
+
+-- none starts with white space
+pub white-none : (comments : Bool) (b : ℕ) (s : List ℕ) → T (isWhite b) → parameterLen comments (b ∷ s) ≡ 0
+unfolding parameterLen run isTokenByte
+white-none comments b s h = white-has (λ b. parameterLen comments (b ∷ s) ≡ 0) refl refl refl refl b h
+
+-- ---- converted or not
+
+module _ {comments : Bool} {name value more : List ℕ} (p : Parameter comments name value more) where
+  pub converted-is : isConverted (standing name value) ≡ not (all isAscii value)
+  unfolding isConverted
+  converted-is = rw (value-is name value (p .token))
+
+  pub converted-next : T (not (all isAscii value)) → convertedNext comments (standing name value ++ more) ≡ true
+  unfolding convertedNext
+  converted-next c =
+      let k = parameter-taken p in
+      rw (k .size, lt-ltb 0 (length (standing name value)) (k .some), take-append-seam (standing name value) more) (converted-is ∙ yes-true (not (all isAscii value)) c)
+
+pub record FoundConverted (comments : Bool) (s : List ℕ) : Type 0 where
+  pub found : FoundParameter comments s
+  pub converted : T (not (all isAscii (found .value)))
+
+found-whole : {comments : Bool} {s : List ℕ} (f : FoundParameter comments s) (n : ℕ) → n ≡ parameterLen comments s → take n s ≡ standing (f .name) (f .value)
+found-whole {comments} {s} f n e =
+    let p = standing (f .name) (f .value) in
+    let size : n ≡ length p = e ∙ ap (parameterLen comments) (f .is) ∙ parameter-taken (f .made) .size in
+    ap (λ (k : ℕ). take k s) size ∙ ap (take (length p)) (f .is) ∙ take-append-seam p (f .more)
+
+pub next-converted : (comments : Bool) (s : List ℕ) → T (convertedNext comments s) → FoundConverted comments s
+unfolding convertedNext
+next-converted comments s t =
+    let n = parameterLen comments s in
+    let both = and-yes (ltb 0 n) (isConverted (take n s)) t in
+    let f = found-parameter comments s (ltb-yes {a = 0} {b = n} (both .0)) in
+    record { found = f; converted = rw (found-whole f n refl, converted-is (f .made)) at (both .1) }
 
 -- ---- where UTF-8 may be cut
 

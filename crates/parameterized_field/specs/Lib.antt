@@ -3,3 +3,4 @@ pub mod StepLaws
 pub mod NamesLaws
 pub mod WritingLaws
 pub mod Grammar
+pub mod GrammarLaws
