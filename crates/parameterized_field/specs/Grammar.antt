@@ -1,7 +1,7 @@
 -- The values of fields with parameters, as rules that make texts together with what becomes of them. GrammarLaws.antt proves that these are
 -- the values of which every part is clear, and that `itemsFrom` gives what becomes of each. Assumes nothing.
 use mathlib.Core.Path.{_≡_}
-use mathlib.Core.Bool.{not, true, false, _&&_, _||_}
+use mathlib.Core.Bool.{not, true, false, _&&_}
 use mathlib.Core.List.{List, [], _∷_, _++_}
 use Prim.Native.Nat.{ℕ}
 use lib.Dec.{T}
@@ -9,14 +9,14 @@ use Rattle.lists.specs.Byte.{isAscii}
 use Rattle.lists.specs.Lists.{all}
 use Rattle.structured_token.specs.declared.Kind.{Kind}
 use Rattle.structured_token.specs.declared.Kind.the-variants.{White}
-use Rattle.structured_token.specs.Tokens.{commentKind}
 use Rattle.structured_token.specs.Grammar.{Token}
 use Rattle.structured_token.specs.Walk.{Value}
+use Rattle.structured_field.specs.StructuredField.{clear, becomes}
 use Rattle.mime_parameter.specs.Pieces.{valueText, hasRoom}
 use Rattle.field_parameter.specs.Parameter.{noStar}
 use Rattle.field_parameter.specs.Grammar.{Parameter, standing, NoParameter}
 use Rattle.parameterized_field.specs.declared.State.{State}
-use Rattle.parameterized_field.specs.Value.{Item, newLine, ownMark, tokenSegments, afterToken, afterParameter, start}
+use Rattle.parameterized_field.specs.Value.{Item, newLine, ownMark, afterToken, afterParameter, start}
 use Rattle.parameterized_field.specs.Value.Item.{piece, stays, other}
 
 -- White space and folds that go, by what follows them: those after the last piece and its `;`, and "white space and folds before" a piece.
@@ -38,8 +38,8 @@ pub data ParameterizedRule : State → List ℕ → List ℕ → List Item → S
   gone : {state : State} {t more : List ℕ} → Token (state .comments) White t more → Goes state more
       → ParameterizedRule state t more [] (afterToken state White)
   token : {state : State} {what : Kind} {t more : List ℕ} → Token (state .comments) what t more → (T (state .after) → NoParameter (state .comments) (t ++ more))
-      → (what ≡ White → Goes state more → ⊥) → T (commentKind what || all isAscii t)
-      → ParameterizedRule state t more (newLine (state .fresh && not (ownMark state what)) ++ (other (tokenSegments what t) ∷ [])) (afterToken state what)
+      → (what ≡ White → Goes state more → ⊥) → T (clear what t)
+      → ParameterizedRule state t more (newLine (state .fresh && not (ownMark state what)) ++ (other (becomes what t) ∷ [])) (afterToken state what)
 
 -- A value and what becomes of it, part by part. That no name is shared by two parameters is asked of the items besides.
 abbrev pub ParameterizedValue : List ℕ → List Item → Type 0

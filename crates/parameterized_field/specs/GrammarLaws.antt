@@ -16,17 +16,18 @@ use Rattle.lists.specs.Lists.{all, joined}
 use Rattle.lists.specs.ListsLaws.{by-test, yes-true, true-yes, no-false, all-weaken}
 use Rattle.structured_token.specs.declared.Kind.{Kind}
 use Rattle.structured_token.specs.declared.Kind.the-variants as kind
-use Rattle.structured_token.specs.Tokens.{isWhite, kindOf, sizeOf, commentKind, whiteKind}
+use Rattle.structured_token.specs.Tokens.{isWhite, kindOf, sizeOf, whiteKind}
 use Rattle.structured_token.specs.Grammar.{Token}
 use Rattle.structured_token.specs.GrammarLaws.{token-taken, found}
 use Rattle.structured_token.specs.Walk.{Front, walk, clearOf, becomesOf}
 use Rattle.structured_token.specs.WalkLaws as walks
+use Rattle.structured_field.specs.StructuredField.{clear, becomes}
 use Rattle.mime_parameter.specs.Pieces.{valueText, hasRoom}
 use Rattle.field_parameter.specs.Parameter.{parameterLen, isConverted, noStar, nameOf, valueOf, parameterClear, convertedNext}
 use Rattle.field_parameter.specs.Grammar.{Parameter, standing, NoParameter}
 use Rattle.field_parameter.specs.GrammarLaws.{name-is, value-is, parameter-taken, found-parameter, none-found, found-none, white-ascii, white-none, converted-is, converted-next, next-converted}
 use Rattle.parameterized_field.specs.declared.State.{State}
-use Rattle.parameterized_field.specs.Value.{Item, newLine, dropped, ownMark, tokenSegments, tokenItems, parameterItems, afterToken, afterParameter, start, parameterHere, front, itemsFrom, clearFrom}
+use Rattle.parameterized_field.specs.Value.{Item, newLine, dropped, ownMark, tokenItems, parameterItems, afterToken, afterParameter, start, parameterHere, front, itemsFrom, clearFrom}
 use Rattle.parameterized_field.specs.Value.Item.{piece, stays, other}
 use Rattle.parameterized_field.specs.Grammar.{Goes, ParameterizedRule, ParameterizedValue}
 
@@ -74,7 +75,7 @@ module _ (state : State) {name value more : List ℕ} (a : T (state .after)) (p 
 
 abbrev tokenFront : State → Kind → List ℕ → List ℕ → Front State Item
 tokenFront state what t more =
-    record { size = length t; clear = commentKind what || all isAscii t; becomes = tokenItems state what t more; next = afterToken state what }
+    record { size = length t; clear = clear what t; becomes = tokenItems state what t more; next = afterToken state what }
 
 module _ (state : State) {what : Kind} {t more : List ℕ} (m : Token (state .comments) what t more) where
   token-front : parameterHere state (t ++ more) ≡ false → front state (t ++ more) ≡ tokenFront state what t more
@@ -146,7 +147,7 @@ not-dropped state what more none =
     (λ t. no-false (dropped state what more) t)
 
 stays-items : (state : State) (what : Kind) (t more : List ℕ) → dropped state what more ≡ false
-    → tokenItems state what t more ≡ newLine (state .fresh && not (ownMark state what)) ++ (other (tokenSegments what t) ∷ [])
+    → tokenItems state what t more ≡ newLine (state .fresh && not (ownMark state what)) ++ (other (becomes what t) ∷ [])
 unfolding tokenItems
 stays-items state what t more e = rw e
 
@@ -156,8 +157,9 @@ gone-items state what t more e = rw e
 
 -- ---- what the rules make stands at the front
 
-all-ascii : {comments : Bool} {t more : List ℕ} → Token comments kind.White t more → T (all isAscii t)
-all-ascii (Token.white {w = w} n h e) = all-weaken isWhite isAscii white-ascii w h
+white-clear : {comments : Bool} {t more : List ℕ} → Token comments kind.White t more → clear kind.White t ≡ true
+unfolding clear
+white-clear (Token.white {w = w} n h e) = yes-true (all isAscii w) (all-weaken isWhite isAscii white-ascii w h)
 
 rule-taken : {state after : State} {t more : List ℕ} {p : List Item} → ParameterizedRule state t more p after → walks.Taken front state t more p after
 rule-taken (ParameterizedRule.converted {state} {name} {value} {more} a p star c room) =
@@ -168,12 +170,12 @@ rule-taken (ParameterizedRule.ascii {state} {name} {value} {more} a p star c) =
     record { is = parameter-front state a p ∙ rw (clear-ascii state a p c, clear, ascii-items state a p c, not-converted state a p c); some = parameter-taken p .some }
 rule-taken (ParameterizedRule.gone {state} {t} {more} m g) =
     record {
-      is = token-front state m (white-here state m) ∙ rw (gone-items state kind.White t more (goes-dropped state more g), yes-true (all isAscii t) (all-ascii m));
+      is = token-front state m (white-here state m) ∙ rw (gone-items state kind.White t more (goes-dropped state more g), white-clear m);
       some = token-taken m .some;
     }
 rule-taken (ParameterizedRule.token {state} {what} {t} {more} m none stay c) =
     record {
-      is = token-front state m (not-here state (t ++ more) none) ∙ rw (stays-items state what t more (not-dropped state what more stay), yes-true (commentKind what || all isAscii t) c);
+      is = token-front state m (not-here state (t ++ more) none) ∙ rw (stays-items state what t more (not-dropped state what more stay), yes-true (clear what t) c);
       some = token-taken m .some;
     }
 

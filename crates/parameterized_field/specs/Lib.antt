@@ -4,3 +4,4 @@ pub mod NamesLaws
 pub mod WritingLaws
 pub mod Grammar
 pub mod GrammarLaws
+pub mod ParameterizedLaws

@@ -25,8 +25,9 @@ use Rattle.structured_token.specs.Tokens.{kindOf, sizeOf}
 use Rattle.structured_token.specs.Walk.{Front, walkAfter, walk, becomesOf}
 use Rattle.mime_parameter.specs.Pieces.{valueText}
 use Rattle.field_parameter.specs.Parameter.{parameterLen, nameOf, valueOf, isConverted}
+use Rattle.structured_field.specs.StructuredField.{becomes}
 use Rattle.parameterized_field.specs.declared.State.{State}
-use Rattle.parameterized_field.specs.Value.{Item, itemNames, newLine, dropped, ownMark, tokenSegments, tokenItems, parameterItems, parameterHere, parameterFront, tokenFront, front, itemsFrom, namesFrom, distinct}
+use Rattle.parameterized_field.specs.Value.{Item, itemNames, newLine, dropped, ownMark, tokenItems, parameterItems, parameterHere, parameterFront, tokenFront, front, itemsFrom, namesFrom, distinct}
 use Rattle.parameterized_field.specs.StepLaws.{partItems, partNext, TookPart, map-append, names-step, names-end}
 
 -- names, each with a `=` (61), which stands in none
@@ -87,10 +88,10 @@ parameter-names state p =
 token-names : (state : State) (kind : Kind) (t more : List ℕ) → joined (map itemNames (tokenItems state kind t more)) ≡ []
 unfolding tokenItems
 token-names state kind t more =
-    let line = newLine (state .fresh && not (ownMark state kind)) ++ (Item.other (tokenSegments kind t) ∷ []) in
+    let line = newLine (state .fresh && not (ownMark state kind)) ++ (Item.other (becomes kind t) ∷ []) in
     cond-has (λ (items : List Item). joined (map itemNames items) ≡ []) (dropped state kind more) [] line
     (λ t. refl)
-    (λ u. line-names (state .fresh && not (ownMark state kind)) (Item.other (tokenSegments kind t)))
+    (λ u. line-names (state .fresh && not (ownMark state kind)) (Item.other (becomes kind t)))
 
 pub part-names : (state : State) (parameter : Bool) (kind : Kind) (t more : List ℕ) → joined (map itemNames (partItems state parameter kind t more)) ≡ partNames parameter t
 unfolding partItems partNames

@@ -9,15 +9,15 @@ use native.Mathlib.Omega.{arith}
 use lib.Dec.{T, ltb}
 use lib.ListN.{length, take, drop, length-drop, drop-of-length-le}
 use lib.Seq.{drop-drop}
-use Rattle.lists.specs.Byte.{isAscii}
 use Rattle.lists.specs.Lists.{all, joined}
 use Rattle.lists.specs.ListsLaws.{joined-append}
 use Rattle.encoded_word.specs.Segments.{Segment, rendered}
 use Rattle.encoded_word.specs.SegmentsLaws.{rendered-append}
 use Rattle.structured_token.specs.declared.Kind.{Kind}
-use Rattle.structured_token.specs.Tokens.{kindOf, sizeOf, commentKind, Took}
+use Rattle.structured_token.specs.Tokens.{kindOf, sizeOf, Took}
 use Rattle.structured_token.specs.Walk.{Front, walk, clearOf, becomesOf}
 use Rattle.structured_token.specs.WalkLaws.{walk-nil, walk-front}
+use Rattle.structured_field.specs.StructuredField.{clear}
 use Rattle.field_parameter.specs.Parameter.{parameterLen, isConverted, parameterClear}
 use Rattle.parameterized_field.specs.declared.State.{State}
 use Rattle.parameterized_field.specs.Value.{Item, itemSegments, itemNames, parameterItems, tokenItems, afterToken, afterParameter, parameterHere, parameterFront, tokenFront, front, itemsFrom, clearFrom, segmentsFrom, namesFrom}
@@ -35,7 +35,7 @@ took-token h t = record { no = refl; what = t .what; is = t .is; some = t .some 
 
 -- what a part is, whether it may stand there, what it becomes, and the state after it
 unfoldable pub partClear : Bool → Kind → List ℕ → Bool
-partClear parameter kind t = cond parameter (parameterClear t) (commentKind kind || all isAscii t)
+partClear parameter kind t = cond parameter (parameterClear t) (clear kind t)
 
 unfoldable pub partItems : State → Bool → Kind → List ℕ → List ℕ → List Item
 partItems state parameter kind t more = cond parameter (parameterItems state t) (tokenItems state kind t more)
