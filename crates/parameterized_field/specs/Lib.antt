@@ -5,3 +5,4 @@ pub mod WritingLaws
 pub mod Grammar
 pub mod GrammarLaws
 pub mod ParameterizedLaws
+pub mod ValueCases
