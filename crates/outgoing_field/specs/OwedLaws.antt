@@ -34,12 +34,10 @@ use Rattle.structured_field.specs.StructuredFieldLaws.{structured-sound, length
 use Rattle.received.specs.Received.{receivedField, passes as receivedPasses}
 use Rattle.received.specs.ReceivedLaws.{received-sound, length-received}
 use Rattle.parameterized_field.specs.Value.{parameterizedField, passes as parametersPass}
+use Rattle.parameterized_field.specs.ParameterizedLaws.{parameterized-sound, length-parameterized}
 use Rattle.outgoing_field.specs.Fate.{Fate, commentsOrEncapsulated, holds, methodWritten, methodFate, fateOf, segmentsOf, fieldSegments, headerSegments}
 use Rattle.outgoing_field.specs.Fate.Fate.{held, written}
 use Rattle.outgoing_field.specs.Most.{methodMost, fieldMost, fieldsMost, mostOf}
-
-length-parameterized : (name value : List ℕ) → T (parametersPass value) → length (rendered (parameterizedField name value)) ≤ 3 + length name + 80 * length value
-length-parameterized name value p = ?
 
 -- What becomes of a field owes this. A method that is added owes it too, and nothing else.
 pub record Owed (most : ℕ) (fate : Fate) : Type 0 where
@@ -84,7 +82,7 @@ module _ {field : List ℕ} (s : Shaped field) where
   owed-parameters : T (parametersPass (valueOf field)) → Owed (80 * length field) (written (parameterizedField (nameOf field) (valueOf field)))
   unfolding segmentsOf
   owed-parameters t = record {
-    sound-all = ?;
+    sound-all = parameterized-sound (nameOf field) (valueOf field) (name-ascii field) (value-utf8 s) t;
     short = omega (arith, length-parameterized (nameOf field) (valueOf field) t, length-parts);
   }
 
