@@ -3,7 +3,7 @@ use borrow.Author.Tests.{lt-ltb, le-ltb}
 use mathlib.Core.Path.{_≡_, refl, sym, ap, _∙_}
 use mathlib.Core.Bool.{Bool, true, false, not, cond, _&&_, and-false}
 use mathlib.Core.List.{List, [], _∷_, _++_, map, append-assoc, append-nil}
-use Prim.Native.Nat.{ℕ, zero, suc, _+_, _-_, _*_, _≤_, _<_, min}
+use Prim.Native.Nat.{ℕ, zero, suc, pred, _+_, _-_, _*_, _≤_, _<_, min}
 use native.Mathlib.Nat.{not-suc-le-zero}
 use native.Mathlib.Omega.{arith}
 use lib.Dec.{T, eqb, ltb, lt→ltb}
@@ -15,16 +15,20 @@ use Rattle.piece.specs.PieceLaws.{MadeIn, made-in}
 use Rattle.lists.specs.CutBy.{cutBy}
 use Rattle.lists.specs.CutByLaws.{cut-nil, cut-front, cut-next}
 use Rattle.lists.specs.Lists.{all, joined}
-use Rattle.lists.specs.ListsLaws.{by-test, cond-yes, cond-no, cond-has, no-false}
+use Rattle.lists.specs.ListsLaws.{by-test, all-append, cond-yes, cond-no, cond-has, no-false}
 use Rattle.lists.specs.Run.{run}
 use Rattle.lists.specs.RunLaws.{run-le, run-all, run-past}
 use Rattle.letter_case.specs.LetterCase.{lower, sameAnyCase}
 use Rattle.mime_parameter.specs.Extended.{isTokenByte}
 use Rattle.structured_token.specs.declared.Kind.{Kind}
-use Rattle.field_parameter.specs.Parameter.{nameOf, isConverted}
+use Rattle.structured_token.specs.Tokens.{kindOf, sizeOf}
+use Rattle.structured_token.specs.Walk.{Front, walkAfter, walk, becomesOf}
+use Rattle.mime_parameter.specs.Pieces.{valueText}
+use Rattle.field_parameter.specs.Parameter.{parameterLen, nameOf, valueOf, isConverted}
+use Rattle.structured_field.specs.StructuredField.{becomes}
 use Rattle.parameterized_field.specs.declared.State.{State}
-use Rattle.parameterized_field.specs.Value.{Item, itemNames, newLine, dropped, ownMark, tokenSegments, tokenItems, parameterItems, itemsFrom, namesFrom, distinct}
-use Rattle.parameterized_field.specs.StepLaws.{partItems, partNext, TookPart, names-step, names-end}
+use Rattle.parameterized_field.specs.Value.{Item, itemNames, newLine, dropped, ownMark, tokenItems, parameterItems, parameterHere, parameterFront, tokenFront, front, itemsFrom, namesFrom, distinct}
+use Rattle.parameterized_field.specs.StepLaws.{partItems, partNext, TookPart, map-append, names-step, names-end}
 
 -- names, each with a `=` (61), which stands in none
 abbrev pub withMark : List ℕ → List ℕ
@@ -77,17 +81,17 @@ line-names false item = append-nil (itemNames item)
 parameter-names : (state : State) (p : List ℕ) → joined (map itemNames (parameterItems state p)) ≡ nameOf p ∷ []
 unfolding parameterItems
 parameter-names state p =
-    cond-has (λ (items : List Item). joined (map itemNames items) ≡ nameOf p ∷ []) (isConverted p) (Item.piece p ∷ []) (newLine (state .fresh) ++ (Item.stays p ∷ []))
+    cond-has (λ (items : List Item). joined (map itemNames items) ≡ nameOf p ∷ []) (isConverted p) (Item.piece (nameOf p) (valueText (valueOf p)) ∷ []) (newLine (state .fresh) ++ (Item.stays (nameOf p) p ∷ []))
     (λ t. refl)
-    (λ t. line-names (state .fresh) (Item.stays p))
+    (λ t. line-names (state .fresh) (Item.stays (nameOf p) p))
 
 token-names : (state : State) (kind : Kind) (t more : List ℕ) → joined (map itemNames (tokenItems state kind t more)) ≡ []
 unfolding tokenItems
 token-names state kind t more =
-    let line = newLine (state .fresh && not (ownMark state kind)) ++ (Item.other (tokenSegments kind t) ∷ []) in
+    let line = newLine (state .fresh && not (ownMark state kind)) ++ (Item.other (becomes kind t) ∷ []) in
     cond-has (λ (items : List Item). joined (map itemNames items) ≡ []) (dropped state kind more) [] line
     (λ t. refl)
-    (λ u. line-names (state .fresh && not (ownMark state kind)) (Item.other (tokenSegments kind t)))
+    (λ u. line-names (state .fresh && not (ownMark state kind)) (Item.other (becomes kind t)))
 
 pub part-names : (state : State) (parameter : Bool) (kind : Kind) (t more : List ℕ) → joined (map itemNames (partItems state parameter kind t more)) ≡ partNames parameter t
 unfolding partItems partNames
@@ -183,15 +187,31 @@ name-tokens : (p : List ℕ) → T (all isTokenByte (nameOf p))
 unfolding nameOf
 name-tokens p = run-all isTokenByte p
 
-item-tokens : (items : List Item) → T (all (all isTokenByte) (joined (map itemNames items)))
-item-tokens [] = tt
-item-tokens (Item.piece p ∷ items) = yes-and (all isTokenByte (nameOf p)) (all (all isTokenByte) (joined (map itemNames items))) (name-tokens p) (item-tokens items)
-item-tokens (Item.stays p ∷ items) = yes-and (all isTokenByte (nameOf p)) (all (all isTokenByte) (joined (map itemNames items))) (name-tokens p) (item-tokens items)
-item-tokens (Item.other ss ∷ items) = item-tokens items
+abbrev TokensIn : List Item → Type 0
+TokensIn items = T (all (all isTokenByte) (joined (map itemNames items)))
+
+front-tokens : (state : State) (s : List ℕ) → TokensIn (front state s .becomes)
+unfolding front
+front-tokens state s =
+    let p = take (parameterLen (state .comments) s) s in
+    let what = kindOf (state .comments) s in
+    cond-has (λ (f : Front State Item). TokensIn (f .becomes)) (parameterHere state s) (parameterFront state s) (tokenFront state s)
+    (λ t. rw (parameter-names state p) (yes-and (all isTokenByte (nameOf p)) true (name-tokens p) tt))
+    (λ t. rw (token-names state what (take (sizeOf what s) s) (drop (sizeOf what s) s)) tt)
+
+walk-tokens : (state : State) (k : ℕ) (s : List ℕ) → TokensIn (joined (map becomesOf (walkAfter front state k s)))
+unfolding walkAfter
+walk-tokens state k [] = tt
+walk-tokens state (suc k) (b ∷ s) = walk-tokens state k s
+walk-tokens state zero (b ∷ s) =
+    let f = front state (b ∷ s) in
+    let more = joined (map becomesOf (walkAfter front (f .next) (pred (f .size)) s)) in
+    rw (map-append itemNames (f .becomes) more)
+    (all-append (all isTokenByte) (joined (map itemNames (f .becomes))) (joined (map itemNames more)) (front-tokens state (b ∷ s)) (walk-tokens (f .next) (pred (f .size)) s))
 
 pub names-tokens : (state : State) (s : List ℕ) → T (all (all isTokenByte) (namesFrom state s))
-unfolding namesFrom
-names-tokens state s = item-tokens (itemsFrom state s)
+unfolding namesFrom itemsFrom walk
+names-tokens state s = walk-tokens state 0 s
 
 -- ---- name by name
 
