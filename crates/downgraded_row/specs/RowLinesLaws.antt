@@ -31,6 +31,7 @@ use Rattle.header.specs.FieldLaws.{ends, len-cons, len-past}
 use Rattle.header.specs.FieldShapeLaws.{line-not-cr}
 use Rattle.downgraded_field.specs.Shown.{continues, isFormed}
 use Rattle.downgraded_field.specs.FormedLaws.{lines-nil, lines-front, continues-front, formed-front}
+use Rattle.reader_grammar.specs.FieldLinesLaws.{front-ok, front-after}
 use Rattle.downgraded_row.specs.RowTurnsLaws.{printed, word-printed}
 
 -- ---- bytes
@@ -64,29 +65,17 @@ word-plain w r = all-weaken printed plain printed-plain (wordBytes w) (word-prin
 -- ---- a line, and what follows it
 
 module _ (line rest : List ℕ) (t : T (all plain line)) where
-  crlf-there : crlf (13 ∷ 10 ∷ rest) ≡ true
-  unfolding crlf
-  crlf-there = refl
-
-  front-len : lineLen (line ++ (13 ∷ 10 ∷ rest)) ≡ length line
-  unfolding run
-  front-len =
-      let s = line ++ (13 ∷ 10 ∷ rest) in
-      let n : crRun s ≡ length line = run-past notCr line (13 ∷ 10 ∷ rest) (all-weaken plain notCr plain-cr line t) ∙ add-zero (length line) in
-      line-cr s ∙ rw (n, drop-at line (13 ∷ 10 ∷ rest) (length line) refl, line-none (13 ∷ 10 ∷ rest) crlf-there) (add-zero (length line))
+  bytes : T (all lineByte line)
+  bytes = all-weaken plain lineByte plain-line line t
 
   pub line-formed : (first : Bool) → 1 ≤ length line → length line ≤ 998 → T (continuation first line || namedTo 87 line) → lineOkTo 87 first (line ++ (13 ∷ 10 ∷ rest)) ≡ true
-  unfolding lineOkTo
   line-formed first some few start =
       let size = yes-true (within 1 998 (length line)) (to-within 1 998 (length line) some few) in
-      let bytes = yes-true (all lineByte line) (all-weaken plain lineByte plain-line line t) in
       let text = yes-true (utf8 line) (utf8-ascii line (all-weaken plain isAscii plain-ascii line t)) in
-      let begins = yes-true (continuation first line || namedTo 87 line) start in
-      rw (front-len, drop-at line (13 ∷ 10 ∷ rest) (length line) refl, take-at line (13 ∷ 10 ∷ rest) (length line) refl, crlf-there, size, bytes, text, begins) refl
+      yes-true (lineOkTo 87 first (line ++ (13 ∷ 10 ∷ rest))) (front-ok line rest bytes first (rw (size, yes-true (all lineByte line) bytes, text) start))
 
   pub line-after : drop (lineLen (line ++ (13 ∷ 10 ∷ rest)) + 2) (line ++ (13 ∷ 10 ∷ rest)) ≡ rest
-  line-after =
-      rw (front-len, ← append-assoc line (13 ∷ 10 ∷ []) rest) (drop-at (line ++ (13 ∷ 10 ∷ [])) rest (length line + 2) (length-append line (13 ∷ 10 ∷ [])))
+  line-after = front-after line rest bytes
 
 -- ---- the lines of words of their own
 

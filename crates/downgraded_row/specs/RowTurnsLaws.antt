@@ -36,7 +36,8 @@ use Rattle.word_reader.specs.Word.{isWord, added, formNumber}
 use Rattle.word_grammar.specs.WordGrammar.{smallLetter, Decodes}
 use Rattle.word_grammar.specs.WordGrammarLaws.{decodes-added, decodes-number, decodes-word}
 use Rattle.downgraded_field.specs.Shown.{spacing, solid, Turn, turnSize, turnAt, turnsOf, turnText, shown, wordNumber, turnNumber, lowest}
-use Rattle.downgraded_field.specs.ShownLaws.{turnOf, turns-front, turns-nil}
+use Rattle.downgraded_field.specs.ShownLaws.{turnOf, turns-nil}
+use Rattle.reader_grammar.specs.TurnLaws.{Follows, run-stops, spacing-none, turn-cut}
 
 -- ---- a word of ours
 
@@ -136,40 +137,6 @@ word-some : (w : Word) → 0 < length (wordBytes w)
 word-some w = opened-some (w .encoding) (w .standing ++ closing)
 
 -- ---- turns
-
--- what follows a run: nothing, or white space
-pub data Follows : List ℕ → Type 0 where
-  nothing : Follows []
-  space : {b : ℕ} {s : List ℕ} → T (spacing b) → Follows (b ∷ s)
-
-run-stops : (f : ℕ → Bool) (a rest : List ℕ) → T (all f a) → run f rest ≡ 0 → run f (a ++ rest) ≡ length a
-run-stops f a rest h e = run-past f a rest h ∙ omega (arith, e)
-
-solid-none : {rest : List ℕ} → Follows rest → run solid rest ≡ 0
-unfolding run
-solid-none Follows.nothing = refl
-solid-none (Follows.space {b} {s} t) = rw (yes-true (spacing b) t) refl
-
-spacing-none : (a rest : List ℕ) → 0 < length a → T (all solid a) → run spacing (a ++ rest) ≡ 0
-unfolding run
-spacing-none [] rest h t = absurd (omega arith)
-spacing-none (b ∷ a) rest h t = rw (no-false (spacing b) (and-yes (solid b) (all solid a) t .0)) refl
-
-cut-by : (x : List ℕ) {t : Turn} {rest : List ℕ} → turnAt x ≡ t → drop (turnSize x) x ≡ rest → 0 < length x → turnsOf x ≡ t ∷ turnsOf rest
-cut-by x a b h = turns-front x h ∙ rw (a, b) refl
-
-pub turn-cut : (gap word rest : List ℕ) → T (all spacing gap) → T (all solid word) → 0 < length word → Follows rest → turnsOf (gap ++ (word ++ rest)) ≡ turnOf gap word ∷ turnsOf rest
-unfolding turnSize turnAt
-turn-cut gap word rest g s filled f =
-    let x = gap ++ (word ++ rest) in
-    let a : run spacing x ≡ length gap = run-stops spacing gap (word ++ rest) g (spacing-none word rest filled s) in
-    let after : drop (length gap) x ≡ word ++ rest = drop-at gap (word ++ rest) (length gap) refl in
-    let b : run solid (word ++ rest) ≡ length word = run-stops solid word rest s (solid-none f) in
-    let whole : turnSize x ≡ length gap + length word = rw (a, after, b) refl in
-    let left : drop (length gap + length word) x ≡ rest =
-    rw (← append-assoc gap word rest) (drop-at (gap ++ word) rest (length gap + length word) (length-append gap word)) in
-    let full : 0 < length x = omega (arith, length-append gap (word ++ rest), length-append word rest) in
-    cut-by x (rw (a, after, b, take-at gap (word ++ rest) (length gap) refl, take-at word rest (length word) refl) refl) (ap (λ (n : ℕ). drop n x) whole ∙ left) full
 
 -- every later word on its own line
 own-follows : {row : List ℕ} {ws : List Word} → OwnLines row ws → Follows row

@@ -1,2 +1,9 @@
+pub mod FieldGrammar
 pub mod ReaderGrammar
 pub mod StartLaws
+pub mod CallLaws
+pub mod TurnLaws
+pub mod FoldLaws
+pub mod FieldLinesLaws
+pub mod FieldGrammarLaws
+pub mod ReaderGrammarLaws

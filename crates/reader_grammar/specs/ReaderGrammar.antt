@@ -1,10 +1,16 @@
--- Where the fields of a header begin, and the first from a place on. Assumes nothing.
-use mathlib.Core.List.{List}
+-- What a call of the reader answers and leaves, as rules: where the fields of a header begin, the first from a place on, and what it is shown as.
+-- ReaderGrammarLaws.antt proves that this is what the call does, and nothing else. Assumes nothing.
+use mathlib.Core.Path.{_≡_}
+use mathlib.Core.Bool.{cond}
+use mathlib.Core.List.{List, [], _∷_}
 use Prim.Native.Nat.{ℕ, _+_, _≤_, _<_}
 use lib.Dec.{T}
-use lib.ListN.{drop}
+use lib.ListN.{length, take, drop}
+use Rattle.buffer.specs.Buffer.{overlay}
 use Rattle.line.specs.Line.{crlf}
-use Rattle.downgraded_reader.specs.Reader.{isDowngraded}
+use Rattle.header.specs.Fields.{fieldLen}
+use Rattle.downgraded_reader.specs.Reader.{isDowngraded, fieldAt, Outcome}
+use Rattle.reader_grammar.specs.FieldGrammar.{FieldShows}
 
 -- A line begins at a place: at the start of the header, or after a CRLF, which alone ends a line.
 pub data LineBegins (h : List ℕ) : ℕ → Type 0 where
@@ -21,3 +27,23 @@ pub record FirstField (h : List ℕ) (place start : ℕ) : Type 0 where
   pub up : place ≤ start
   pub begins : FieldBegins h start
   pub none-before : (p : ℕ) → place ≤ p → p < start → FieldBegins h p → ⊥
+
+-- ---- a call
+
+-- "gives the first field begun there or later, as its text or a reason, and the place after it, or none" (6). "5 buffer short", where the length
+-- needed is told; "a refused field writes nothing".
+pub data Reads (h : List ℕ) (place : ℕ) (buffer : List ℕ) : Outcome → Type 0 where
+  none : ((p : ℕ) → place ≤ p → FieldBegins h p → ⊥) → Reads h place buffer (record { number = 6; start = length h; next = length h; size = 0; buffer = buffer })
+  shown : {start : ℕ} {text : List ℕ} → FirstField h place start → FieldShows (fieldAt h start) 0 text → length text ≤ length buffer
+      → Reads h place buffer (record { number = 0; start = start; next = start + fieldLen (drop start h); size = length text; buffer = overlay text buffer })
+  short : {start : ℕ} {text : List ℕ} → FirstField h place start → FieldShows (fieldAt h start) 0 text → length buffer < length text
+      → Reads h place buffer (record { number = 5; start = start; next = start + fieldLen (drop start h); size = length text; buffer = buffer })
+  refused : {start number : ℕ} → FirstField h place start → FieldShows (fieldAt h start) number [] → 0 < number
+      → Reads h place buffer (record { number = number; start = start; next = start + fieldLen (drop start h); size = 0; buffer = buffer })
+
+-- ---- fields counted
+
+-- how many of these fields are Downgraded fields
+unfoldable pub downgradedCount : List (List ℕ) → ℕ
+downgradedCount [] = 0
+downgradedCount (field ∷ more) = cond (isDowngraded field) 1 0 + downgradedCount more

@@ -1,4 +1,4 @@
--- The field that the reader finds is the first one begun at the place or later, and calls that go on from the place after a field see every field. Assumes nothing.
+-- The field that the reader finds is the first one begun at the place or later. Assumes nothing.
 use mathlib.Core.Path.{_≡_, refl, ap, sym, _∙_}
 use mathlib.Core.Bool.{Bool, true, false, not, cond, _&&_, _||_}
 use mathlib.Core.List.{List, [], _∷_}
@@ -14,8 +14,6 @@ use Rattle.lists.specs.ListsLaws.{by-test, cond-has, yes-true, no-false, true-y
 use Rattle.letter_case.specs.LetterCase.{bytes, lower, sameAnyCase}
 use Rattle.line.specs.Line.{blank, crlf, lineLen}
 use Rattle.line.specs.LineLaws.{line-none, crlf-inside, crlf-at}
-use Rattle.header.specs.Fields.{fold, fieldLen}
-use Rattle.header.specs.FieldLaws.{ends, len-cons, field-after}
 use Rattle.downgraded_reader.specs.Reader.{isDowngraded, firstLine, toFieldAfter, fieldStart}
 use Rattle.downgraded_reader.specs.ReaderLaws.{to-next, to-here, line-up}
 use Rattle.reader_grammar.specs.ReaderGrammar.{LineBegins, FieldBegins, FirstField}
@@ -49,7 +47,7 @@ no-overlap h j k s t e =
     omega (arith, a, crlf-bytes h j s .1)
 
 -- a line begins at `at`, and a CRLF at k ends a line before a later place: it stands in the line at `at` or after it
-after-line : {h : List ℕ} {at : ℕ} (k : ℕ) → LineBegins h at → T (crlf (drop k h)) → at < k + 2 → at ≤ k
+pub after-line : {h : List ℕ} {at : ℕ} (k : ℕ) → LineBegins h at → T (crlf (drop k h)) → at < k + 2 → at ≤ k
 after-line k LineBegins.at-start t l = omega arith
 after-line {h} k (LineBegins.after-crlf p s) t l =
     by-test (leb (p + 2) k) (λ u. leb-yes u)
@@ -57,14 +55,14 @@ after-line {h} k (LineBegins.after-crlf p s) t l =
 
 -- ---- a field's first bytes
 
-front-letter : (s : List ℕ) → T (isDowngraded s) → (0 < length s) × (blank (getD s 0 0) ≡ false)
+pub front-letter : (s : List ℕ) → T (isDowngraded s) → (0 < length s) × (blank (getD s 0 0) ≡ false)
 unfolding isDowngraded bytes sameAnyCase blank lower
 front-letter [] t = absurd t
 front-letter (b ∷ s) t =
     let e = and-yes (eqb (lower b) 100) (sameAnyCase (take 10 s) (bytes "owngraded-")) t .0 in
     (omega arith, by-test (eqb b 32) (λ u. absurd (rw (eqb→eq b 32 u) at e)) (λ u. by-test (eqb b 9) (λ v. absurd (rw (eqb→eq b 9 v) at e)) (λ v. rw (no-false (eqb b 32) u, no-false (eqb b 9) v) refl)))
 
-field-inside : {h : List ℕ} {p : ℕ} → FieldBegins h p → p < length h
+pub field-inside : {h : List ℕ} {p : ℕ} → FieldBegins h p → p < length h
 field-inside {h} {p} f = omega (arith, front-letter (drop p h) (f .prefix) .0, length-drop p h)
 
 -- ---- from a line on
@@ -186,55 +184,3 @@ module _ (h : List ℕ) (place : ℕ) where
       by-test (ltb (fieldStart h place) start)
       (λ t. absurd (f .none-before (fieldStart h place) start-up (ltb-yes t) (start-begins (omega (arith, k, inside)))))
       (λ t. omega (arith, k, ltb-no {a = fieldStart h place} {b = start} t))
-
--- ---- call after call
-
--- the places of calls: the first is 0, each other the place after the field that the one before found
-pub data Reached (h : List ℕ) : ℕ → Type 0 where
-  first : Reached h 0
-  next : {q : ℕ} → Reached h q → fieldStart h q < length h → Reached h (fieldStart h q + fieldLen (drop (fieldStart h q) h))
-
--- a field ends where a line begins that is no continuation
-nil-short : (j : ℕ) → fieldLen [] ≤ j + 2
-unfolding fieldLen
-nil-short j = omega arith
-
-field-short : (s : List ℕ) (j : ℕ) → T (crlf (drop j s)) → blank (getD s (j + 2) 0) ≡ false → fieldLen s ≤ j + 2
-unfolding ends fold
-field-short [] j t e = nil-short j
-field-short (b ∷ s) zero t e = rw (len-cons b s, yes-true (crlf (b ∷ s)) t, e) (omega arith)
-field-short (b ∷ s) (suc j) t e =
-    let i : suc j + 2 ≡ suc (j + 2) = omega arith in
-    let k = field-short s j t (rw i at e) in
-    rw len-cons (cond-has (λ n. n ≤ suc j + 2) (ends (b ∷ s)) 2 (suc (fieldLen s)) (λ u. omega arith) (λ u. omega arith))
-
-module _ (h : List ℕ) {p : ℕ} (f : FieldBegins h p) where
-  -- no field begins inside another
-  field-before : {s : ℕ} → LineBegins h s → s < p → s + fieldLen (drop s h) ≤ p
-  field-before {s} l k = by (f .line) k (front-letter (drop p h) (f .prefix) .1)
-    where
-      by : {p : ℕ} → LineBegins h p → s < p → blank (getD (drop p h) 0 0) ≡ false → s + fieldLen (drop s h) ≤ p
-      by LineBegins.at-start k b = absurd (not-suc-le-zero k)
-      by (LineBegins.after-crlf q t) k b =
-          let up : s ≤ q = after-line q l t k in
-          let there : s + (q - s) ≡ q = omega arith in
-          let c : T (crlf (drop (q - s) (drop s h))) = rw (drop-drop, there) t in
-          let two : s + (q - s + 2) ≡ q + 2 + 0 = omega arith in
-          let e : blank (getD (drop s h) (q - s + 2) 0) ≡ false = rw (getD-drop s h (q - s + 2) 0, two, ← getD-drop (q + 2) h 0 0) b in
-          omega (arith, field-short (drop s h) (q - s) c e)
-
-  -- calls from 0 on find this field
-  reach : (m q : ℕ) → p - q ≤ m → q ≤ p → Reached h q → (r : ℕ) × Reached h r × (fieldStart h r ≡ p)
-  reach zero q k u r = (q, r, omega (arith, start-least h q p u f, start-up h q))
-  reach (suc m) q k u r =
-      by-test (ltb (fieldStart h q) p)
-      (λ t.
-      let l : fieldStart h q < p = ltb-yes t in
-      let inside : fieldStart h q < length h = omega (arith, field-inside f) in
-      let after = field-after h (fieldStart h q) (fieldStart h q + fieldLen (drop (fieldStart h q) h)) inside refl in
-      let before = field-before (start-begins h q inside .line) l in
-      reach m (fieldStart h q + fieldLen (drop (fieldStart h q) h)) (omega (arith, after .0, start-up h q)) before (Reached.next r inside))
-      (λ t. (q, r, omega (arith, start-least h q p u f, ltb-no {a = fieldStart h q} {b = p} t)))
-
-  pub all-reached : (r : ℕ) × Reached h r × (fieldStart h r ≡ p)
-  all-reached = reach p 0 (omega arith) (omega arith) Reached.first

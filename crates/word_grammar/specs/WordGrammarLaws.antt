@@ -352,3 +352,21 @@ module _ (w : List ℕ) (t : T (isWord w)) where
       (λ u. (4, [], WordShows.not-utf8 d c u, rw (f, g, no-false (utf8 (added w)) u) refl, λ e. absurd (omega (arith, e)))))
       (λ c. (3, [], WordShows.other-charset d c, rw (f, no-false (sameAnyCase charset (bytes "UTF-8")) c) refl, λ e. absurd (omega (arith, e)))))
       (λ k. (2, [], WordShows.malformed t (λ charset added d. no-decodes d (no-false (isParted s && textOk (letter s) (standing s)) k)), rw (no-false (isParted s && textOk (letter s) (standing s)) k) refl, λ e. absurd (omega (arith, e))))
+
+-- and it is shown as nothing else
+pub shows-word : {w : List ℕ} {n : ℕ} {text : List ℕ} → WordShows w n text
+    → (isWord w ≡ true) × (n ≡ cond (eqb (formNumber w) 0) (cond (utf8 (added w)) 5 4) (formNumber w)) × (n ≡ 5 → text ≡ added w)
+unfolding formNumber
+shows-word {w} (WordShows.malformed t never) =
+    let s = inner w in
+    let bad : T (not (isParted s && textOk (letter s) (standing s))) =
+    by-test (isParted s && textOk (letter s) (standing s))
+    (λ k. let both = and-yes (isParted s) (textOk (letter s) (standing s)) k in absurd (never (take (charsetLen s) s) (added w) (form-decodes w t (both .0) (both .1))))
+    (λ k. k) in
+    (yes-true (isWord w) t, rw (no-false (isParted s && textOk (letter s) (standing s)) bad) refl, λ e. absurd (omega (arith, e)))
+shows-word {w} (WordShows.other-charset {charset} d c) =
+    (decodes-word d, rw (decodes-number d, no-false (sameAnyCase charset (bytes "UTF-8")) c) refl, λ e. absurd (omega (arith, e)))
+shows-word {w} (WordShows.not-utf8 {charset} {added = a} d c u) =
+    (decodes-word d, rw (decodes-number d, yes-true (sameAnyCase charset (bytes "UTF-8")) c, decodes-added d, no-false (utf8 a) u) refl, λ e. absurd (omega (arith, e)))
+shows-word {w} (WordShows.text {charset} {added = a} d c u) =
+    (decodes-word d, rw (decodes-number d, yes-true (sameAnyCase charset (bytes "UTF-8")) c, decodes-added d, yes-true (utf8 a) u) refl, λ e. sym (decodes-added d))
