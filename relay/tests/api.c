@@ -12,6 +12,7 @@
 #include "check.h"
 #include "mailbox.h"
 #include "offset.h"
+#include "parameters.h"
 #include "reader.h"
 #include "setting.h"
 
@@ -772,6 +773,7 @@ int main(void)
     test_nul();
     test_null();
     test_bounds();
+    test_parameters();
     test_first_fields();
     test_received_lines();
     test_nothing_kept();
