@@ -198,8 +198,16 @@ uint32_t hennelaku_version(void);
  *                 non-ASCII stands outside comments, where no address in angle
  *                 brackets follows a for, or where a line would have more than
  *                 998 bytes
- *     held        Content-Type Content-Disposition Original-Recipient
- *                 Final-Recipient Keywords: refused by 6
+ *     parameters  Content-Type Content-Disposition: each parameter value that is
+ *                 not ASCII in UTF-8 by RFC 2231, on lines of its own of at most
+ *                 76 characters: name*=UTF-8''value, or numbered parts
+ *                 name*0*=UTF-8''value, name*1*=value and so on where that does
+ *                 not fit; comments as above, all else byte for byte but white
+ *                 space and folds about such a value; refused by 6 where the
+ *                 name of a parameter has an asterisk, is shared by two in any
+ *                 letter case or leaves no room for a character, or where
+ *                 non-ASCII stands elsewhere
+ *     held        Original-Recipient Final-Recipient Keywords: refused by 6
  *     any other   Downgraded- before the name, text in encoded words
  *
  * In plain text and Downgraded- fields the first encoded word stands after the
