@@ -198,16 +198,8 @@ uint32_t hennelaku_version(void);
  *                 non-ASCII stands outside comments, where no address in angle
  *                 brackets follows a for, or where a line would have more than
  *                 998 bytes
- *     parameters  Content-Type Content-Disposition: each parameter value that is
- *                 not ASCII in UTF-8 by RFC 2231, on lines of its own of at most
- *                 76 characters: name*=UTF-8''value, or numbered parts
- *                 name*0*=UTF-8''value, name*1*=value and so on where that does
- *                 not fit; comments as above, all else byte for byte but white
- *                 space and folds about such a value; refused by 6 where the
- *                 name of a parameter has an asterisk, is shared by two in any
- *                 letter case or leaves no room for a character, or where
- *                 non-ASCII stands elsewhere
- *     held        Original-Recipient Final-Recipient Keywords: refused by 6
+ *     held        Content-Type Content-Disposition Original-Recipient
+ *                 Final-Recipient Keywords: refused by 6
  *     any other   Downgraded- before the name, text in encoded words
  *
  * In plain text and Downgraded- fields the first encoded word stands after the
@@ -216,6 +208,13 @@ uint32_t hennelaku_version(void);
  * word is in Q or in B of RFC 2047, whichever holds more characters of what is
  * left of the text, in Q where they hold as many. So no row of words of both
  * kinds has fewer words; in those fields, none so set has fewer lines.
+ *
+ * A parameter value that is not ASCII, as the name of a file, goes out in UTF-8
+ * without its quoting and folds: name*=UTF-8''value on a line of its own, or
+ * where that line would have more than 76 characters, a ; counted with it, in
+ * numbered parts, name*0*=UTF-8''value, name*1*=value and so on, a line each, of
+ * whole characters and each as full as its line allows. White space and folds
+ * about such a value go.
  *
  * After any other number no byte of either buffer has changed, and both
  * lengths are 0.
