@@ -215,6 +215,13 @@ uint32_t hennelaku_version(void);
  * left of the text, in Q where they hold as many. So no row of words of both
  * kinds has fewer words; in those fields, none so set has fewer lines.
  *
+ * A parameter value that is not ASCII, as the name of a file, goes out in UTF-8
+ * without its quoting and folds: name*=UTF-8''value on a line of its own, or
+ * where that line would have more than 76 characters, a ; counted with it, in
+ * numbered parts, name*0*=UTF-8''value, name*1*=value and so on, a line each, of
+ * whole characters and each as full as its line allows. White space and folds
+ * about such a value go.
+ *
  * After any other number no byte of either buffer has changed, and both
  * lengths are 0.
  *
