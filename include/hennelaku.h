@@ -39,9 +39,10 @@ extern "C" {
 /*
  * Buffers that always suffice.
  *
- * The outgoing header has at most 30 bytes for each byte of the header, and
- * 20,600 for the two fields that may be put before it; the outgoing envelope is
- * never longer than the envelope. Both are proved. So with
+ * The outgoing header has at most 30 bytes for each byte of the header, 50 more
+ * for each byte of a Content-Type or Content-Disposition field that is not
+ * ASCII, and 20,600 for the two fields that may be put before it; the outgoing
+ * envelope is never longer than the envelope. Both are proved. So with
  *
  *     envelope_room >= envelope_len   (or HENNELAKU_ENVELOPE_ROOM_MAX), and
  *     header_room >= HENNELAKU_HEADER_ROOM_FOR(header_len)
@@ -51,8 +52,8 @@ extern "C" {
  * the fastest: the outgoing header is then not measured before it is written.
  */
 #define HENNELAKU_ENVELOPE_ROOM_MAX HENNELAKU_MAX_ENVELOPE
-#define HENNELAKU_HEADER_ROOM_FOR(header_len) (30 * (header_len) + 20600)
-#define HENNELAKU_HEADER_ROOM_MAX 1048576
+#define HENNELAKU_HEADER_ROOM_FOR(header_len) (80 * (header_len) + 20600)
+#define HENNELAKU_HEADER_ROOM_MAX 2642040
 
 /*
  * Stack that one call uses at most, in bytes: frames have a fixed size, and no
@@ -198,8 +199,13 @@ uint32_t hennelaku_version(void);
  *                 non-ASCII stands outside comments, where no address in angle
  *                 brackets follows a for, or where a line would have more than
  *                 998 bytes
- *     held        Content-Type Content-Disposition Original-Recipient
- *                 Final-Recipient Keywords: refused by 6
+ *     parameters  Content-Type Content-Disposition: values of parameters that
+ *                 are not ASCII by RFC 2231, each on lines of its own, in as
+ *                 few parts as go; comments as above, all else byte for byte;
+ *                 refused by 6 where a parameter's name has a `*`, where two
+ *                 share a name, where a name leaves no room for a character, or
+ *                 where other non-ASCII stands outside comments
+ *     held        Original-Recipient Final-Recipient Keywords: refused by 6
  *     any other   Downgraded- before the name, text in encoded words
  *
  * In plain text and Downgraded- fields the first encoded word stands after the

@@ -4,9 +4,7 @@ ghost use lib.ListN.{length};
 ghost use Rattle.buffer.specs.Buffer.{Wrote};
 ghost use Rattle.envelope.specs.Envelope.{written};
 ghost use Rattle.call.specs.Outcome.{observed, outcome};
-ghost use Rattle.header_line.specs.declared.LineCheck.the-variants.{WellFormed};
-ghost use Rattle.header_line.specs.Lines.{checkedLines};
-ghost use Rattle.outgoing_header.specs.HeaderOutcomeLaws.{Needed};
+ghost use Rattle.outgoing_header.specs.HeaderOutcomeLaws.{Needed, Passed};
 ghost use Rattle.call.specs.OutputLaws.{Short, headerOf, Ready, StartsOf, Accepted, Texts};
 use crate::Answer;
 use crate::Refusal;
@@ -24,7 +22,7 @@ const NEW_FIELDS_MOST: usize = 20600;
 // Writes the outgoing header to the front of out, as far as it fits; answers its whole length. `mail` and `rcpt` are the texts of
 // the new first fields.
 fn put_header(out: &mut [u8], rules: Rules, mail: &[u8], rcpt: &[u8], header: &[u8]) -> usize
-    requires { ⌜ Short (now mail) (now rcpt) (now header) × (checkedLines (now header) ≡ WellFormed) ⌝ }
+    requires { ⌜ Short (now mail) (now rcpt) × Passed rules (now header) ⌝ }
     ensures { λ r. ⌜ Wrote (headerOf rules (now (mail .entry)) (now (rcpt .entry)) (now (header .entry))) (now (out .entry)) (now (out .exit)) r ⌝ }
 {
     let mail_end = add_new_field(out, 0, b"Downgraded-Mail-From:", mail);
@@ -33,7 +31,7 @@ fn put_header(out: &mut [u8], rules: Rules, mail: &[u8], rcpt: &[u8], header: &[
 }
 
 fn header_len(rules: Rules, mail: &[u8], rcpt: &[u8], header: &[u8]) -> usize
-    requires { ⌜ Short (now mail) (now rcpt) (now header) × (checkedLines (now header) ≡ WellFormed) ⌝ }
+    requires { ⌜ Short (now mail) (now rcpt) × Passed rules (now header) ⌝ }
     ensures { λ r. ⌜ r ≡ length (headerOf rules (now (mail .entry)) (now (rcpt .entry)) (now (header .entry))) ⌝ }
 {
     let mut none = [0u8; 0];
@@ -42,11 +40,13 @@ fn header_len(rules: Rules, mail: &[u8], rcpt: &[u8], header: &[u8]) -> usize
 
 // The length of the outgoing header; or 0 where the room holds whatever the outgoing header can be, which then need not be measured.
 fn header_needs(rules: Rules, mail: &[u8], rcpt: &[u8], header: &[u8], room: usize) -> usize
-    requires { ⌜ Short (now mail) (now rcpt) (now header) × (checkedLines (now header) ≡ WellFormed) ⌝ }
+    requires { ⌜ Short (now mail) (now rcpt) × Passed rules (now header) ⌝ }
     ensures { λ r. ⌜ Needed (length (headerOf rules (now (mail .entry)) (now (rcpt .entry)) (now (header .entry)))) room r ⌝ }
 {
-    if outgoing_header::most(header) + NEW_FIELDS_MOST <= room {
-        return 0;
+    if NEW_FIELDS_MOST <= room {
+        if outgoing_field::is_ample(rules, header, room - NEW_FIELDS_MOST) {
+            return 0;
+        }
     }
     header_len(rules, mail, rcpt, header)
 }

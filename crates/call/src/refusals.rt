@@ -1,6 +1,8 @@
 // Refusals by what stands in the header, and by non-ASCII in an ORCPT; and what a refused call answers.
 ghost use mathlib.Core.Path.{_≡_};
 ghost use mathlib.Core.List.{[], _∷_};
+ghost use Prim.Native.Nat.{_≤_};
+ghost use lib.ListN.{length};
 ghost use Rattle.envelope.specs.Envelope.{faultNumber, orcptLine};
 ghost use Rattle.header_line.specs.Lines.{checkedLines};
 ghost use Rattle.outgoing_field.specs.Fate.{heldOf};
@@ -103,6 +105,7 @@ fn of_header(verdict: HeaderVerdict) -> Verdict
 
 // Non-ASCII in an ORCPT, or else in a held field.
 fn non_ascii(rules: Rules, envelope: &[u8], header: &[u8]) -> Verdict
+    requires { ⌜ length (now header) ≤ 32768 ⌝ }
     ensures { λ r. ⌜ r ≡ firstOf (ofOrcpt (now (envelope .entry)) (orcptLine (now (envelope .entry))) ∷ ofHeader (ofHeld (now (header .entry)) (heldOf rules (now (header .entry)))) ∷ []) ⌝ }
 {
     match envelope::orcpt_line(envelope) {
@@ -115,6 +118,7 @@ fn non_ascii(rules: Rules, envelope: &[u8], header: &[u8]) -> Verdict
 
 // A malformed header line, or else non-ASCII that cannot be passed on.
 pub(crate) fn of_content(rules: Rules, envelope: &[u8], header: &[u8]) -> Verdict
+    requires { ⌜ length (now header) ≤ 32768 ⌝ }
     ensures { λ r. ⌜ r ≡ firstOf (ofHeader (ofLines (now (header .entry)) (checkedLines (now (header .entry)))) ∷ ofOrcpt (now (envelope .entry)) (orcptLine (now (envelope .entry))) ∷ ofHeader (ofHeld (now (header .entry)) (heldOf rules (now (header .entry)))) ∷ []) ⌝ }
 {
     match outgoing_header::of_lines(header) {

@@ -13,7 +13,7 @@ use Rattle.demands.specs.Demands.{Given}
 use Rattle.demands.specs.Demands.Given.{envelope-over, header-over, envelope-malformed, line-refused, header-malformed, orcpt-non-ascii, held-non-ascii, envelope-longer, header-longer, none-holds}
 
 -- With room for the most that a header can become, and 20,600 bytes for the new first fields, the answer 8 is never given.
-pub never-eight : (rules : Rules) (e h b c : List ℕ) → mostOf h + newFieldsMost ≤ length c → {number input place offset : ℕ} → Given rules e h b c number input place offset → number ≡ 8 → ⊥
+pub never-eight : (rules : Rules) (e h b c : List ℕ) → mostOf rules h + newFieldsMost ≤ length c → {number input place offset : ℕ} → Given rules e h b c number input place offset → number ≡ 8 → ⊥
 never-eight rules e h b c r (envelope-over k) z = omega arith
 never-eight rules e h b c r (header-over k l) z = omega arith
 never-eight rules e h b c r (envelope-malformed s t k ls m f) z = omega arith

@@ -1,13 +1,16 @@
 // Held fields.
 ghost use mathlib.Core.Path.{_≡_};
-ghost use Rattle.outgoing_field.specs.Fate.{isHeld, fateOf, heldOf};
-ghost use Rattle.outgoing_field.specs.FateLaws.{holds};
+ghost use Prim.Native.Nat.{_≤_};
+ghost use lib.ListN.{length};
+ghost use Rattle.outgoing_field.specs.Fate.{holds, limited, isHeld, fateOf, heldOf};
 use crate::HeldField;
+use crate::limited_len;
 use field_method::Method;
 use rules::Rules;
 
 // Whether a field is held where its value is not ASCII, by the method for it.
-pub(crate) fn holds(method: Method, field: &[u8]) -> bool
+fn holds(method: Method, field: &[u8]) -> bool
+    requires { ⌜ length (now field) ≤ 32768 ⌝ }
     ensures { λ r. ⌜ r ≡ holds method (now (field .entry)) ⌝ }
 {
     match method {
@@ -20,13 +23,14 @@ pub(crate) fn holds(method: Method, field: &[u8]) -> bool
         }
         Method::CommentsOrHeld => !structured_field::ascii_outside_comments(header::value(field)),
         Method::CommentsOrEncapsulated => false,
-        Method::Parameters => true,
+        Method::Parameters => !parameterized_field::passes(header::value(field)),
         Method::Held => true,
     }
 }
 
 // Whether a field is held. Names are looked up only where the value is not ASCII.
-pub fn is_held(rules: Rules, field: &[u8]) -> bool
+fn is_held(rules: Rules, field: &[u8]) -> bool
+    requires { ⌜ length (now field) ≤ 32768 ⌝ }
     ensures { λ r. ⌜ r ≡ isHeld (fateOf rules (now (field .entry))) ⌝ }
 {
     if header::value_is_ascii(field) {
@@ -37,8 +41,9 @@ pub fn is_held(rules: Rules, field: &[u8]) -> bool
     holds(field_method::method_of(rules, kind), field)
 }
 
-// The first held field of a header. Fields that are wholly ASCII are passed over together.
-pub fn first_held(rules: Rules, h: &[u8]) -> HeldField
+// Fields that are wholly ASCII are passed over together.
+fn first_of(rules: Rules, h: &[u8]) -> HeldField
+    requires { ⌜ length (now h) ≤ 32768 ⌝ }
     ensures { λ r. ⌜ r ≡ heldOf rules (now (h .entry)) ⌝ }
 {
     let mut at: usize = 0;
@@ -54,4 +59,12 @@ pub fn first_held(rules: Rules, h: &[u8]) -> HeldField
         at = to;
     }
     HeldField::Absent
+}
+
+// The first held field of a header. A header of more than 32,768 bytes counts as empty.
+pub fn first_held(rules: Rules, h: &[u8]) -> HeldField
+    ensures { λ r. ⌜ r ≡ heldOf rules (limited (now (h .entry))) ⌝ }
+{
+    let end = limited_len(h.len());
+    first_of(rules, &h[..end])
 }

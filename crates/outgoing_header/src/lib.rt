@@ -4,10 +4,8 @@ mod refusals;
 ghost use mathlib.Core.Path.{_≡_};
 ghost use lib.ListN.{length};
 ghost use Rattle.buffer.specs.Buffer.{Wrote};
-ghost use Rattle.outgoing_field.specs.Fate.{limited};
-ghost use Rattle.outgoing_field.specs.Most.{mostOf};
 ghost use Rattle.outgoing_header.specs.HeaderOutcome.{headerOut, headerObserved, headerOutcome};
-ghost use Rattle.outgoing_header.specs.HeaderOutcomeLaws.{Needed, Passed, Unheld};
+ghost use Rattle.outgoing_header.specs.HeaderOutcomeLaws.{Needed, Passed};
 pub use refusals::number_of;
 use refusals::of_content;
 pub use refusals::of_held;
@@ -39,26 +37,16 @@ pub struct HeaderAnswer {
     pub length: usize,
 }
 
-// The most bytes that are written for a well-formed header. One of more than 32,768 bytes counts as empty.
-pub fn most(header: &[u8]) -> usize
-    ensures { λ r. ⌜ r ≡ mostOf (limited (now (header .entry))) ⌝ }
-{
-    if 32768 < header.len() {
-        return 0;
-    }
-    30 * header.len()
-}
-
 // Writes what becomes of the header to the front of out, as far as it fits; answers its whole length.
 fn put(out: &mut [u8], rules: Rules, header: &[u8]) -> usize
-    requires { ⌜ Passed (now header) ⌝ }
+    requires { ⌜ Passed rules (now header) ⌝ }
     ensures { λ r. ⌜ Wrote (headerOut rules (now (header .entry))) (now (out .entry)) (now (out .exit)) r ⌝ }
 {
     outgoing_field::add_fields(out, 0, rules, header)
 }
 
 fn out_len(rules: Rules, header: &[u8]) -> usize
-    requires { ⌜ Passed (now header) ⌝ }
+    requires { ⌜ Passed rules (now header) ⌝ }
     ensures { λ r. ⌜ r ≡ length (headerOut rules (now (header .entry))) ⌝ }
 {
     let mut none = [0u8; 0];
@@ -67,10 +55,10 @@ fn out_len(rules: Rules, header: &[u8]) -> usize
 
 // The length of what is written; or 0 where the room holds whatever is written for the header, which then need not be measured.
 fn needs(rules: Rules, header: &[u8], room: usize) -> usize
-    requires { ⌜ Passed (now header) ⌝ }
+    requires { ⌜ Passed rules (now header) ⌝ }
     ensures { λ r. ⌜ Needed (length (headerOut rules (now (header .entry)))) room r ⌝ }
 {
-    if most(header) <= room {
+    if outgoing_field::is_ample(rules, header, room) {
         return 0;
     }
     out_len(rules, header)
@@ -78,7 +66,7 @@ fn needs(rules: Rules, header: &[u8], room: usize) -> usize
 
 // Writes a header that passes, or refuses it where it does not fit.
 fn fill(rules: Rules, header: &[u8], buffer: &mut [u8]) -> HeaderAnswer
-    requires { ⌜ Passed (now header) × Unheld rules (now header) ⌝ }
+    requires { ⌜ Passed rules (now header) ⌝ }
     ensures { λ r. ⌜ headerObserved r (now (buffer .exit)) ≡ headerOutcome rules (now (header .entry)) (now (buffer .entry)) ⌝ }
 {
     let n = needs(rules, header, buffer.len());

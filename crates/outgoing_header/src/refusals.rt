@@ -2,7 +2,7 @@
 ghost use mathlib.Core.Path.{_≡_};
 ghost use mathlib.Core.List.{[], _∷_};
 ghost use Rattle.header_line.specs.Lines.{checkedLines};
-ghost use Rattle.outgoing_field.specs.Fate.{heldOf};
+ghost use Rattle.outgoing_field.specs.Fate.{limited, heldOf};
 ghost use Rattle.outgoing_header.specs.HeaderOutcome.{numberOf, placeOf, offsetOf, ofSize, ofLines, ofHeld, firstOf};
 ghost use Rattle.outgoing_header.specs.HeaderOutcomeLaws.{RefusedBy};
 use crate::HeaderAnswer;
@@ -73,9 +73,9 @@ pub fn of_lines(header: &[u8]) -> HeaderVerdict
     }
 }
 
-// A held field with non-ASCII.
+// A held field with non-ASCII. A header of more than 32,768 bytes has none.
 pub fn of_held(rules: Rules, header: &[u8]) -> HeaderVerdict
-    ensures { λ r. ⌜ r ≡ ofHeld (now (header .entry)) (heldOf rules (now (header .entry))) ⌝ }
+    ensures { λ r. ⌜ r ≡ ofHeld (now (header .entry)) (heldOf rules (limited (now (header .entry)))) ⌝ }
 {
     match outgoing_field::first_held(rules, header) {
         HeldField::Absent => HeaderVerdict::Accept,

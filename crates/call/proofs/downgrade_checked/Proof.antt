@@ -5,7 +5,7 @@ use Rattle.call.proofs.downgrade_checked.Statement.{statement}
 use Rattle.call.proofs.downgrade_checked.Tie as tie
 
 of-content-requires : tie.Need-of-content-requires
-of-content-requires c κs = search needs
+of-content-requires c κs = c .before .before .before .before .pre .short₂
 
 enum-known-refusal : tie.Need-enum-known-refusal
 enum-known-refusal c = search needs

@@ -27,7 +27,7 @@ enum-told c = search needs
 
 -- src/lib.rt:102:34
 fill-requires : tie.Need-fill-requires
-fill-requires c κs = let ok = content _ _ (sym (c .before .before .before .of-content .ensures) ∙ c .before .enum-told .given .1) in (ok .passed, ok .unheld)
+fill-requires c κs = content _ _ (sym (c .before .before .before .of-content .ensures) ∙ c .before .enum-told .given .1)
 
 -- src/lib.rt:97:1
 returns : tie.Need-returns

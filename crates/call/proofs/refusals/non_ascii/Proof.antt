@@ -1,5 +1,6 @@
 use Rattle.call.specs.OutcomeLaws.{past-orcpt}
 use Rattle.call.specs.Outcome.{firstOf, ofOrcpt, ofHeader}
+use Rattle.outgoing_field.specs.FateLaws.{limited-short}
 use mathlib.Core.Path.{ap, _∙_}
 use borrow.Author.Needs.{needs}
 use Rattle.call.proofs.refusals.non_ascii.Statement.{statement}
@@ -37,7 +38,7 @@ of-orcpt-requires c κs = search needs
 
 -- src/refusals.rt:105:1
 returns : tie.Need-returns
-returns c = past-orcpt _ (c .before .before .before .before .orcpt-line .ensures) (c .before .before .enum-told .given .1) (c .of-header .ensures ∙ ap ofHeader (c .before .of-held .ensures))
+returns c = past-orcpt _ (c .before .before .before .before .orcpt-line .ensures) (c .before .before .enum-told .given .1) (c .of-header .ensures ∙ ap ofHeader (rw (limited-short _ (c .before .before .before .before .before .before .before .pre)) at (c .before .of-held .ensures)))
 
 -- src/refusals.rt:105:1
 returns-2 : tie.Need-returns-2
