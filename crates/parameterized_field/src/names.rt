@@ -9,6 +9,9 @@ ghost use Rattle.letter_case.specs.LetterCase.{sameAnyCase};
 ghost use Rattle.buffer.specs.Buffer.{AppendedCapped};
 ghost use Rattle.parameterized_field.specs.Value.{start as atStart, namesFrom, distinct};
 ghost use Rattle.parameterized_field.specs.NamesLaws.{markedLen, marked, partNames};
+ghost use Rattle.parameterized_field.specs.KeysLaws.{keyOf, KeysAt};
+use crate::keys::fill_keys;
+use crate::keys::is_absent;
 use crate::part::next_state;
 use crate::part::part_at;
 use crate::part::start;
@@ -47,7 +50,7 @@ fn add_names(out: &mut [u8], s: &[u8]) -> usize
 }
 
 // Where the name at a place ends, with its `=`.
-fn marked_end(s: &[u8], at: usize) -> usize
+pub(crate) fn marked_end(s: &[u8], at: usize) -> usize
     ensures { λ r. ⌜ r ≡ at + markedLen (drop at (now (s .entry))) ⌝ }
 {
     let end = field_parameter::token_end(s, at);
@@ -86,11 +89,53 @@ fn all_differ(s: &[u8]) -> bool
     true
 }
 
+// Whether a name is none of those from a place on, whose keys these are.
+fn is_other(name: &[u8], s: &[u8], at: usize, keys: &[u32], key: u32) -> bool
+    requires { ⌜ KeysAt (now s) at (now keys) × (key ≡ keyOf (now name)) ⌝ }
+    ensures { λ r. ⌜ r ≡ all (λ other. not (sameAnyCase (now (name .entry)) other)) (cutBy markedLen (drop at (now (s .entry)))) ⌝ }
+{
+    if is_absent(keys, key) {
+        return true;
+    }
+    is_new(name, s, at)
+}
+
+// Whether names differ whose keys these are.
+fn keyed_differ(s: &[u8], keys: &[u32]) -> bool
+    requires { ⌜ KeysAt (now s) 0 (now keys) ⌝ }
+    ensures { λ r. ⌜ r ≡ distinct (cutBy markedLen (now (s .entry))) ⌝ }
+{
+    let mut n: usize = 0;
+    let mut i: usize = 0;
+    while i < s.len() {
+        let end = marked_end(s, i);
+        let key = keys[n];
+        n += 1;
+        if !is_other(&s[i..end], s, end, &keys[n..], key) {
+            return false;
+        }
+        i = end;
+    }
+    true
+}
+
+// The same with their keys, where there is room for those.
+fn marked_differ(s: &[u8]) -> bool
+    ensures { λ r. ⌜ r ≡ distinct (cutBy markedLen (now (s .entry))) ⌝ }
+{
+    let mut keys = [0u32; 8192];
+    let n = fill_keys(&mut keys, s);
+    if n == 8192 {
+        return all_differ(s);
+    }
+    keyed_differ(s, &keys[..n])
+}
+
 // Whether the names of a value's parameters differ. They are gathered in the scratch.
 pub(crate) fn names_differ(value: &[u8], scratch: &mut [u8]) -> bool
     requires { ⌜ (length (now value) ≤ 32768) × (2 * length (now value) ≤ length (now scratch)) ⌝ }
     ensures { λ r. ⌜ r ≡ distinct (namesFrom atStart (now (value .entry))) ⌝ }
 {
     let n = add_names(scratch, value);
-    all_differ(&scratch[..n])
+    marked_differ(&scratch[..n])
 }
