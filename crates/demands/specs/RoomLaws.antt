@@ -1,10 +1,11 @@
 -- A header buffer that always suffices. Assumes nothing.
 use mathlib.Core.Path.{_≡_}
 use mathlib.Core.List.{List}
-use Prim.Native.Nat.{ℕ, _+_, _≤_}
+use Prim.Native.Nat.{ℕ, _+_, _*_, _≤_}
 use native.Mathlib.Omega.{arith}
 use lib.ListN.{length}
 use Rattle.outgoing_field.specs.Most.{mostOf}
+use Rattle.outgoing_field.specs.MostLaws.{between}
 use Rattle.call.specs.OutgoingHeader.{newFieldsMost}
 use Rattle.call.specs.OutputLaws.{outgoing-le}
 use Rattle.rules.specs.declared.Rules.{Rules}
@@ -26,3 +27,8 @@ never-eight rules e h b c r (header-longer d k l) z =
     let p = downgraded-passes rules e h d in
     omega (arith, rw (downgraded-header rules e h d) at l, outgoing-le rules e h (p .recipients) (p .envelope) (p .limits .1) (p .header))
 never-eight rules e h b c r (none-holds d k l) z = omega arith
+
+-- The same by the length of the header: 80 bytes for one, and 20,600.
+pub never-eight-for : (rules : Rules) (e h b c : List ℕ) → 80 * length h + 20600 ≤ length c → {number input place offset : ℕ} → Given rules e h b c number input place offset → number ≡ 8 → ⊥
+unfolding newFieldsMost
+never-eight-for rules e h b c r = never-eight rules e h b c (omega (arith, between rules h .greatest))

@@ -55,6 +55,7 @@ fn say_kind(kind: Kind) {
         Kind::Received => say(b"Received"),
         Kind::Commented => say(b"with comments"),
         Kind::MessageId => say(b"with comments"),
+        Kind::Parameterized => say(b"with parameters"),
         Kind::OtherCommented => say(b"other"),
         Kind::Other => say(b"other"),
         _ => say(b"held"),
