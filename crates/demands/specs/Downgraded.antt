@@ -22,7 +22,8 @@ use Rattle.field.specs.Field.{encodedField, named}
 use Rattle.address_grammar.specs.AddressField.{AddressField}
 use Rattle.structured_field.specs.Grammar.{StructuredValue}
 use Rattle.received.specs.Grammar.{ReceivedValue, LinesFit}
-use Rattle.parameterized_field.specs.Value.{Item, itemSegments, itemNames, distinct}
+use Rattle.parameter_names.specs.Names.{distinct}
+use Rattle.parameterized_field.specs.Value.{Item, itemSegments, itemNames}
 use Rattle.parameterized_field.specs.Grammar.{ParameterizedValue}
 use Rattle.call.specs.OutgoingHeader.{newField}
 

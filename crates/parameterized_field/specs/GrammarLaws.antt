@@ -26,8 +26,9 @@ use Rattle.mime_parameter.specs.Pieces.{valueText, hasRoom}
 use Rattle.field_parameter.specs.Parameter.{parameterLen, isConverted, noStar, nameOf, valueOf, parameterClear, convertedNext}
 use Rattle.field_parameter.specs.Grammar.{Parameter, standing, NoParameter}
 use Rattle.field_parameter.specs.GrammarLaws.{name-is, value-is, parameter-taken, found-parameter, none-found, found-none, white-ascii, white-none, converted-is, converted-next, next-converted}
+use Rattle.parameter_names.specs.Names.{distinct}
 use Rattle.parameterized_field.specs.declared.State.{State}
-use Rattle.parameterized_field.specs.Value.{Item, newLine, dropped, ownMark, tokenItems, parameterItems, afterToken, afterParameter, start, parameterHere, front, itemsFrom, clearFrom, itemNames, namesFrom, distinct, passes}
+use Rattle.parameterized_field.specs.Value.{Item, newLine, dropped, ownMark, tokenItems, parameterItems, afterToken, afterParameter, start, parameterHere, front, itemsFrom, clearFrom, itemNames, namesFrom, passes}
 use Rattle.parameterized_field.specs.Value.Item.{piece, stays, other}
 use Rattle.parameterized_field.specs.Grammar.{Goes, ParameterizedRule, ParameterizedValue}
 

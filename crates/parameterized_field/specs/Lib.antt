@@ -1,7 +1,6 @@
 pub mod Value
 pub mod StepLaws
 pub mod NamesLaws
-pub mod KeysLaws
 pub mod WritingLaws
 pub mod Grammar
 pub mod GrammarLaws

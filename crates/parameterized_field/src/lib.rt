@@ -1,6 +1,5 @@
 // Fields whose values have parameters: Content-Type and Content-Disposition.
 mod held;
-mod keys;
 mod names;
 mod part;
 mod writer;

@@ -2,7 +2,7 @@
 ghost use mathlib.Core.Path.{_≡_};
 ghost use Prim.Native.Nat.{_≤_};
 ghost use lib.ListN.{length, take};
-ghost use Rattle.parameterized_field.specs.KeysLaws.{keyOf, absentIn, KeysAt};
+ghost use Rattle.parameter_names.specs.KeysLaws.{keyOf, absentIn, KeysAt};
 use crate::names::marked_end;
 
 fn wide(b: u8) -> u64

@@ -15,7 +15,8 @@ use Rattle.lists.specs.CutByLaws.{cut-nil, cut-next}
 use Rattle.lists.specs.Lists.{all}
 use Rattle.lists.specs.ListsLaws.{by-test, yes-true, true-yes, no-false}
 use Rattle.letter_case.specs.LetterCase.{lower, sameAnyCase}
-use Rattle.parameterized_field.specs.NamesLaws.{markedLen, marked-ahead}
+use Rattle.parameter_names.specs.Names.{markedLen}
+use Rattle.parameter_names.specs.NamesLaws.{marked-ahead}
 
 -- ---- a key: the bytes in small letters as the digits of a number, by its remainder
 unfoldable pub keyFrom : ℕ → List ℕ → ℕ

@@ -1,15 +1,15 @@
-use Rattle.parameterized_field.specs.KeysLaws.{Key, key-more, key-all}
+use Rattle.parameter_names.specs.KeysLaws.{Key, key-more, key-all}
 use borrow.Author.Needs.{needs}
 use native.Mathlib.Omega.{arith}
 use lib.ListN.{length}
 use mathlib.Core.Path.{refl, _∙_}
 use Prim.Native.Nat.{_-_}
-use Rattle.parameterized_field.proofs.keys.key_of.Statement.{statement}
-use Rattle.parameterized_field.proofs.keys.key_of.Tie as tie
-use Rattle.parameterized_field.proofs.keys.key_of.Reads as reads
-use Rattle.parameterized_field.proofs.keys.key_of.Lts as lts
+use Rattle.parameter_names.proofs.keys.key_of.Statement.{statement}
+use Rattle.parameter_names.proofs.keys.key_of.Tie as tie
+use Rattle.parameter_names.proofs.keys.key_of.Reads as reads
+use Rattle.parameter_names.proofs.keys.key_of.Lts as lts
 use Rattle.letter_case.proofs.lower.Reads as lower-reads
-use Rattle.parameterized_field.proofs.keys.wide.Reads as wide-reads
+use Rattle.parameter_names.proofs.keys.wide.Reads as wide-reads
 
 abbrev Inv-loop : tie.InvT-loop
 Inv-loop name k₀ i₀ k i = Key name k i

@@ -1,13 +1,13 @@
 use lib.Seq.{length-take-le}
 use mathlib.Core.Path.{sym}
 use borrow.Author.Needs.{needs}
-use Rattle.parameterized_field.proofs.names.marked_differ.Statement.{statement}
-use Rattle.parameterized_field.proofs.names.marked_differ.Tie as tie
-use Rattle.parameterized_field.proofs.names.marked_differ.Reads as reads
-use Rattle.parameterized_field.proofs.names.marked_differ.Lts as lts
-use Rattle.parameterized_field.proofs.keys.fill_keys.Reads as fill-keys-reads
-use Rattle.parameterized_field.proofs.names.all_differ.Reads as all-differ-reads
-use Rattle.parameterized_field.proofs.names.keyed_differ.Reads as keyed-differ-reads
+use Rattle.parameter_names.proofs.names.names_differ.Statement.{statement}
+use Rattle.parameter_names.proofs.names.names_differ.Tie as tie
+use Rattle.parameter_names.proofs.names.names_differ.Reads as reads
+use Rattle.parameter_names.proofs.names.names_differ.Lts as lts
+use Rattle.parameter_names.proofs.keys.fill_keys.Reads as fill-keys-reads
+use Rattle.parameter_names.proofs.names.all_differ.Reads as all-differ-reads
+use Rattle.parameter_names.proofs.names.keyed_differ.Reads as keyed-differ-reads
 
 -- src/names.rt:127:9
 fill-keys-requires : tie.Need-fill-keys-requires
@@ -37,8 +37,8 @@ keyed-differ-requires c κs = c .before .before .fill-keys .ensures .1 (c .befor
 returns-2 : tie.Need-returns-2
 returns-2 c = search needs
 
-pub marked-differ-spec : {M : Type 1} → statement M
-marked-differ-spec =
+pub names-differ-spec : {M : Type 1} → statement M
+names-differ-spec =
     tie.close
     (tie.spec
     fill-keys-requires

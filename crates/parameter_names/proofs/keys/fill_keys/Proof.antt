@@ -1,15 +1,15 @@
-use Rattle.parameterized_field.specs.NamesLaws.{marked-ahead, marked-inside}
-use Rattle.parameterized_field.specs.KeysLaws.{Gathered, gathered-start, gathered-more, gathered-all}
+use Rattle.parameter_names.specs.NamesLaws.{marked-ahead, marked-inside}
+use Rattle.parameter_names.specs.KeysLaws.{Gathered, gathered-start, gathered-more, gathered-all}
 use borrow.Author.Needs.{needs}
 use native.Mathlib.Omega.{arith}
 use lib.ListN.{length}
 use Prim.Native.Nat.{_-_}
-use Rattle.parameterized_field.proofs.keys.fill_keys.Statement.{statement}
-use Rattle.parameterized_field.proofs.keys.fill_keys.Tie as tie
-use Rattle.parameterized_field.proofs.keys.fill_keys.Reads as reads
-use Rattle.parameterized_field.proofs.keys.fill_keys.Lts as lts
-use Rattle.parameterized_field.proofs.keys.key_of.Reads as key-of-reads
-use Rattle.parameterized_field.proofs.names.marked_end.Reads as marked-end-reads
+use Rattle.parameter_names.proofs.keys.fill_keys.Statement.{statement}
+use Rattle.parameter_names.proofs.keys.fill_keys.Tie as tie
+use Rattle.parameter_names.proofs.keys.fill_keys.Reads as reads
+use Rattle.parameter_names.proofs.keys.fill_keys.Lts as lts
+use Rattle.parameter_names.proofs.keys.key_of.Reads as key-of-reads
+use Rattle.parameter_names.proofs.names.marked_end.Reads as marked-end-reads
 
 abbrev Inv-loop : tie.InvT-loop
 Inv-loop keys₀ s n₀ i₀ keys n i = Gathered s i keys n

@@ -1,11 +1,11 @@
-use Rattle.parameterized_field.specs.KeysLaws.{absent-new}
+use Rattle.parameter_names.specs.KeysLaws.{absent-new}
 use borrow.Author.Needs.{needs}
-use Rattle.parameterized_field.proofs.names.is_other.Statement.{statement}
-use Rattle.parameterized_field.proofs.names.is_other.Tie as tie
-use Rattle.parameterized_field.proofs.names.is_other.Reads as reads
-use Rattle.parameterized_field.proofs.names.is_other.Lts as lts
-use Rattle.parameterized_field.proofs.keys.is_absent.Reads as is-absent-reads
-use Rattle.parameterized_field.proofs.names.is_new.Reads as is-new-reads
+use Rattle.parameter_names.proofs.names.is_other.Statement.{statement}
+use Rattle.parameter_names.proofs.names.is_other.Tie as tie
+use Rattle.parameter_names.proofs.names.is_other.Reads as reads
+use Rattle.parameter_names.proofs.names.is_other.Lts as lts
+use Rattle.parameter_names.proofs.keys.is_absent.Reads as is-absent-reads
+use Rattle.parameter_names.proofs.names.is_new.Reads as is-new-reads
 
 -- src/names.rt:97:8
 is-absent-requires : tie.Need-is-absent-requires

@@ -1,12 +1,12 @@
-use Rattle.parameterized_field.specs.KeysLaws.{Absent, absent-more, absent-all}
+use Rattle.parameter_names.specs.KeysLaws.{Absent, absent-more, absent-all}
 use native.Mathlib.Omega.{arith}
 use lib.ListN.{length}
 use mathlib.Core.Path.{refl}
 use Prim.Native.Nat.{_-_}
-use Rattle.parameterized_field.proofs.keys.is_absent.Statement.{statement}
-use Rattle.parameterized_field.proofs.keys.is_absent.Tie as tie
-use Rattle.parameterized_field.proofs.keys.is_absent.Reads as reads
-use Rattle.parameterized_field.proofs.keys.is_absent.Lts as lts
+use Rattle.parameter_names.proofs.keys.is_absent.Statement.{statement}
+use Rattle.parameter_names.proofs.keys.is_absent.Tie as tie
+use Rattle.parameter_names.proofs.keys.is_absent.Reads as reads
+use Rattle.parameter_names.proofs.keys.is_absent.Lts as lts
 
 abbrev Inv-loop : tie.InvT-loop
 Inv-loop keys key absent₀ j₀ absent j = Absent keys key absent j
