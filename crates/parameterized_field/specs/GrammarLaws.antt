@@ -26,8 +26,9 @@ use Rattle.mime_parameter.specs.Pieces.{valueText, hasRoom}
 use Rattle.field_parameter.specs.Parameter.{parameterLen, isConverted, noStar, nameOf, valueOf, parameterClear, convertedNext}
 use Rattle.field_parameter.specs.Grammar.{Parameter, standing, NoParameter}
 use Rattle.field_parameter.specs.GrammarLaws.{name-is, value-is, parameter-taken, found-parameter, none-found, found-none, white-ascii, white-none, converted-is, converted-next, next-converted}
+use Rattle.parameter_names.specs.Names.{distinct}
 use Rattle.parameterized_field.specs.declared.State.{State}
-use Rattle.parameterized_field.specs.Value.{Item, newLine, dropped, ownMark, tokenItems, parameterItems, afterToken, afterParameter, start, parameterHere, front, itemsFrom, clearFrom}
+use Rattle.parameterized_field.specs.Value.{Item, newLine, dropped, ownMark, tokenItems, parameterItems, afterToken, afterParameter, start, parameterHere, front, itemsFrom, clearFrom, itemNames, namesFrom, passes}
 use Rattle.parameterized_field.specs.Value.Item.{piece, stays, other}
 use Rattle.parameterized_field.specs.Grammar.{Goes, ParameterizedRule, ParameterizedValue}
 
@@ -228,18 +229,36 @@ exact = record { taken = λ r. rule-taken r; made = λ state b s. made-front sta
 
 -- ---- the grammar
 
-pub record Reads (text : List ℕ) (items : List Item) : Type 0 where
-  pub clear : T (clearFrom start text)
-  pub is : items ≡ itemsFrom start text
+record Reads (text : List ℕ) (items : List Item) : Type 0 where
+  clear-all : T (clearFrom start text)
+  is : items ≡ itemsFrom start text
 
-pub made-reads : {text : List ℕ} {items : List Item} → ParameterizedValue text items → Reads text items
+made-reads : {text : List ℕ} {items : List Item} → ParameterizedValue text items → Reads text items
 unfolding clearFrom itemsFrom
-made-reads v = let r = walks.made-reads front ParameterizedRule exact v in record { clear = r .clear; is = r .is }
+made-reads v = let r = walks.made-reads front ParameterizedRule exact v in record { clear-all = r .clear; is = r .is }
 
-pub reads-made : {text : List ℕ} {items : List Item} → Reads text items → ParameterizedValue text items
+reads-made : {text : List ℕ} {items : List Item} → Reads text items → ParameterizedValue text items
 unfolding clearFrom itemsFrom
-reads-made {text} {items} r = walks.reads-made front ParameterizedRule exact {state = start} {text = text} {p = items} (record { clear = r .clear; is = r .is })
+reads-made {text} {items} r = walks.reads-made front ParameterizedRule exact {state = start} {text = text} {p = items} (record { clear = r .clear-all; is = r .is })
 
 -- what becomes of a value that is clear
 pub value-made : (value : List ℕ) → T (clearFrom start value) → ParameterizedValue value (itemsFrom start value)
-value-made value h = reads-made (record { clear = h; is = refl })
+value-made value h = reads-made (record { clear-all = h; is = refl })
+
+-- ---- a value passes just where the grammar makes it and no name is shared
+
+abbrev namesOf : List Item → List (List ℕ)
+namesOf items = joined (map itemNames items)
+
+pub passes-made : (value : List ℕ) → T (passes value) → ParameterizedValue value (itemsFrom start value) × T (distinct (joined (map itemNames (itemsFrom start value))))
+unfolding passes namesFrom
+passes-made value t =
+    let both = and-yes (clearFrom start value) (distinct (namesOf (itemsFrom start value))) t in
+    (value-made value (both .0), both .1)
+
+pub made-passes : {value : List ℕ} {items : List Item} → ParameterizedValue value items → T (distinct (joined (map itemNames items)))
+    → T (passes value) × (items ≡ itemsFrom start value)
+unfolding passes namesFrom
+made-passes {value} v names =
+    let r = made-reads v in
+    (yes-and (clearFrom start value) (distinct (namesOf (itemsFrom start value))) (r .clear-all) (rw (r .is) at names), r .is)

@@ -26,8 +26,9 @@ use Rattle.mime_parameter.specs.Pieces.{valueText, hasRoom, parameterLines}
 use Rattle.mime_parameter.specs.LinesLaws.{lines-le, text-utf8, length-text, text-some}
 use Rattle.field_parameter.specs.Grammar.{standing}
 use Rattle.field_parameter.specs.GrammarLaws.{token-ascii, parameter-cut, parameter-taken}
+use Rattle.parameter_names.specs.Names.{distinct}
 use Rattle.parameterized_field.specs.declared.State.{State}
-use Rattle.parameterized_field.specs.Value.{Item, itemSegments, newLine, ownMark, itemsFrom, clearFrom, segmentsFrom, namesFrom, distinct, passes, start, parameterizedField}
+use Rattle.parameterized_field.specs.Value.{Item, itemSegments, newLine, ownMark, itemsFrom, clearFrom, segmentsFrom, namesFrom, passes, start, parameterizedField}
 use Rattle.parameterized_field.specs.StepLaws.{map-append}
 use Rattle.parameterized_field.specs.Grammar.{ParameterizedRule}
 use Rattle.parameterized_field.specs.GrammarLaws.{value-made}

@@ -5,7 +5,6 @@ use Prim.Native.Nat.{ℕ}
 use lib.Dec.{ltb}
 use lib.ListN.{take, drop}
 use Rattle.lists.specs.Lists.{all, joined}
-use Rattle.letter_case.specs.LetterCase.{sameAnyCase}
 use Rattle.encoded_word.specs.Segments.{Segment}
 use Rattle.encoded_word.specs.Segments.Segment.{raw, parameter}
 use Rattle.field.specs.Field.{named}
@@ -16,6 +15,7 @@ use Rattle.structured_token.specs.Walk.{Front, walk, clearOf, becomesOf}
 use Rattle.structured_field.specs.StructuredField.{clear, becomes}
 use Rattle.mime_parameter.specs.Pieces.{valueText}
 use Rattle.field_parameter.specs.Parameter.{parameterLen, nameOf, valueOf, isConverted, parameterClear, convertedNext}
+use Rattle.parameter_names.specs.Names.{distinct}
 use Rattle.parameterized_field.specs.declared.State.{State}
 
 -- ---- items
@@ -134,11 +134,6 @@ segmentsFrom state s = joined (map itemSegments (itemsFrom state s))
 
 unfoldable pub namesFrom : State → List ℕ → List (List ℕ)
 namesFrom state s = joined (map itemNames (itemsFrom state s))
-
--- no name is "shared by two parameters (any case)"
-unfoldable pub distinct : List (List ℕ) → Bool
-distinct [] = true
-distinct (name ∷ names) = all (λ other. not (sameAnyCase name other)) names && distinct names
 
 -- "Where a parameter name has `*`, is shared by two parameters (any case) or leaves no room for a character, or non-ASCII stands elsewhere,
 -- the field stays held."

@@ -25,7 +25,8 @@ use Rattle.mime_parameter.specs.Extended.{isTokenByte, isAttributeChar, extende
 use Rattle.mime_parameter.specs.Number.{digitsIn, decimal}
 use Rattle.mime_parameter.specs.Pieces as mime
 use Rattle.field_parameter.specs.Parameter.{closedLen, valueLen, parameterLen, nameOf, valueOf, isConverted, parameterClear, convertedNext}
-use Rattle.parameterized_field.specs.Value.{dropped, tokenItems, parameterItems, front, itemsFrom, clearFrom, segmentsFrom, namesFrom, distinct, passes, start}
+use Rattle.parameter_names.specs.Names.{distinct}
+use Rattle.parameterized_field.specs.Value.{dropped, tokenItems, parameterItems, front, itemsFrom, clearFrom, segmentsFrom, namesFrom, passes, start}
 
 -- the bytes of a string in which `#` stands for é
 abbrev text : String → List ℕ
