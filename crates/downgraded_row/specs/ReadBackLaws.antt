@@ -1,11 +1,11 @@
 -- In a header that is made of written fields, calls of the reader from 0 on show each Downgraded field with encoded words as exactly the text that is encoded in it. Assumes nothing.
-use mathlib.Core.Path.{_≡_, refl, ap, sym, _∙_}
-use mathlib.Core.Bool.{Bool, true, false, not, _&&_}
+use mathlib.Core.Path.{_≡_, refl, sym}
+use mathlib.Core.Bool.{Bool, true, false, not}
 use mathlib.Core.List.{List, [], _∷_, _++_, append-assoc, append-nil}
-use Prim.Native.Nat.{ℕ, suc, _+_, _≤_, _<_}
+use Prim.Native.Nat.{ℕ, _+_, _≤_}
 use native.Mathlib.Omega.{arith}
 use lib.Dec.{T, eqb}
-use lib.ListN.{length, take, drop, getD, length-append, length-take}
+use lib.ListN.{length, drop, getD, length-append, length-take}
 use lib.Seq.{drop-at, take-append-le}
 use Rattle.lists.specs.Lists.{all}
 use Rattle.lists.specs.Byte.{within}
@@ -22,9 +22,9 @@ use Rattle.encoded_word.specs.SegmentsLaws.{rendered-append}
 use Rattle.field.specs.Field.{labelledField}
 use Rattle.header_line.specs.Lines.{nameByte}
 use Rattle.header.specs.Fields.{fieldsOf}
-use Rattle.downgraded_reader.specs.Reader.{isDowngraded, Outcome, outcome}
+use Rattle.downgraded_reader.specs.Reader.{isDowngraded, outcome}
 use Rattle.reader_grammar.specs.ReaderGrammar.{LineBegins, FieldBegins, downgradedCount}
-use Rattle.reader_grammar.specs.CallLaws.{Reached, FoundBy, found-by, number-is, prefix-size}
+use Rattle.reader_grammar.specs.CallLaws.{Reached, found-by, number-is, prefix-size}
 use Rattle.downgraded_row.specs.RowLinesLaws.{Label}
 use Rattle.downgraded_row.specs.RowFieldLaws.{written, written-outcome}
 

@@ -1,32 +1,25 @@
 -- A Downgraded field that we write, wherever it stands in a header, is shown as the text that is encoded in it. Assumes nothing.
-use mathlib.Core.Path.{_≡_, refl, ap, sym, _∙_}
-use mathlib.Core.Bool.{Bool, true, false, cond}
+use mathlib.Core.Path.{_≡_, refl, ap, sym}
+use mathlib.Core.Bool.{false}
 use mathlib.Core.List.{List, [], _∷_, _++_, append-assoc}
-use Prim.Native.Nat.{ℕ, suc, _+_, _-_, _≤_, _<_}
-use native.Mathlib.Nat.{add-zero}
+use Prim.Native.Nat.{ℕ, _+_, _-_, _≤_, _<_}
 use native.Mathlib.Omega.{arith}
-use lib.Dec.{T, eqb, leb, ltb}
-use lib.ListN.{length, take, drop, getD, length-append, length-drop}
-use lib.Seq.{take-at, drop-at, take-append-le}
-use borrow.Author.Tests.{ne-eqb, lt-ltb, le-leb}
-use Rattle.lists.specs.ListsLaws.{yes-true, true-yes}
-use Rattle.lists.specs.Run.{run}
+use lib.Dec.{T}
+use lib.ListN.{length, drop, getD, length-append}
+use lib.Seq.{take-at, drop-at}
+use borrow.Author.Tests.{lt-ltb, le-leb}
 use Rattle.buffer.specs.Buffer.{overlay}
-use Rattle.line.specs.Line.{blank, crlf, lineLen}
-use Rattle.line.specs.LineLaws.{line-none}
-use Rattle.letter_case.specs.LetterCase.{bytes, sameAnyCase}
+use Rattle.line.specs.Line.{blank}
 use Rattle.utf8.specs.Utf8.{utf8}
-use Rattle.row.specs.Row.{encodings, rowAfter}
-use Rattle.row.specs.Layout.{Word, addedText}
-use Rattle.row.specs.FieldRow.{SetAfter, FieldDemand3}
+use Rattle.row.specs.Row.{rowAfter}
+use Rattle.row.specs.FieldRow.{FieldDemand3}
 use Rattle.row.specs.FieldRowLaws.{field-demand-3}
 use Rattle.header_line.specs.Lines.{nameLen}
 use Rattle.header.specs.Fields.{fieldLen, valueOf}
 use Rattle.downgraded_field.specs.declared.FieldRead.the-variants.{Text as FieldText}
-use Rattle.downgraded_field.specs.Shown.{spacing, isFormed, turnsOf, fieldTurns, fieldText, ofNumber, fieldRead}
+use Rattle.downgraded_field.specs.Shown.{fieldTurns, fieldText, ofNumber, fieldRead}
 use Rattle.downgraded_reader.specs.declared.Found.the-variants.{Text}
-use Rattle.downgraded_reader.specs.Reader.{isDowngraded, firstLine, toFieldAfter, fieldStart, fieldAt, ofField, reading, leftBy, bufferAfter, numberOf, startOf, nextOf, lengthOf, Outcome, outcome}
-use Rattle.downgraded_reader.specs.ReaderLaws.{to-here}
+use Rattle.downgraded_reader.specs.Reader.{fieldStart, fieldAt, ofField, reading, leftBy, bufferAfter, numberOf, startOf, nextOf, lengthOf, outcome}
 use Rattle.downgraded_row.specs.RowTurnsLaws.{ShownAs, row-shown}
 use Rattle.downgraded_row.specs.RowLinesLaws.{Label, label-length, label-name, field-formed, field-len}
 

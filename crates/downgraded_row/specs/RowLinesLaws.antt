@@ -1,29 +1,27 @@
 -- The lines of a field that we write are well formed for the reader, and where it ends. Assumes nothing.
 use mathlib.Core.Path.{_≡_, refl, ap, sym, _∙_}
-use mathlib.Core.Bool.{Bool, true, false, not, cond, _&&_, _||_, or-false}
-use mathlib.Core.List.{List, [], _∷_, _++_, append-assoc, append-nil}
-use Prim.Native.Nat.{ℕ, suc, _+_, _-_, _≤_, _<_}
+use mathlib.Core.Bool.{Bool, true, false, not, _||_}
+use mathlib.Core.List.{List, [], _∷_, _++_, append-assoc}
+use Prim.Native.Nat.{ℕ, _+_, _≤_, _<_}
 use native.Mathlib.Nat.{add-zero}
 use native.Mathlib.Omega.{arith}
-use lib.Dec.{T, eqb, leb, lt→ltb}
-use lib.ListN.{length, take, drop, getD, length-append}
-use lib.Seq.{take-at, drop-at, getD-at}
+use lib.Dec.{T, eqb, lt→ltb}
+use lib.ListN.{length, drop, getD, length-append}
+use lib.Seq.{getD-at}
 use borrow.Author.Tests.{ne-eqb}
-use mir.Facts.{and-yes, yes-and}
-use Rattle.lists.specs.Lists.{all, nonempty}
-use Rattle.lists.specs.ListsLaws.{yes-true, no-false, true-yes, all-append, all-weaken}
+use mir.Facts.{and-yes}
+use Rattle.lists.specs.Lists.{all}
+use Rattle.lists.specs.ListsLaws.{yes-true, all-append, all-weaken}
 use Rattle.lists.specs.Byte.{within, isAscii}
 use Rattle.lists.specs.ByteLaws.{within-low, within-high, to-within}
 use Rattle.lists.specs.Run.{run}
 use Rattle.lists.specs.RunLaws.{run-past}
-use Rattle.line.specs.Line.{blank, crlf, lineLen, notCr, crRun}
-use Rattle.line.specs.LineLaws.{line-cr, line-none}
+use Rattle.line.specs.Line.{blank, crlf, lineLen, notCr}
 use Rattle.utf8.specs.Utf8.{utf8}
 use Rattle.utf8.specs.Utf8Laws.{utf8-ascii}
 use Rattle.row.specs.Row.{encodings}
 use Rattle.row.specs.Layout.{Word, wordBytes, Reads}
 use Rattle.row.specs.FieldRow.{OwnLines, SetAfter}
-use Rattle.row.specs.Demand3.{Proper}
 use Rattle.row.specs.RoomsLaws.{AllProper, first-proper, rest-proper}
 use Rattle.header_line.specs.Lines.{lineByte, nameByte, nameLen, namedTo, continuation, lineOkTo, linesOf}
 use Rattle.header.specs.Fields.{fold, fieldLen}

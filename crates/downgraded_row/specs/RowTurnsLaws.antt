@@ -1,28 +1,25 @@
 -- The words of a row that we write, as the reader finds them: each is a word of UTF-8, and what is shown of them is the text. Assumes nothing.
-use mathlib.Core.Path.{_≡_, refl, ap, sym, _∙_}
-use mathlib.Core.Bool.{Bool, true, false, not, cond, _&&_, _||_}
-use mathlib.Core.List.{List, [], _∷_, _++_, append-assoc, append-nil}
-use mathlib.Core.Option.{Option, none, some}
-use Prim.Native.Nat.{ℕ, suc, _+_, _-_, _*_, _≤_, _<_, min}
-use native.Mathlib.Nat.{add-zero}
+use mathlib.Core.Path.{_≡_, refl}
+use mathlib.Core.Bool.{Bool, true, false, _&&_}
+use mathlib.Core.List.{List, [], _∷_, _++_}
+use mathlib.Core.Option.{none, some}
+use Prim.Native.Nat.{ℕ, _<_}
 use native.Mathlib.Omega.{arith}
-use lib.Dec.{T, eqb, leb}
-use lib.ListN.{length, take, drop, getD, length-append}
-use lib.Seq.{take-at, drop-at}
+use lib.Dec.{T}
+use lib.ListN.{length, drop}
 use borrow.Author.Tests.{ne-eqb}
-use mir.Facts.{and-yes, yes-and}
-use Rattle.lists.specs.Lists.{all, joined, nonempty}
-use Rattle.lists.specs.ListsLaws.{by-test, yes-true, no-false, true-yes, all-append, all-weaken}
+use mir.Facts.{yes-and}
+use Rattle.lists.specs.Lists.{all}
+use Rattle.lists.specs.ListsLaws.{by-test, yes-true, no-false, all-append, all-weaken}
 use Rattle.lists.specs.Byte.{within}
 use Rattle.lists.specs.ByteLaws.{within-low, within-high, to-within, below}
 use Rattle.lists.specs.Run.{run}
-use Rattle.lists.specs.RunLaws.{run-past}
 use Rattle.letter_case.specs.LetterCase.{bytes, lower, sameAnyCase}
 use Rattle.line.specs.Line.{blank}
 use Rattle.utf8.specs.Utf8.{utf8}
 use Rattle.base64.specs.Base64.{digit64}
 use Rattle.base64.specs.Grammar.{FromBase64}
-use Rattle.word_spelling.specs.Spelling.{opening, closing}
+use Rattle.word_spelling.specs.Spelling.{closing}
 use Rattle.row.specs.declared.Encoding.{Encoding}
 use Rattle.row.specs.declared.Encoding.the-variants.{Q, B}
 use Rattle.row.specs.Word.{openingIn}
@@ -32,10 +29,10 @@ use Rattle.row.specs.FieldRow.{OwnLines, SetAfter}
 use Rattle.row.specs.Demand3.{Proper}
 use Rattle.row.specs.RoomsLaws.{AllProper, first-proper, rest-proper}
 use Rattle.header.specs.FieldShape.{withoutBreaks}
-use Rattle.word_reader.specs.Word.{isWord, added, formNumber}
-use Rattle.word_grammar.specs.WordGrammar.{smallLetter, Decodes}
+use Rattle.word_reader.specs.Word.{isWord, added}
+use Rattle.word_grammar.specs.WordGrammar.{Decodes}
 use Rattle.word_grammar.specs.WordGrammarLaws.{decodes-added, decodes-number, decodes-word}
-use Rattle.downgraded_field.specs.Shown.{spacing, solid, Turn, turnSize, turnAt, turnsOf, turnText, shown, wordNumber, turnNumber, lowest}
+use Rattle.downgraded_field.specs.Shown.{spacing, solid, Turn, turnsOf, turnText, shown, wordNumber, turnNumber, lowest}
 use Rattle.downgraded_field.specs.ShownLaws.{turnOf, turns-nil}
 use Rattle.reader_grammar.specs.TurnLaws.{Follows, run-stops, spacing-none, turn-cut}
 

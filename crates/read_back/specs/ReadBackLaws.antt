@@ -5,21 +5,19 @@ use Prim.Native.Nat.{ℕ, _≤_}
 use native.Mathlib.Omega.{arith}
 use lib.ListN.{length, take}
 use lib.Seq.{length-take-le}
-use Rattle.buffer.specs.Buffer.{overlay}
 use Rattle.buffer.specs.BufferLaws.{overlay-front}
 use Rattle.encoded_word.specs.Segments.{Segment, rendered}
 use Rattle.encoded_word.specs.Segments.Segment.{labelled}
 use Rattle.rules.specs.declared.Rules.{Rules}
 use Rattle.rules.specs.declared.Rules.the-variants.{Mailbox}
 use Rattle.call.specs.declared.Answer.{Answer}
-use Rattle.call.specs.OutgoingHeader.{outgoingSegments}
 use Rattle.outgoing_field.specs.Fate.{headerSegments}
 use Rattle.outgoing_header.specs.declared.HeaderAnswer.{HeaderAnswer}
 use Rattle.downgraded_reader.specs.declared.ReadAnswer.{ReadAnswer}
 use Rattle.downgraded_reader.specs.Reader.{Outcome, outcome, observed}
 use Rattle.reader_grammar.specs.ReaderGrammar.{Reads}
 use Rattle.reader_grammar.specs.ReaderGrammarLaws.{reads}
-use Rattle.downgraded_row.specs.ReadBackLaws.{WrittenFields, Shows, reads-back}
+use Rattle.downgraded_row.specs.ReadBackLaws.{WrittenFields, reads-back}
 use Rattle.demands.specs.Downgraded.{Downgraded, HeaderBecomes}
 use Rattle.demands.specs.Downgraded.HeaderBecomes.{all-become}
 use Rattle.demands.specs.Demands.{KeptPast, Demands}
@@ -45,14 +43,16 @@ module _ {len : ℕ} {before after : List ℕ} (k : KeptPast len before after) w
 
 module _ {Written : List Segment → Type 0} {h′ : List ℕ} (right : (ss : List Segment) → Written ss → WrittenFields ss × (h′ ≡ rendered ss)) where
   pub all-shown : {k : ℕ} {t t′ : List ℕ} {a : ReadAnswer} → observed a t′ ≡ outcomeAfter h′ 0 t k → ReadsBack Written k t a t′
-  all-shown {k} {t} {t′} {a} e = record { shown = λ before label text after w d n room.
-      let r = right (before ++ (labelled label text ∷ after)) w in
-      let s = rw (← r .1) at (reads-back (r .0) before label text after refl d) in
-      let c = call-at t (rw (← n) at (s .reached)) in
-      let size : length text ≤ length (c .buffer) = rw (c .size) room in
-      let o = e ∙ call-is c ∙ s .outcome-is (c .buffer) size in
-      let length-is = ap (λ (x : Outcome). x .size) o in
-      (ap (λ (x : Outcome). x .number) o, ap (λ (x : Outcome). x .start) o, length-is, rw (length-is, ap (λ (x : Outcome). x .buffer) o) (overlay-front text (c .buffer) size)) }
+  all-shown {k} {t} {t′} {a} e = record {
+    shown = λ before label text after w d n room.
+        let r = right (before ++ (labelled label text ∷ after)) w in
+        let s = rw (← r .1) at (reads-back (r .0) before label text after refl d) in
+        let c = call-at t (rw (← n) at (s .reached)) in
+        let size : length text ≤ length (c .buffer) = rw (c .size) room in
+        let o = e ∙ call-is c ∙ s .outcome-is (c .buffer) size in
+        let length-is = ap (λ (x : Outcome). x .size) o in
+        (ap (λ (x : Outcome). x .number) o, ap (λ (x : Outcome). x .start) o, length-is, rw (length-is, ap (λ (x : Outcome). x .buffer) o) (overlay-front text (c .buffer) size));
+  }
 
 -- ---- the call
 

@@ -1,15 +1,13 @@
 -- What the value of a field becomes has no label: labels stand only where a field's text is encoded as a whole. Assumes nothing.
-use mathlib.Core.Bool.{Bool, true, cond}
-use mathlib.Core.List.{List, [], _∷_, _++_, map}
+use mathlib.Core.Bool.{true}
+use mathlib.Core.List.{List, [], _∷_, map}
 use Prim.Native.Nat.{ℕ, zero, suc, pred}
 use lib.Dec.{T}
 use lib.ListN.{take, drop}
-use mir.Facts.{yes-and}
 use Rattle.lists.specs.Byte.{isAscii}
 use Rattle.lists.specs.Lists.{all, joined}
 use Rattle.lists.specs.ListsLaws.{cond-has, all-append}
 use Rattle.rules.specs.declared.Rules.{Rules}
-use Rattle.rules.specs.declared.Rules.the-variants.{Spool, Current, Mailbox}
 use Rattle.rules.specs.Rules.{removalStart, removalEnd}
 use Rattle.encoded_word.specs.Segments.{Segment}
 use Rattle.encoded_word.specs.Segments.Segment.{raw, words}
@@ -26,7 +24,7 @@ use Rattle.structured_token.specs.Walk.{Front, walkAfter, walk, becomesOf, beco
 use Rattle.structured_token.specs.Tokens.{commentKind}
 use Rattle.structured_token.specs.declared.Kind.{Kind}
 use Rattle.structured_field.specs.StructuredField.{partSegments, becomes as structuredBecomes, structuredFront, valueSegments as structuredSegments}
-use Rattle.received.specs.Received.{clauseSegments, becomes as receivedBecomes, Place, receivedFront, valueSegments as receivedSegments}
+use Rattle.received.specs.Received.{becomes as receivedBecomes, Place, receivedFront, valueSegments as receivedSegments}
 use Rattle.received_token.specs.declared.ReceivedKind.{ReceivedKind}
 use Rattle.received_token.specs.declared.ReceivedKind.the-variants.{Comment as CommentToken, Clause, BareFor, Open, Other}
 use Rattle.downgraded_row.specs.ReadBackLaws.{unlabelled}

@@ -1,15 +1,15 @@
 -- The outgoing header is made of written fields. Each method for a field owes that what it writes is such: a label with the encoded words of a
 -- text, or a name and what the value becomes, which has no label. Assumes nothing.
-use mathlib.Core.Path.{_≡_, refl, ap, sym, _∙_}
-use mathlib.Core.Bool.{Bool, true, false, cond}
+use mathlib.Core.Path.{_≡_, refl, sym, _∙_}
+use mathlib.Core.Bool.{Bool, true, false}
 use mathlib.Core.List.{List, [], _∷_, _++_, append-assoc, append-nil, map}
-use Prim.Native.Nat.{ℕ, _+_, _≤_}
+use Prim.Native.Nat.{ℕ, _≤_}
 use native.Mathlib.Omega.{arith}
 use lib.Dec.{T}
-use lib.ListN.{length, take, getD, length-append}
+use lib.ListN.{length, getD, length-append}
 use lib.Seq.{length-take-le}
-use mir.Facts.{and-yes, yes-and}
-use Rattle.lists.specs.Byte.{isAscii, within}
+use mir.Facts.{and-yes}
+use Rattle.lists.specs.Byte.{isAscii}
 use Rattle.lists.specs.ByteLaws.{within-low, within-high}
 use Rattle.lists.specs.Lists.{all, joined}
 use Rattle.lists.specs.ListsLaws.{cond-has, all-append}

@@ -1,16 +1,14 @@
 // What the reader shows: reader_grammar has the rules for any header, and specs/ReadBack.antt states of a header that a call of ours wrote that
 // the reader shows what we encoded. Here the exported calls are checked against both.
-ghost use mathlib.Core.Path.{_≡_};
-ghost use lib.ListN.{take};
 ghost use Rattle.rules.specs.Rules.{settingRules};
-ghost use Rattle.rules.specs.declared.Rules.the-variants.{Mailbox};
-ghost use Rattle.demands.specs.Downgraded.{Downgraded, HeaderBecomes};
 ghost use Rattle.demands.specs.Demands.{Demands};
 ghost use Rattle.demands.specs.MailboxDemands.{MailboxDemands};
 ghost use Rattle.downgraded_reader.specs.Reader.{observed};
 ghost use Rattle.reader_grammar.specs.ReaderGrammar.{Reads};
-ghost use Rattle.read_back.specs.Calls.{outcomeAfter};
-ghost use Rattle.read_back.specs.ReadBack.{ReadsBack};
+ghost use Rattle.read_back.specs.ReadBack.{CallReadsBack, MailboxReadsBack};
+
+mod numbered;
+
 use call::Answer;
 use downgraded_reader::ReadAnswer;
 use outgoing_header::HeaderAnswer;
@@ -34,20 +32,6 @@ pub struct MailboxAnswers {
     pub read: ReadAnswer,
 }
 
-// Call number k of the reader, from 0 on: the first is at the header's start, each other at the place after the field before.
-pub fn read_number(header: &[u8], k: usize, text: &mut [u8]) -> ReadAnswer
-    ensures { λ r. ⌜ observed r (now (text .exit)) ≡ outcomeAfter (now (header .entry)) 0 (now (text .entry)) k ⌝ }
-{
-    let mut place = 0;
-    let mut left = k;
-    while 0 < left {
-        let r = read(header, place, text);
-        place = r.next;
-        left -= 1;
-    }
-    read(header, place, text)
-}
-
 // The exported call, then call number k of the reader over the header that it wrote.
 pub fn downgrade_and_read(
     setting: u64,
@@ -59,7 +43,7 @@ pub fn downgrade_and_read(
     text: &mut [u8],
 ) -> Answers
     ensures { λ r. ⌜ Demands (settingRules setting) (now (envelope .entry)) (now (header .entry)) (now («envelope_buffer» .entry)) (now («header_buffer» .entry)) (r .downgraded) (now («envelope_buffer» .exit)) (now («header_buffer» .exit)) ⌝ }
-    ensures { λ r. ⌜ (r .downgraded .number ≡ 0 → ReadsBack (Downgraded (settingRules setting) (now (envelope .entry)) (now (header .entry)) (take (r .downgraded .«envelope_len») (now («envelope_buffer» .exit)))) k (now (text .entry)) (r .read) (now (text .exit))) ⌝ }
+    ensures { λ r. ⌜ CallReadsBack (settingRules setting) (now (envelope .entry)) (now (header .entry)) (r .downgraded) (now («envelope_buffer» .exit)) k (now (text .entry)) (r .read) (now (text .exit)) ⌝ }
 {
     let downgraded = hennelaku::hennelaku_downgrade_slices(
         setting,
@@ -69,7 +53,7 @@ pub fn downgrade_and_read(
         header_buffer,
     );
     let n = downgraded.header_len;
-    let read = read_number(&header_buffer[..n], k, text);
+    let read = numbered::read_number(&header_buffer[..n], k, text);
     Answers { downgraded, read }
 }
 
@@ -81,10 +65,10 @@ pub fn downgrade_mailbox_and_read(
     text: &mut [u8],
 ) -> MailboxAnswers
     ensures { λ r. ⌜ MailboxDemands (now (header .entry)) (now (buffer .entry)) (r .downgraded) (now (buffer .exit)) ⌝ }
-    ensures { λ r. ⌜ (r .downgraded .number ≡ 0 → ReadsBack (HeaderBecomes Mailbox (now (header .entry))) k (now (text .entry)) (r .read) (now (text .exit))) ⌝ }
+    ensures { λ r. ⌜ MailboxReadsBack (now (header .entry)) (r .downgraded) k (now (text .entry)) (r .read) (now (text .exit)) ⌝ }
 {
     let downgraded = hennelaku::hennelaku_downgrade_mailbox_slices(header, buffer);
     let n = downgraded.length;
-    let read = read_number(&buffer[..n], k, text);
+    let read = numbered::read_number(&buffer[..n], k, text);
     MailboxAnswers { downgraded, read }
 }

@@ -1,6 +1,6 @@
 -- Calls of the reader that go on from the place after a field find each field by its number: how many Downgraded fields stand before it. Assumes nothing.
 use mathlib.Core.Path.{_≡_, refl, ap, sym, _∙_}
-use mathlib.Core.Bool.{Bool, true, false, not, cond, _&&_}
+use mathlib.Core.Bool.{Bool, false, not, cond}
 use mathlib.Core.List.{List, [], _∷_, _++_}
 use Prim.Native.Nat.{ℕ, zero, suc, _+_, _-_, _≤_, _<_}
 use native.Mathlib.Nat.{not-suc-le-zero, zero-add}
@@ -10,14 +10,14 @@ use lib.ListN.{length, take, drop, getD, length-drop, length-take, length-append
 use lib.Seq.{drop-drop, drop-at, drop-length, drop-append-le, take-append-le, take-take, getD-drop}
 use mir.Facts.{and-yes, yes-and, ltb-yes, ltb-no, eqb-no}
 use Rattle.lists.specs.Lists.{all}
-use Rattle.lists.specs.ListsLaws.{by-test, cond-has, yes-true, no-false, true-yes}
+use Rattle.lists.specs.ListsLaws.{by-test, cond-has, yes-true, no-false}
 use Rattle.letter_case.specs.LetterCase.{bytes, lower, sameAnyCase}
 use Rattle.letter_case.specs.LetterCaseLaws.{other-length}
 use Rattle.line.specs.Line.{blank, crlf, notCr}
 use Rattle.header.specs.Fields.{fold, fieldLen, fieldsOf}
 use Rattle.header.specs.FieldLaws.{ends, len-cons, len-past, field-after, fields-nil, fields-front}
 use Rattle.downgraded_reader.specs.Reader.{isDowngraded, fieldStart}
-use Rattle.reader_grammar.specs.ReaderGrammar.{LineBegins, FieldBegins, FirstField, downgradedCount}
+use Rattle.reader_grammar.specs.ReaderGrammar.{LineBegins, FieldBegins, downgradedCount}
 use Rattle.reader_grammar.specs.StartLaws.{after-line, front-letter, field-inside, start-least, start-up, start-begins, start-first, first-once}
 
 -- ---- where a field ends

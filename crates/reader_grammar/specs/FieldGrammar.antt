@@ -21,7 +21,8 @@ formed first line = formedBy (namedTo 87) first line
 -- continuations, each with its CRLF
 pub data Continuations : List ℕ → Type 0 where
   none : Continuations []
-  then : (line : List ℕ) {more : List ℕ} → T (formed false line) → T (blank (getD line 0 0)) → Continuations more → Continuations (line ++ (13 ∷ 10 ∷ more))
+  then : (line : List ℕ) {more : List ℕ} → T (formed false line) → T (blank (getD line 0 0)) → Continuations more
+      → Continuations (line ++ (13 ∷ 10 ∷ more))
 
 -- a name line and its continuations
 pub data FieldLines : List ℕ → Type 0 where
@@ -35,16 +36,16 @@ pub record RunBefore (rest run : List ℕ) : Type 0 where
   pub solid : T (all (λ b. not (blank b)) run)
   pub ends : T (all blank (take 1 rest))
 
--- What a text is shown as, and the lowest refusal of its words, or 5; `after` tells whether the run before it is a word. "other text stays";
--- it "skips white space between adjacent words".
+-- What a text is shown as, and the lowest refusal of its words, or 5; `after` tells whether the run before it is a word. "other text
+-- stays"; it "skips white space between adjacent words".
 pub data TextShows : Bool → List ℕ → ℕ → List ℕ → Type 0 where
   end : {after : Bool} (gap : List ℕ) → T (all blank gap) → TextShows after gap 5 gap
-  other : {after : Bool} {n : ℕ} (gap : List ℕ) {run rest text : List ℕ} → T (all blank gap) → RunBefore rest run → T (not (isWord run)) → TextShows false rest n text
-      → TextShows after (gap ++ (run ++ rest)) n (gap ++ (run ++ text))
-  word : {n m : ℕ} (gap : List ℕ) {run rest added text : List ℕ} → T (all blank gap) → RunBefore rest run → WordShows run n added → TextShows true rest m text
-      → TextShows false (gap ++ (run ++ rest)) (min n m) (gap ++ (added ++ text))
-  adjacent : {n m : ℕ} (gap : List ℕ) {run rest added text : List ℕ} → T (all blank gap) → RunBefore rest run → WordShows run n added → TextShows true rest m text
-      → TextShows true (gap ++ (run ++ rest)) (min n m) (added ++ text)
+  other : {after : Bool} {n : ℕ} (gap : List ℕ) {run rest text : List ℕ} → T (all blank gap) → RunBefore rest run → T (not (isWord run))
+      → TextShows false rest n text → TextShows after (gap ++ (run ++ rest)) n (gap ++ (run ++ text))
+  word : {n m : ℕ} (gap : List ℕ) {run rest added text : List ℕ} → T (all blank gap) → RunBefore rest run → WordShows run n added
+      → TextShows true rest m text → TextShows false (gap ++ (run ++ rest)) (min n m) (gap ++ (added ++ text))
+  adjacent : {n m : ℕ} (gap : List ℕ) {run rest added text : List ℕ} → T (all blank gap) → RunBefore rest run → WordShows run n added
+      → TextShows true rest m text → TextShows true (gap ++ (run ++ rest)) (min n m) (added ++ text)
 
 -- ---- the field
 

@@ -1,30 +1,29 @@
 -- What a field is shown as by the grammar is what code shows, and nothing else. Assumes nothing.
 use mathlib.Core.Path.{_≡_, refl, ap, sym, _∙_}
-use mathlib.Core.Bool.{Bool, true, false, not, cond, _||_}
+use mathlib.Core.Bool.{Bool, true, false, not, cond}
 use mathlib.Core.List.{List, [], _∷_, _++_, append-assoc, append-nil}
-use Prim.Native.Nat.{ℕ, zero, suc, _+_, _≤_, _<_, min}
-use native.Mathlib.Nat.{add-zero}
+use Prim.Native.Nat.{ℕ, zero, suc, _≤_, _<_, min}
 use native.Mathlib.Omega.{arith}
-use lib.Dec.{T, T-not, eqb, leb, ltb, eqb→eq}
-use lib.ListN.{length, take, drop, getD, length-append, length-drop, length-take, take-append-drop, drop-of-length-le}
-use lib.Seq.{drop-drop, take-all, getD-drop, length-take-le}
+use lib.Dec.{T, T-not, eqb, leb, ltb}
+use lib.ListN.{length, take, drop, getD, length-drop, take-append-drop}
+use lib.Seq.{drop-drop, take-all, length-take-le}
 use borrow.Author.Tests.{ne-eqb}
 use mir.Facts.{and-yes, yes-and, leb-yes, leb-no, ltb-yes, ltb-no, eqb-no}
 use Rattle.lists.specs.Lists.{all}
-use Rattle.lists.specs.ListsLaws.{by-test, yes-true, no-false, true-yes, all-left, all-right, all-weaken}
+use Rattle.lists.specs.ListsLaws.{by-test, yes-true, no-false, all-left, all-right, all-weaken}
 use Rattle.lists.specs.Run.{run}
-use Rattle.lists.specs.RunLaws.{run-le, run-all, run-after}
+use Rattle.lists.specs.RunLaws.{run-le, run-all}
 use Rattle.line.specs.Line.{blank}
 use Rattle.header.specs.Fields.{valueOf, textOf}
 use Rattle.header.specs.FieldShape.{withoutBreaks}
-use Rattle.word_reader.specs.Word.{isWord, added}
+use Rattle.word_reader.specs.Word.{isWord}
 use Rattle.word_grammar.specs.WordGrammar.{WordShows}
 use Rattle.word_grammar.specs.WordGrammarLaws.{word-shows, shows-word}
 use Rattle.downgraded_field.specs.declared.FieldRead.{FieldRead}
-use Rattle.downgraded_field.specs.declared.FieldRead.the-variants.{Text, Malformed, Word, Charset, NotUtf8}
+use Rattle.downgraded_field.specs.declared.FieldRead.the-variants.{Text, Malformed}
 use Rattle.downgraded_field.specs.Shown.{isFormed, spacing, solid, Turn, turnSize, turnAt, turnsOf, turnText, shown, wordNumber, turnNumber, lowest, fieldTurns, fieldText, ofNumber, fieldRead}
 use Rattle.downgraded_field.specs.ShownLaws.{turnOf, turns-front, turns-nil, low}
-use Rattle.reader_grammar.specs.FieldGrammar.{RunBefore, TextShows, FieldLines, FieldShows}
+use Rattle.reader_grammar.specs.FieldGrammar.{RunBefore, TextShows, FieldShows}
 use Rattle.reader_grammar.specs.FieldLinesLaws.{lines-taken, lines-found}
 use Rattle.reader_grammar.specs.TurnLaws.{Follows, turn-cut, turn-last}
 use Rattle.reader_grammar.specs.FoldLaws.{Folded, noBreak, solid-not-blank, breaks-append, solid-breaks, blank-breaks, gap-blank, breaks-none, folded-run, folded-follows, after-gap, value-folded, folded-start, text-is}

@@ -1,6 +1,6 @@
 -- The lines of a field by the grammar are those that code takes. Assumes nothing.
 use mathlib.Core.Path.{_≡_, refl, ap, sym, _∙_}
-use mathlib.Core.Bool.{Bool, true, false, not, _&&_, _||_}
+use mathlib.Core.Bool.{Bool, true, false, _&&_, _||_}
 use mathlib.Core.List.{List, [], _∷_, _++_, append-assoc}
 use Prim.Native.Nat.{ℕ, zero, suc, _+_, _≤_, _<_}
 use native.Mathlib.Nat.{add-zero}
@@ -10,7 +10,7 @@ use lib.ListN.{length, take, drop, getD, length-append, length-drop, take-append
 use lib.Seq.{take-at, drop-at, drop-drop, getD-take, length-take-le}
 use mir.Facts.{and-yes, yes-and}
 use Rattle.lists.specs.Lists.{all}
-use Rattle.lists.specs.ListsLaws.{yes-true, true-yes, all-weaken}
+use Rattle.lists.specs.ListsLaws.{all-weaken}
 use Rattle.lists.specs.Byte.{within}
 use Rattle.lists.specs.ByteLaws.{within-low}
 use Rattle.lists.specs.Run.{run}

@@ -1,7 +1,7 @@
 -- A value with its folds: what it is without its CR and LF, and which parts of it are such values again. Assumes nothing.
 use mathlib.Core.Path.{_≡_, refl, ap, sym, _∙_}
-use mathlib.Core.Bool.{Bool, true, false, not, cond, _&&_, _||_, and-false}
-use mathlib.Core.List.{List, [], _∷_, _++_, append-assoc}
+use mathlib.Core.Bool.{Bool, true, false, not, _&&_, _||_, and-false}
+use mathlib.Core.List.{List, [], _∷_, _++_}
 use Prim.Native.Nat.{ℕ, zero, suc, _+_, _-_, _≤_, _<_}
 use native.Mathlib.Nat.{not-suc-le-zero, add-zero}
 use native.Mathlib.Omega.{arith}
@@ -13,7 +13,7 @@ use Rattle.lists.specs.Lists.{all}
 use Rattle.lists.specs.ListsLaws.{by-test, cond-has, yes-true, no-false}
 use Rattle.lists.specs.Byte.{within}
 use Rattle.lists.specs.Run.{run}
-use Rattle.lists.specs.RunLaws.{run-all, run-after, run-past, run-le}
+use Rattle.lists.specs.RunLaws.{run-all, run-after, run-past}
 use Rattle.utf8.specs.Utf8.{utf8}
 use Rattle.line.specs.Line.{blank, crlf, lineLen}
 use Rattle.line.specs.LineLaws.{line-le}
@@ -34,9 +34,6 @@ line-not-break b t =
 no-break : (a b : Bool) → a || b ≡ false → (a ≡ false) × (b ≡ false)
 no-break true b e = (e, absurd (let z : _≡_ {A = ℕ} 0 1 = cc in omega arith))
 no-break false b e = (refl, e)
-
-line-not-cr : (b : ℕ) → T (lineByte b) → eqb b 13 ≡ false
-line-not-cr b t = no-break (eqb b 13) (eqb b 10) (line-not-break b t) .0
 
 cr-no-line : (b : ℕ) → b ≡ 13 → T (lineByte b) → ⊥
 unfolding lineByte

@@ -1,25 +1,21 @@
 -- What a call of the reader answers and leaves is what the rules give, and nothing else. Assumes nothing.
 use mathlib.Core.Path.{_≡_, refl, ap, sym, _∙_}
-use mathlib.Core.Bool.{Bool, true, false, cond}
-use mathlib.Core.List.{List, [], _∷_}
+use mathlib.Core.List.{List, []}
 use Prim.Native.Nat.{ℕ, _+_, _≤_, _<_}
 use native.Mathlib.Omega.{arith}
-use lib.Dec.{T, eqb, leb, ltb, eqb→eq}
+use lib.Dec.{eqb, leb, ltb, eqb→eq}
 use lib.ListN.{length, drop}
-use borrow.Author.Tests.{ne-eqb, lt-ltb, le-ltb, le-leb, lt-leb}
+use borrow.Author.Tests.{lt-ltb, le-ltb, le-leb, lt-leb}
 use mir.Facts.{ltb-yes, ltb-no, leb-yes, leb-no, eqb-no}
-use Rattle.lists.specs.ListsLaws.{by-test, yes-true, no-false}
-use Rattle.buffer.specs.Buffer.{overlay}
+use Rattle.lists.specs.ListsLaws.{by-test}
 use Rattle.header.specs.Fields.{fieldLen}
 use Rattle.downgraded_field.specs.declared.FieldRead.{FieldRead}
-use Rattle.downgraded_field.specs.declared.FieldRead.the-variants.{Text as FieldText, Malformed as FieldMalformed}
 use Rattle.downgraded_field.specs.Shown.{fieldRead, fieldText, ofNumber}
 use Rattle.downgraded_reader.specs.declared.Found.{Found}
-use Rattle.downgraded_reader.specs.declared.Found.the-variants.{Text, Room, Nothing}
 use Rattle.downgraded_reader.specs.Reader.{fieldStart, fieldAt, ofField, reading, leftBy, bufferAfter, numberOf, startOf, nextOf, lengthOf, Outcome, outcome}
 use Rattle.reader_grammar.specs.FieldGrammar.{FieldShows}
 use Rattle.reader_grammar.specs.FieldGrammarLaws.{readOf, text-range, field-shown, field-read}
-use Rattle.reader_grammar.specs.ReaderGrammar.{FieldBegins, FirstField, Reads}
+use Rattle.reader_grammar.specs.ReaderGrammar.{FirstField, Reads}
 use Rattle.reader_grammar.specs.StartLaws.{field-inside, start-up, start-begins, start-first, start-none, first-once}
 
 -- a refusal's number

@@ -1,19 +1,18 @@
 -- The field that the reader finds is the first one begun at the place or later. Assumes nothing.
-use mathlib.Core.Path.{_≡_, refl, ap, sym, _∙_}
-use mathlib.Core.Bool.{Bool, true, false, not, cond, _&&_, _||_}
+use mathlib.Core.Path.{_≡_, refl}
+use mathlib.Core.Bool.{Bool, true, false, not, cond}
 use mathlib.Core.List.{List, [], _∷_}
 use Prim.Native.Nat.{ℕ, zero, suc, _+_, _-_, _≤_, _<_}
-use native.Mathlib.Nat.{not-suc-le-zero, add-zero}
+use native.Mathlib.Nat.{not-suc-le-zero}
 use native.Mathlib.Omega.{arith}
 use lib.Dec.{T, eqb, leb, ltb, eqb→eq}
-use lib.ListN.{length, take, drop, getD, length-drop, drop-of-length-le}
-use lib.Seq.{drop-drop, getD-drop}
-use borrow.Author.Tests.{ne-eqb}
+use lib.ListN.{length, take, drop, getD, length-drop}
+use lib.Seq.{drop-drop}
 use mir.Facts.{and-yes, leb-yes, leb-no, ltb-yes, ltb-no, eqb-no}
-use Rattle.lists.specs.ListsLaws.{by-test, cond-has, yes-true, no-false, true-yes}
+use Rattle.lists.specs.ListsLaws.{by-test, cond-has, yes-true, no-false}
 use Rattle.letter_case.specs.LetterCase.{bytes, lower, sameAnyCase}
 use Rattle.line.specs.Line.{blank, crlf, lineLen}
-use Rattle.line.specs.LineLaws.{line-none, crlf-inside, crlf-at}
+use Rattle.line.specs.LineLaws.{crlf-inside, crlf-at}
 use Rattle.downgraded_reader.specs.Reader.{isDowngraded, firstLine, toFieldAfter, fieldStart}
 use Rattle.downgraded_reader.specs.ReaderLaws.{to-next, to-here, line-up}
 use Rattle.reader_grammar.specs.ReaderGrammar.{LineBegins, FieldBegins, FirstField}

@@ -1,8 +1,8 @@
 use native.Mathlib.Omega.{arith}
 use borrow.Author.Needs.{needs}
 use Rattle.read_back.specs.CallsLaws.{Going, going-start, going-size, going-on, going-end}
-use Rattle.read_back.proofs.read_number.Statement.{statement}
-use Rattle.read_back.proofs.read_number.Tie as tie
+use Rattle.read_back.proofs.numbered.read_number.Statement.{statement}
+use Rattle.read_back.proofs.numbered.read_number.Tie as tie
 
 abbrev Inv-loop : tie.InvT-loop
 Inv-loop header k text₀ place₀ left₀ text place left = Going header k text₀ place left text
