@@ -28,6 +28,7 @@ smtp unix - - n - - smtp
 error unix - - n - - error
 retry unix - - n - - error
 anvil unix - - n - 1 anvil
+scache unix - - n - 1 scache
 postlog unix-dgram n - n - 1 postlogd
 """
 
@@ -55,6 +56,13 @@ disable_dns_lookups = yes
 """
 
 
+def once(settings):
+    """Settings with the last value for each name alone. For one that stands twice every program of Postfix warns when it starts: under maillog_file
+    postlogd would then wait for room in the queue that only it empties."""
+    lines = [line.partition("=") for line in settings.splitlines() if "=" in line and not line.startswith("#")]
+    return "".join(f"{name.strip()} = {value.strip()}\n" for name, value in {name.strip(): value for name, _, value in lines}.items())
+
+
 def free_port():
     with socket.socket() as s:
         s.bind(("127.0.0.1", 0))
@@ -72,7 +80,7 @@ class Instance:
             (self.folder / part).mkdir(parents=True)
         subprocess.run(["chown", "postfix", self.folder / "data"], check=True)
         values = {"folder": self.folder, "name": name, "port": port}
-        (self.etc / "main.cf").write_text(SETTINGS.format(**values) + settings)
+        (self.etc / "main.cf").write_text(once(SETTINGS.format(**values) + settings))
         (self.etc / "master.cf").write_text(SERVICES.format(**values) + services)
 
     def run(self, *command, check=True, seconds=30):
