@@ -91,7 +91,11 @@ class Instance:
             out, errors = child.communicate(timeout=seconds)
         except subprocess.TimeoutExpired:
             os.killpg(child.pid, signal.SIGKILL)
-            out, errors = child.communicate(timeout=seconds)
+            child.wait()
+            # Not read to their end: a `master -t` in a session of its own may hold them.
+            child.stdout.close()
+            child.stderr.close()
+            out = errors = ""
             self.stuck += 1
         done = subprocess.CompletedProcess(command, child.returncode, out, errors)
         if check:
