@@ -28,11 +28,11 @@ smtp unix - - n - - smtp
 error unix - - n - - error
 retry unix - - n - - error
 anvil unix - - n - 1 anvil
-scache unix - - n - 1 scache
 postlog unix-dgram n - n - 1 postlogd
 """
 
-# Nothing of a message is changed on the way, and nothing outside the folder is used.
+# Nothing of a message is changed on the way, nothing outside the folder is used, and each message has a connection of its own, as servers of the tests
+# have it.
 SETTINGS = """\
 compatibility_level = 3.6
 queue_directory = {folder}/queue
@@ -53,6 +53,7 @@ notify_classes =
 smtpd_client_connection_rate_limit = 0
 smtpd_client_event_limit_exceptions = 127.0.0.0/8
 disable_dns_lookups = yes
+smtp_connection_cache_on_demand = no
 """
 
 
