@@ -56,9 +56,9 @@ extern "C" {
 
 /*
  * The most stack that one call uses, in bytes. Frames have a fixed size. One
- * function calls itself, for comments inside comments, at most 256 times however
- * deep they are. Measured, not proved: about 121,000 bytes (`make -C relay
- * stack`).
+ * function calls itself, for comments inside comments: at most 256 times,
+ * however deep they are. Measured, not proved: about 121,000 bytes
+ * (`make -C relay stack`).
  */
 #define HENNELAKU_STACK 131072
 
