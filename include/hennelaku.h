@@ -56,18 +56,19 @@ extern "C" {
 #define HENNELAKU_HEADER_ROOM_MAX 2642040
 
 /*
- * Stack that one call uses at most, in bytes: frames have a fixed size, and no
- * function calls itself but one for comments inside comments, 256 levels at
- * most, however deep they are. This is measured, not proved: about 121,000
- * bytes (`make -C relay stack`).
+ * The most stack that one call uses, in bytes. Frames have a fixed size. One
+ * function calls itself, for comments inside comments: at most 256 times,
+ * however deep they are. Measured, not proved: about 121,000 bytes
+ * (`make -C relay stack`).
  */
 #define HENNELAKU_STACK 131072
 
 /*
- * The numbers of the answers. Where two conditions hold, the one that is
- * looked for first is told: 1 (envelope, then header); 2, 3 and 4, or in a
- * current message 2, 3 and 10, as the first envelope line at fault, the lowest
- * number within one line; the first 5; 6, the envelope before the header; 7; 8.
+ * The numbers of the answers. Where several conditions hold, the first in this
+ * order is answered: 1, for the envelope, then for the header; 2, 3, 4 and 10,
+ * by the first envelope line at fault, and within that line by the lowest
+ * number; 5, by the first header line at fault; 6, for the envelope, then for
+ * the header; 7; 8.
  *
  * Lines count from 0, each from the start of the envelope or of the header; a
  * continuation line of a header counts as a line.
@@ -320,7 +321,7 @@ typedef struct hennelaku_mailbox_answer {
  *                 phrase, the address in encoded words and `:;`; a group with
  *                 such a member its phrase, all between its colon and its
  *                 semicolon in encoded words and `:;`. No Downgraded- field
- *                 follows; only a text that is no list of addresses, or that
+ *                 follows; only a text that is not a list of addresses, or that
  *                 has an inner alternative, is put into one
  *     Message-ID Resent-Message-ID In-Reply-To References: where non-ASCII
  *                 stands outside comments, Downgraded- before the name, all of
@@ -341,7 +342,7 @@ hennelaku_mailbox_answer hennelaku_downgrade_mailbox(
 
 /*
  * The numbers of the reader's answers. Of the refusals, 1 to 5, the lowest that
- * holds of the whole field is told.
+ * holds of the whole field is answered.
  */
 enum hennelaku_read_number {
     /* The text stands in the buffer. */
