@@ -1,14 +1,10 @@
 -- Laws of the outcome where the input is accepted: measured, then written. Assumes nothing.
 use mathlib.Core.Path.{_≡_, refl, sym, ap, _∙_}
-use mathlib.Core.Bool.{true}
 use mathlib.Core.List.{List, [], _∷_, _++_}
-use Prim.Native.Nat.{ℕ, _+_, _-_, _*_, _≤_, _<_, min}
+use Prim.Native.Nat.{ℕ, _+_, _*_, _≤_, _<_, min}
 use native.Mathlib.Omega.{arith}
-use lib.Dec.{leb}
 use lib.ListN.{length, length-append}
-use mir.Facts.{leb-yes}
 use borrow.Author.Tests.{lt-ltb, le-ltb}
-use Rattle.lists.specs.ListsLaws.{true-yes}
 use Rattle.buffer.specs.Buffer.{Wrote, AppendedCapped, greatest}
 use Rattle.buffer.specs.BufferLaws.{capped-then, capped-same, wrote-of}
 use Rattle.letter_case.specs.LetterCase.{bytes}
@@ -147,11 +143,12 @@ last-accepted Accept Accept (Refuse r) k = k
 last-accepted Accept (Refuse r) v k = absurd (let z : _≡_ {A = ℕ} 0 1 = cc in omega arith)
 last-accepted (Refuse r) b v k = absurd (let z : _≡_ {A = ℕ} 0 1 = cc in omega arith)
 
--- no header line is malformed, and no ORCPT and no held field carries non-ASCII
-pub record Accepted (rules : Rules) (e h : List ℕ) : Type 0 where
+-- no header line is malformed, and no ORCPT and no held field carries non-ASCII; and this is the most of the header
+pub record Accepted (rules : Rules) (e h : List ℕ) (most : ℕ) : Type 0 where
   pub content : firstOf (ofHeader (ofLines h (checkedLines h)) ∷ ofOrcpt e (orcptLine e) ∷ ofHeader (ofHeld h (heldOf rules h)) ∷ []) ≡ Accept
+  pub greatest : most ≡ mostOf rules h
 
-accepted-lines : {rules : Rules} {e h : List ℕ} → Accepted rules e h → checkedLines h ≡ WellFormed
+accepted-lines : {rules : Rules} {e h : List ℕ} {most : ℕ} → Accepted rules e h most → checkedLines h ≡ WellFormed
 unfolding firstOf ofLines ofHeader
 accepted-lines {rules} {e} {h} ok = go (checkedLines h) refl (ok .content)
   where
@@ -159,7 +156,7 @@ accepted-lines {rules} {e} {h} ok = go (checkedLines h) refl (ok .content)
     go WellFormed q k = q
     go (Malformed line at) q k = absurd (let z : _≡_ {A = ℕ} 0 1 = cc in omega arith)
 
-accepted-none : {rules : Rules} {e h : List ℕ} → Accepted rules e h → heldOf rules h ≡ Absent
+accepted-none : {rules : Rules} {e h : List ℕ} {most : ℕ} → Accepted rules e h most → heldOf rules h ≡ Absent
 unfolding ofHeld ofHeader
 accepted-none {rules} {e} {h} ok = by-held (heldOf rules h) refl (last-accepted (ofHeader (ofLines h (checkedLines h))) (ofOrcpt e (orcptLine e)) (ofHeader (ofHeld h (heldOf rules h))) (ok .content))
   where
@@ -216,13 +213,15 @@ header-wrote rules {mail} {rcpt} {h} s p room a b d =
 
 -- ---- room
 
+-- no sum with the most wraps
+pub most-small : {rules : Rules} {h : List ℕ} {n : ℕ} → PassedHeader rules h → n ≡ mostOf rules h → n ≤ 2621440
+most-small {rules} {h} p e = rw e (most-le rules h (p .short))
+
 -- a room that holds the most of a header, and that of the new first fields
-pub ample : {rules : Rules} {mail rcpt h : List ℕ} {room : ℕ} → Short mail rcpt → PassedHeader rules h → 20600 ≤ room → leb (mostOf rules (limited h)) (room - 20600) ≡ true
+pub ample : {rules : Rules} {mail rcpt h : List ℕ} {room n : ℕ} → Short mail rcpt → PassedHeader rules h → n ≡ mostOf rules h → n + 20600 ≤ room
     → Needed (length (headerOf rules mail rcpt h)) room 0
 unfolding newFieldsMost
-ample {rules} {h = h} {room} s p k e =
-    let most : mostOf rules h ≤ room - 20600 = leb-yes (true-yes (leb (mostOf rules h) (room - 20600)) (rw (limited-short h (p .short)) at e)) in
-    needed-none (omega (arith, header-of-le rules h s (p .lines), most))
+ample {rules} {h = h} s p e k = needed-none (omega (arith, header-of-le rules h s (p .lines), e))
 
 -- these are the texts of the new first fields
 pub record Texts (e mail rcpt : List ℕ) : Type 0 where
@@ -293,12 +292,12 @@ module _ {rules : Rules} {e h array : List ℕ} {count : ℕ} (r : Ready rules e
   pub ready-short : {mail rcpt : List ℕ} → Texts e mail rcpt → Short mail rcpt
   ready-short t = record { of-mail = rw (t .of-mail) mail-short; of-rcpt = rw (t .of-rcpt) (omega (arith, rcpt-replacement-short rules e count (r .passed))) }
 
-  pub ready-passed : Accepted rules e h → PassedHeader rules h
+  pub ready-passed : {most : ℕ} → Accepted rules e h most → PassedHeader rules h
   ready-passed ok = record { short = r .short₂; lines = accepted-lines ok; none = accepted-none ok }
 
   -- ---- room
 
-  module _ (ok : Accepted rules e h) (b c : List ℕ) where
+  module _ {most : ℕ} (ok : Accepted rules e h most) (b c : List ℕ) where
     past-content : verdict rules e h (length b) (length c)
         ≡ firstOf
         (over (length b) (length (written e)) (EnvelopeNeeds (length (written e)))

@@ -95,7 +95,9 @@ fn refused(number_and_words: &[u8], line: usize) {
 }
 
 fn show_well_formed(h: &[u8]) {
-    match outgoing_field::first_held(Rules::Spool, h) {
+    let looked = outgoing_field::first_held(Rules::Spool, h);
+    let held = looked.held;
+    match held {
         HeldField::Absent => show_fields(h),
         HeldField::At(line, _) => refused(b"6 at line ", line),
     }

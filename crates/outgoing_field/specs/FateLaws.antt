@@ -326,7 +326,7 @@ unheld-field rules field e =
     let method = methodOf rules (kindOf (nameOf field)) in
     by-tests (all isAscii (valueOf field)) (holds method field) (raw field ∷ []) (methodWritten rules method field) e
 
-found-none : {line at : ℕ} → At line at ≡ Absent → ⊥
+pub found-none : {line at : ℕ} → At line at ≡ Absent → ⊥
 found-none e = let z : _≡_ {A = ℕ} 0 1 = cc in omega arith
 
 unheld-fields : (rules : Rules) (h : List ℕ) (at : ℕ) (fields : List (List ℕ)) → heldFrom rules h at fields ≡ Absent

@@ -1,19 +1,18 @@
 -- Laws of the most that is written for a header: by its length, and as code adds it up. Assumes nothing.
 use mathlib.Core.Path.{_≡_, refl, sym, ap, _∙_}
-use mathlib.Core.Bool.{true, false}
+use mathlib.Core.Bool.{Bool, true, false}
 use mathlib.Core.List.{List, [], _∷_, _++_}
 use Prim.Native.Nat.{ℕ, _+_, _-_, _*_, _≤_, _<_}
 use native.Mathlib.Omega.{arith}
-use lib.Dec.{T, leb}
+use lib.Dec.{T}
 use lib.ListN.{length, take, drop, length-append, length-take, length-drop, drop-of-length-le}
 use mir.Facts.{and-yes}
-use borrow.Author.Tests.{le-leb, lt-leb}
 use Rattle.lists.specs.Byte.{isAscii}
 use Rattle.lists.specs.Lists.{all, joined}
 use Rattle.lists.specs.ListsLaws.{cond-has, yes-true}
 use Rattle.rules.specs.declared.Rules.{Rules}
 use Rattle.header_line.specs.Lines.{nameLen}
-use Rattle.header.specs.Fields.{fieldLen, fieldsOf, nameOf, valueOf}
+use Rattle.header.specs.Fields.{fieldLen, fieldsOf, nameOf, valueOf, lineCount}
 use Rattle.header.specs.FieldLaws.{fields-nil, fields-next, fields-joined, name-part}
 use Rattle.header.specs.AsciiFieldsLaws.{AsciiFields, value-ascii}
 use Rattle.header_name.specs.Names.{kindOf}
@@ -21,9 +20,10 @@ use Rattle.header_name.specs.declared.Kind.{Kind}
 use Rattle.field_method.specs.declared.Method.{Method}
 use Rattle.field_method.specs.declared.Method.the-variants.{Pieces, PlainText, Encapsulated, Received, CommentsOrHeld, CommentsOrEncapsulated, Parameters, Held}
 use Rattle.field_method.specs.FieldMethod.{methodOf}
-use Rattle.outgoing_field.specs.Fate.{limited}
-use Rattle.outgoing_field.specs.FateLaws.{limitedLen, limited-part, limited-size}
-use Rattle.outgoing_field.specs.Most.{methodMost, fieldMost, fieldsMost, mostOf}
+use Rattle.outgoing_field.specs.declared.HeldField.the-variants.{Absent, At}
+use Rattle.outgoing_field.specs.Fate.{fateOf, isHeld}
+use Rattle.outgoing_field.specs.FateLaws.{HeldLeft, held-all, held-skip, held-end, held-here, held-next, found-none}
+use Rattle.outgoing_field.specs.Most.{methodMost, fieldMost, fieldsMost, mostOf, LookedAt}
 
 -- ---- by the length
 
@@ -115,17 +115,29 @@ most-skip {rules} {h} {at} {r} {n} g k p =
     let size : length (joined (p .passed)) ≡ r - at = rw (p .bytes, length-take, length-drop) (omega (arith, p .up, p .inside k)) in
     record { same = g .same ∙ rw (p .fields, most-past rules (p .passed) (fieldsOf (drop r h)) (p .ascii), size) (omega arith) }
 
--- ---- whether a room holds it
+-- ---- both found by one walk
 
-module _ (rules : Rules) (h : List ℕ) {end : ℕ} (e : end ≡ limitedLen (length h)) where
-  size-limited : length (limited h) ≡ end
-  size-limited = sym (limited-size h end e ∙ ap length (limited-part h end e))
+pub record Looking (rules : Rules) (h : List ℕ) (at n : ℕ) : Type 0 where
+  pub left : HeldLeft rules h at
+  pub to : MostTo rules h at n
 
-  pub ample-any : {room : ℕ} → 80 * end ≤ room → true ≡ leb (mostOf rules (limited h)) room
-  ample-any {room} k = sym (le-leb (mostOf rules (limited h)) room (omega (arith, size-limited, between rules (limited h) .greatest)))
+pub looking-start : (rules : Rules) (h : List ℕ) → Looking rules h 0 0
+looking-start rules h = record { left = held-all rules h; to = most-start rules h }
 
-  pub scant-any : {room : ℕ} → room < 30 * end → false ≡ leb (mostOf rules (limited h)) room
-  scant-any {room} k = sym (lt-leb (mostOf rules (limited h)) room (omega (arith, size-limited, between rules (limited h) .least)))
+pub looking-small : {rules : Rules} {h : List ℕ} {at n : ℕ} → Looking rules h at n → length h ≤ 32768 → n ≤ 2621440
+looking-small g k = most-small (g .to) k
 
-  pub ample-most : (room : ℕ) {n : ℕ} → n ≡ mostOf rules (take end h) → leb n room ≡ leb (mostOf rules (limited h)) room
-  ample-most room q = rw (q, limited-part h end e)
+pub looking-skip : {rules : Rules} {h : List ℕ} {at r n : ℕ} → Looking rules h at n → at ≤ length h → AsciiFields h at r → Looking rules h r (n + 30 * (r - at))
+looking-skip g k p = record { left = held-skip (g .left) k p; to = most-skip (g .to) k p }
+
+pub looking-end : {rules : Rules} {h : List ℕ} {at n : ℕ} → Looking rules h at n → length h ≤ at → LookedAt rules h Absent n
+looking-end g k = record { first = held-end (g .left) k; greatest = λ e. most-end (g .to) k }
+
+module _ {rules : Rules} {h : List ℕ} {at to n : ℕ} (g : Looking rules h at n) (k : at < length h) (e : to ≡ at + fieldLen (drop at h)) {held : Bool} (q : held ≡ isHeld (fateOf rules (take (to - at) (drop at h)))) where
+  pub looking-here : (most : ℕ) {line : ℕ} → held ≡ true → line ≡ lineCount (take (at - 0) h) → LookedAt rules h (At line at) most
+  looking-here most {line} t l =
+      let here = held-here (g .left) k e (sym q ∙ t) line l in
+      record { first = here; greatest = λ z. absurd (found-none (here ∙ z)) }
+
+  pub looking-next : {m : ℕ} → held ≡ false → m ≡ fieldMost rules (take (to - at) (drop at h)) → Looking rules h to (n + m)
+  looking-next t w = record { left = held-next (g .left) k e (sym q ∙ t); to = most-next (g .to) k e w }

@@ -1,12 +1,10 @@
 // What becomes of the fields of a header: the first that is held, and what is written for the others.
 mod held;
-mod most;
 mod writer;
 
 ghost use mathlib.Core.Path.{_≡_};
 ghost use Rattle.outgoing_field.specs.FateLaws.{limitedLen};
 pub use held::first_held;
-pub use most::is_ample;
 pub use writer::add_field;
 pub use writer::add_fields;
 
@@ -17,6 +15,12 @@ const LIMIT: usize = 32768;
 pub enum HeldField {
     Absent,
     At(usize, usize),
+}
+
+// What was found in a header: the first held field; where none is, the most bytes that are written for it.
+pub struct Looked {
+    pub held: HeldField,
+    pub most: usize,
 }
 
 // How many of n bytes count.

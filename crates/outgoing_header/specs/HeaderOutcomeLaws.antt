@@ -6,10 +6,10 @@ use Prim.Native.Nat.{ℕ, _*_, _≤_, _<_}
 use native.Mathlib.Omega.{arith}
 use native.Mathlib.Nat.{not-suc-le-zero}
 use lib.ListN.{length}
-use lib.Dec.{ltb, leb}
-use mir.Facts.{ltb-yes, ltb-no, leb-yes}
+use lib.Dec.{ltb}
+use mir.Facts.{ltb-yes, ltb-no}
 use borrow.Author.Tests.{lt-ltb, le-ltb}
-use Rattle.lists.specs.ListsLaws.{by-test, true-yes}
+use Rattle.lists.specs.ListsLaws.{by-test}
 use Rattle.buffer.specs.Buffer.{Wrote, AppendedCapped}
 use Rattle.buffer.specs.BufferLaws.{wrote-of}
 use Rattle.encoded_word.specs.Segments.{rendered}
@@ -21,14 +21,18 @@ use Rattle.outgoing_field.specs.declared.HeldField.{HeldField}
 use Rattle.outgoing_field.specs.declared.HeldField.the-variants.{Absent, At}
 use Rattle.outgoing_field.specs.Fate.{segmentsOf, headerWritten, limited, heldOf}
 use Rattle.outgoing_field.specs.FateLaws.{limited-short, unheld-header}
-use Rattle.outgoing_field.specs.Most.{mostOf}
+use Rattle.outgoing_field.specs.Most.{mostOf, LookedAt}
 use Rattle.outgoing_field.specs.MostLaws.{most-le}
 use Rattle.outgoing_field.specs.OwedLaws.{owed-header}
+use Rattle.offset.specs.Offset.{fieldOffset}
 use Rattle.outgoing_header.specs.declared.HeaderRefusal.{HeaderRefusal}
-use Rattle.outgoing_header.specs.declared.HeaderRefusal.the-variants.{Over, Needs}
+use Rattle.outgoing_header.specs.declared.HeaderRefusal.the-variants.{Over, Held, Needs}
 use Rattle.outgoing_header.specs.declared.HeaderVerdict.{HeaderVerdict}
 use Rattle.outgoing_header.specs.declared.HeaderVerdict.the-variants.{Accept, Refuse}
 use Rattle.outgoing_header.specs.declared.HeaderAnswer.{HeaderAnswer}
+use Rattle.outgoing_header.specs.declared.HeaderContent.{HeaderContent}
+use Rattle.outgoing_header.specs.declared.HeaderContent.the-variants.{Passes, Fails}
+use Rattle.outgoing_header.specs.HeaderContent.{withMost}
 use Rattle.outgoing_header.specs.HeaderOutcome.{numberOf, placeOf, offsetOf, ofSize, ofLines, ofHeld, ofRoom, firstOf, headerOut, headerVerdict, headerOutcomeOf, headerOutcome, headerObserved}
 
 -- what a refused header is answered
@@ -86,10 +90,35 @@ module _ {rules : Rules} {h : List ℕ} (p : Passed rules h) where
   out-wrote a = wrote-of (rw (limited-short h (p .short), ← (unheld-header rules h (p .none))) at a) (omega (arith, out-le, most-le rules h (p .short)))
 
   -- a room that holds the most
-  pub ample : {room : ℕ} → leb (mostOf rules (limited h)) room ≡ true → Needed (length (headerOut rules h)) room 0
-  ample {room} e =
-      let k : mostOf rules h ≤ room = leb-yes (true-yes (leb (mostOf rules h) room) (rw (limited-short h (p .short)) at e)) in
-      needed-none (omega (arith, out-le, k))
+  pub ample : {room n : ℕ} → n ≡ mostOf rules h → n ≤ room → Needed (length (headerOut rules h)) room 0
+  ample e k = needed-none (omega (arith, out-le, e))
+
+-- ---- a verdict with the most
+
+-- what tells a verdict that passes, or fails
+pub with-passes : (v : HeaderVerdict) (n : ℕ) {m : ℕ} → withMost v n ≡ Passes m → (v ≡ Accept) × (m ≡ n)
+unfolding withMost
+with-passes Accept n {m} e = (refl, let k : m ≡ n = cc in k)
+with-passes (Refuse refusal) n e = absurd (let z : _≡_ {A = ℕ} 0 1 = cc in omega arith)
+
+pub with-fails : (v : HeaderVerdict) (n : ℕ) {refusal : HeaderRefusal} → withMost v n ≡ Fails refusal → v ≡ Refuse refusal
+unfolding withMost
+with-fails Accept n e = absurd (let z : _≡_ {A = ℕ} 0 1 = cc in omega arith)
+with-fails (Refuse r) n {refusal} e = let k : r ≡ refusal = cc in ap Refuse k
+
+-- a walk that found no held field, or one
+module _ {rules : Rules} (h : List ℕ) {s : List ℕ} {held : HeldField} {most : ℕ} (l : LookedAt rules s held most) where
+  pub held-absent : held ≡ Absent → Passes most ≡ withMost (ofHeld h (heldOf rules s)) (mostOf rules s)
+  unfolding withMost ofHeld
+  held-absent e =
+      let none : heldOf rules s ≡ Absent = sym (l .first) ∙ e in
+      rw (none, l .greatest none)
+
+  pub held-found : {line at n : ℕ} → held ≡ At line at → n ≡ fieldOffset h at → Fails (Held line n) ≡ withMost (ofHeld h (heldOf rules s)) (mostOf rules s)
+  unfolding withMost ofHeld
+  held-found {line} {at} e k =
+      let found : heldOf rules s ≡ At line at = sym (l .first) ∙ e in
+      rw (found, k)
 
 -- ---- refusals
 
@@ -110,18 +139,18 @@ first-one Accept = refl
 first-one (Refuse refusal) = refl
 
 module _ (rules : Rules) (h : List ℕ) where
-  pub over-content : 32768 < length h → Refuse Over ≡ firstOf (ofContent rules h)
-  unfolding firstOf
-  over-content k = rw (size-over h k)
+  pub over-content : (n : ℕ) → 32768 < length h → Fails Over ≡ withMost (firstOf (ofContent rules h)) n
+  unfolding firstOf withMost
+  over-content n k = rw (size-over h k)
 
   module _ (s : length h ≤ 32768) {v : HeaderVerdict} (e : v ≡ ofLines h (checkedLines h)) where
-    pub line-content : {refusal : HeaderRefusal} → v ≡ Refuse refusal → Refuse refusal ≡ firstOf (ofContent rules h)
-    unfolding firstOf
-    line-content k = rw (size-within h s, ← e, k)
+    pub line-content : (n : ℕ) {refusal : HeaderRefusal} → v ≡ Refuse refusal → Fails refusal ≡ withMost (firstOf (ofContent rules h)) n
+    unfolding firstOf withMost
+    line-content n k = rw (size-within h s, ← e, k)
 
-    pub held-content : {w : HeaderVerdict} → v ≡ Accept → w ≡ ofHeld h (heldOf rules (limited h)) → w ≡ firstOf (ofContent rules h)
+    pub held-content : (n : ℕ) {w : HeaderContent} → v ≡ Accept → w ≡ withMost (ofHeld h (heldOf rules (limited h))) n → w ≡ withMost (firstOf (ofContent rules h)) n
     unfolding firstOf
-    held-content k q = rw (limited-short h s) at q ∙ rw (size-within h s, ← e, k) (sym (first-one (ofHeld h (heldOf rules h))))
+    held-content n k q = rw (limited-short h s) at q ∙ rw (size-within h s, ← e, k) (ap (λ v. withMost v n) (sym (first-one (ofHeld h (heldOf rules h)))))
 
 -- of verdicts one after another
 first-refused : (a b : List HeaderVerdict) (refusal : HeaderRefusal) → firstOf a ≡ Refuse refusal → firstOf (a ++ b) ≡ Refuse refusal
@@ -178,3 +207,10 @@ module _ {rules : Rules} {h : List ℕ} (p : Passed rules h) (c : List ℕ) wher
   written-out {m} {c′} {a} d l x y z w =
       let fine : headerVerdict rules h (length c) ≡ Accept = passed-verdict rules h (length c) p ∙ rw (room-enough (length c) (length (headerOut rules h)) (d .enough l)) in
       rw (fine, x, y, z, w .size, w .bytes)
+
+-- content that passes
+pub content-passes : (rules : Rules) (h : List ℕ) {m : ℕ} → withMost (firstOf (ofContent rules h)) (mostOf rules (limited h)) ≡ Passes m → Passed rules h × (m ≡ mostOf rules h)
+content-passes rules h {m} e =
+    let both = with-passes (firstOf (ofContent rules h)) (mostOf rules (limited h)) e in
+    let p = content rules h (both .0) in
+    (p, rw (limited-short h (p .short)) at (both .1))

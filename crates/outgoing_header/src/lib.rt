@@ -5,6 +5,7 @@ ghost use mathlib.Core.Path.{_≡_};
 ghost use lib.ListN.{length};
 ghost use Rattle.buffer.specs.Buffer.{Wrote};
 ghost use Rattle.outgoing_header.specs.HeaderOutcome.{headerOut, headerObserved, headerOutcome};
+ghost use Rattle.outgoing_field.specs.Most.{mostOf};
 ghost use Rattle.outgoing_header.specs.HeaderOutcomeLaws.{Needed, Passed};
 pub use refusals::number_of;
 use refusals::of_content;
@@ -26,6 +27,12 @@ pub enum HeaderRefusal {
 pub enum HeaderVerdict {
     Accept,
     Refuse(HeaderRefusal),
+}
+
+// A verdict on what stands in a header; where it passes, with the most bytes that are written for it.
+pub enum HeaderContent {
+    Passes(usize),
+    Fails(HeaderRefusal),
 }
 
 // What a call with a header is answered: the paper's number, place and offset, and the length of what was written.
@@ -53,23 +60,23 @@ fn out_len(rules: Rules, header: &[u8]) -> usize
     put(&mut none, rules, header)
 }
 
-// The length of what is written; or 0 where the room holds whatever is written for the header, which then need not be measured.
-fn needs(rules: Rules, header: &[u8], room: usize) -> usize
-    requires { ⌜ Passed rules (now header) ⌝ }
+// The length of what is written; or 0 where the room holds the most, and the length need not be measured.
+fn needs(rules: Rules, header: &[u8], most: usize, room: usize) -> usize
+    requires { ⌜ Passed rules (now header) × (most ≡ mostOf rules (now header)) ⌝ }
     ensures { λ r. ⌜ Needed (length (headerOut rules (now (header .entry)))) room r ⌝ }
 {
-    if outgoing_field::is_ample(rules, header, room) {
+    if most <= room {
         return 0;
     }
     out_len(rules, header)
 }
 
 // Writes a header that passes, or refuses it where it does not fit.
-fn fill(rules: Rules, header: &[u8], buffer: &mut [u8]) -> HeaderAnswer
-    requires { ⌜ Passed rules (now header) ⌝ }
+fn fill(rules: Rules, header: &[u8], most: usize, buffer: &mut [u8]) -> HeaderAnswer
+    requires { ⌜ Passed rules (now header) × (most ≡ mostOf rules (now header)) ⌝ }
     ensures { λ r. ⌜ headerObserved r (now (buffer .exit)) ≡ headerOutcome rules (now (header .entry)) (now (buffer .entry)) ⌝ }
 {
-    let n = needs(rules, header, buffer.len());
+    let n = needs(rules, header, most, buffer.len());
     if buffer.len() < n {
         return refused(HeaderRefusal::Needs(n));
     }
@@ -86,7 +93,7 @@ pub fn downgrade(rules: Rules, header: &[u8], buffer: &mut [u8]) -> HeaderAnswer
     ensures { λ r. ⌜ headerObserved r (now (buffer .exit)) ≡ headerOutcome rules (now (header .entry)) (now (buffer .entry)) ⌝ }
 {
     match of_content(rules, header) {
-        HeaderVerdict::Refuse(refusal) => refused(refusal),
-        HeaderVerdict::Accept => fill(rules, header, buffer),
+        HeaderContent::Fails(refusal) => refused(refusal),
+        HeaderContent::Passes(most) => fill(rules, header, most, buffer),
     }
 }

@@ -19,11 +19,11 @@ refused-requires c κs = search needs
 
 -- src/lib.rt:86:9
 returns : tie.Need-returns
-returns c = too-long (c .before .before .before .before .before .pre) _ (c .before .before .needs .ensures) (c .before .if1 .taken) (c .refused .ensures)
+returns c = too-long (c .before .before .before .before .before .pre .0) _ (c .before .before .needs .ensures) (c .before .if1 .taken) (c .refused .ensures)
 
 -- src/lib.rt:92:17
 put-requires : tie.Need-put-requires
-put-requires c κs = c .before .before .before .before .before .pre
+put-requires c κs = c .before .before .before .before .before .pre .0
 
 -- src/lib.rt:80:1
 same-length : tie.Need-same-length
@@ -31,7 +31,7 @@ same-length c = search needs
 
 -- src/lib.rt:80:1
 returns-2 : tie.Need-returns-2
-returns-2 c = written-out (c .before .before .before .before .before .before .before .before .pre) _ (c .before .before .before .before .before .needs .ensures) (c .before .before .before .before .if1 .left) refl refl refl (c .before .before .put .ensures)
+returns-2 c = written-out (c .before .before .before .before .before .before .before .before .pre .0) _ (c .before .before .before .before .before .needs .ensures) (c .before .before .before .before .if1 .left) refl refl refl (c .before .before .put .ensures)
 
 pub fill-spec : {M : Type 1} → statement M
 fill-spec =

@@ -1,14 +1,14 @@
-use Rattle.call.specs.OutputLaws.{ample}
-use mathlib.Core.Path.{sym, _∙_}
+use Rattle.call.specs.OutputLaws.{most-small, ample}
+use native.Mathlib.Omega.{arith}
 use borrow.Author.Needs.{needs}
 use Rattle.call.proofs.output.header_needs.Statement.{statement}
 use Rattle.call.proofs.output.header_needs.Tie as tie
 
-is-ample-requires : tie.Need-is-ample-requires
-is-ample-requires c κs = search needs
+add-if1 : tie.Need-add-if1
+add-if1 c = omega (arith, most-small (c .before .before .before .pre .1) (c .before .before .before .pre .2))
 
 returns : tie.Need-returns
-returns c = ample (c .before .before .before .before .before .before .pre .0) (c .before .before .before .before .before .before .pre .1) (c .before .before .if1 .taken) (sym (c .before .is-ample .ensures) ∙ c .if2 .taken)
+returns c = ample (c .before .before .before .before .pre .0) (c .before .before .before .before .pre .1) (c .before .before .before .before .pre .2) (c .if1 .taken)
 
 header-len-requires : tie.Need-header-len-requires
 header-len-requires c κs = search needs
@@ -20,7 +20,7 @@ pub header-needs-spec : {M : Type 1} → statement M
 header-needs-spec =
     tie.close
     (tie.spec
-    is-ample-requires
+    add-if1
     returns
     header-len-requires
     returns-2)

@@ -6,20 +6,20 @@ use Rattle.outgoing_field.proofs.held.first_held.Tie as tie
 limited-len-requires : tie.Need-limited-len-requires
 limited-len-requires c κs = search needs
 
-slice-aggregate-first-of : tie.Need-slice-aggregate-first-of
-slice-aggregate-first-of c = limited-size _ _ (c .before .limited-len .ensures)
+slice-aggregate-look-through : tie.Need-slice-aggregate-look-through
+slice-aggregate-look-through c = limited-size _ _ (c .before .limited-len .ensures)
 
-first-of-requires : tie.Need-first-of-requires
-first-of-requires c κs = limited-within _ _ (c .before .limited-len .ensures)
+look-through-requires : tie.Need-look-through-requires
+look-through-requires c κs = limited-within _ _ (c .before .limited-len .ensures)
 
 returns : tie.Need-returns
-returns c = rw (limited-part _ _ (c .before .before .limited-len .ensures)) at (c .first-of .ensures)
+returns c = rw (limited-part _ _ (c .before .before .limited-len .ensures)) at (c .look-through .ensures)
 
 pub first-held-spec : {M : Type 1} → statement M
 first-held-spec =
     tie.close
     (tie.spec
     limited-len-requires
-    slice-aggregate-first-of
-    first-of-requires
+    slice-aggregate-look-through
+    look-through-requires
     returns)

@@ -1,7 +1,7 @@
 use Rattle.outgoing_field.specs.Most.{methodMost}
 use borrow.Author.Needs.{needs}
-use Rattle.outgoing_field.proofs.most.method_most.Statement.{statement}
-use Rattle.outgoing_field.proofs.most.method_most.Tie as tie
+use Rattle.outgoing_field.proofs.held.method_most.Statement.{statement}
+use Rattle.outgoing_field.proofs.held.method_most.Tie as tie
 
 enum-told : tie.Need-enum-told
 enum-told c = search needs
