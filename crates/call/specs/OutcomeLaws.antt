@@ -71,7 +71,7 @@ pub held-content : (rules : Rules) (h : List ℕ) {c : HeaderContent} {r : Conte
 held-content rules h s p q = q ∙ rw (p, limited-short h s) (header-content (ofHeld h (heldOf rules h)) (mostOf rules h))
 
 -- where no ORCPT is refused the next verdict decides
-pub past-orcpt : (e : List ℕ) (n : ℕ) {o : Orcpt} {c : Content} {next : Verdict} → o ≡ orcptLine e → o ≡ Clean → c ≡ withMost next n
+pub past-orcpt : (e : List ℕ) (n : ℕ) (next : Verdict) {o : Orcpt} {c : Content} → o ≡ orcptLine e → o ≡ Clean → c ≡ withMost next n
     → c ≡ withMost (firstOf (ofOrcpt e (orcptLine e) ∷ next ∷ [])) n
 unfolding firstOf ofOrcpt
-past-orcpt e n {next = next} p k q = q ∙ rw (← p, k) (ap (λ v. withMost v n) (sym (first-one next)))
+past-orcpt e n next p k q = q ∙ rw (← p, k) (ap (λ v. withMost v n) (sym (first-one next)))

@@ -36,7 +36,7 @@ of-orcpt-requires c κs = search needs
 
 -- src/refusals.rt:105:1
 returns : tie.Need-returns
-returns c = past-orcpt _ _ (c .before .before .before .before .orcpt-line .ensures) (c .before .before .enum-told .given .1) (held-content _ _ (c .before .before .before .before .before .before .before .pre) (c .before .of-held .ensures) (c .of-header .ensures))
+returns c = past-orcpt _ _ _ (c .before .before .before .before .orcpt-line .ensures) (c .before .before .enum-told .given .1) (held-content _ _ (c .before .before .before .before .before .before .before .pre) (c .before .of-held .ensures) (c .of-header .ensures))
 
 -- src/refusals.rt:105:1
 returns-2 : tie.Need-returns-2
