@@ -61,7 +61,7 @@ pub going-start : {h : List ℕ} {k : ℕ} {first : List ℕ} → Going h k firs
 going-start = record { same = refl; size = refl }
 
 module _ {h : List ℕ} {k : ℕ} {first : List ℕ} {place left : ℕ} {buffer : List ℕ} (g : Going h k first place left buffer) {a : ReadAnswer} {after : List ℕ} (e : observed a after ≡ outcome h place buffer) where
-  pub going-size : length after ≡ length first
+  going-size : length after ≡ length first
   going-size = ap (λ (o : Outcome). length (o .buffer)) e ∙ buffer-size h place buffer ∙ g .size
 
   pub going-on : 0 < left → Going h k first (a .next) (left - 1) after

@@ -73,19 +73,18 @@ breaks-append (x ∷ a) b =
     (λ t. rw (yes-true (eqb x 13 || eqb x 10) t, breaks-append a b) refl)
     (λ t. rw (no-false (eqb x 13 || eqb x 10) t, breaks-append a b) refl)
 
-pub solid-breaks : (a : List ℕ) → T (all solid a) → withoutBreaks a ≡ a
+kept-all : (f : ℕ → Bool) → ((b : ℕ) → T (f b) → eqb b 13 || eqb b 10 ≡ false) → (a : List ℕ) → T (all f a) → withoutBreaks a ≡ a
 unfolding withoutBreaks
-solid-breaks [] t = refl
-solid-breaks (x ∷ a) t =
-    let both = and-yes (solid x) (all solid a) t in
-    rw (solid-not-break x (both .0), solid-breaks a (both .1)) refl
+kept-all f each [] t = refl
+kept-all f each (x ∷ a) t =
+    let both = and-yes (f x) (all f a) t in
+    rw (each x (both .0), kept-all f each a (both .1)) refl
+
+pub solid-breaks : (a : List ℕ) → T (all solid a) → withoutBreaks a ≡ a
+solid-breaks a t = kept-all solid solid-not-break a t
 
 pub blank-breaks : (a : List ℕ) → T (all blank a) → withoutBreaks a ≡ a
-unfolding withoutBreaks
-blank-breaks [] t = refl
-blank-breaks (x ∷ a) t =
-    let both = and-yes (blank x) (all blank a) t in
-    rw (blank-not-break x (both .0), blank-breaks a (both .1)) refl
+blank-breaks a t = kept-all blank blank-not-break a t
 
 pub gap-blank : (a : List ℕ) → T (all spacing a) → T (all blank (withoutBreaks a))
 unfolding withoutBreaks

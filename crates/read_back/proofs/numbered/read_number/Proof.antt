@@ -1,6 +1,6 @@
 use native.Mathlib.Omega.{arith}
 use borrow.Author.Needs.{needs}
-use Rattle.read_back.specs.CallsLaws.{Going, going-start, going-size, going-on, going-end}
+use Rattle.read_back.specs.CallsLaws.{Going, going-start, going-on, going-end}
 use Rattle.read_back.proofs.numbered.read_number.Statement.{statement}
 use Rattle.read_back.proofs.numbered.read_number.Tie as tie
 
@@ -31,7 +31,7 @@ hennelaku-read-downgraded-slices-requires-2 :
 hennelaku-read-downgraded-slices-requires-2 c κs = search needs
 
 same-length : tie.Need-same-length Inv-loop μ-loop
-same-length c = going-size (c .before .before .before .before .before .loop .inv) (c .before .before .hennelaku-read-downgraded-slices2 .ensures)
+same-length c = search needs
 
 returns : tie.Need-returns Inv-loop μ-loop
 returns c = going-end (c .before .before .before .before .before .loop .inv) (c .before .before .hennelaku-read-downgraded-slices2 .ensures) (omega arith)
