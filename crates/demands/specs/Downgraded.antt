@@ -55,7 +55,8 @@ pub data HeaderLines : ℕ → List ℕ → Type 0 where
 -- What becomes of a field whose value is not ASCII, by the method for it. "Plain text: name, colon, encoded words of the text."
 -- "encapsulated: `Downgraded-` before the name". Date and the others with comments "are held only if non-ASCII stands outside their
 -- comments"; in a mailbox Message-ID to References "are encapsulated" then. A Received field is held too "with a line grown past 998
--- bytes", one with parameters where a name "is shared by two parameters (any case)". For the method Held there is no rule: such a field is held.
+-- bytes", one with parameters where a name "is shared by two parameters (any case)". For the method Held there is no rule: such a field
+-- is held.
 pub data MethodBecomes (rules : Rules) (field : List ℕ) : Method → List Segment → Type 0 where
   pieces : {segments : List Segment} → AddressField rules (nameOf field) (textOf field) segments → MethodBecomes rules field Pieces segments
   plain-text : MethodBecomes rules field PlainText (encodedField false (nameOf field) (textOf field))

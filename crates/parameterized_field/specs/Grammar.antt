@@ -25,21 +25,23 @@ pub data Goes (state : State) (more : List ℕ) : Type 0 where
   before-piece : {name value rest : List ℕ} → T (state .after) → Parameter (state .comments) name value rest → T (not (all isAscii value))
       → more ≡ standing name value ++ rest → Goes state more
 
--- "A parameter follows a `;` outside comments and quoted strings": its value is converted by RFC 2231 where it is not ASCII, and stays where it
--- is. All else is tokens: "Comments follow [1].", others stay. A field is held "Where a parameter name has `*` .. or leaves no room for a
+-- "A parameter follows a `;` outside comments and quoted strings": its value is converted by RFC 2231, or the parameter stays where its value is
+-- ASCII. All else is tokens: "Comments follow [1].", others stay. A field is held "Where a parameter name has `*` .. or leaves no room for a
 -- character, or non-ASCII stands elsewhere": no rule makes these.
 pub data ParameterizedRule : State → List ℕ → List ℕ → List Item → State → Type 0 where
-  converted : {state : State} {name value more : List ℕ} → T (state .after) → Parameter (state .comments) name value more → T (all noStar name)
-      → T (not (all isAscii value)) → T (hasRoom name (valueText value))
+  converted : {state : State} {name value more : List ℕ} → T (state .after) → Parameter (state .comments) name value more
+      → T (all noStar name) → T (not (all isAscii value)) → T (hasRoom name (valueText value))
       → ParameterizedRule state (standing name value) more (piece name (valueText value) ∷ []) (afterParameter state true)
-  ascii : {state : State} {name value more : List ℕ} → T (state .after) → Parameter (state .comments) name value more → T (all noStar name)
-      → T (all isAscii value)
-      → ParameterizedRule state (standing name value) more (newLine (state .fresh) ++ (stays name (standing name value) ∷ [])) (afterParameter state false)
+  ascii : {state : State} {name value more : List ℕ} → T (state .after) → Parameter (state .comments) name value more
+      → T (all noStar name) → T (all isAscii value)
+      → ParameterizedRule state (standing name value) more
+      (newLine (state .fresh) ++ (stays name (standing name value) ∷ [])) (afterParameter state false)
   gone : {state : State} {t more : List ℕ} → Token (state .comments) White t more → Goes state more
       → ParameterizedRule state t more [] (afterToken state White)
-  token : {state : State} {what : Kind} {t more : List ℕ} → Token (state .comments) what t more → (T (state .after) → NoParameter (state .comments) (t ++ more))
-      → (what ≡ White → Goes state more → ⊥) → T (clear what t)
-      → ParameterizedRule state t more (newLine (state .fresh && not (ownMark state what)) ++ (other (becomes what t) ∷ [])) (afterToken state what)
+  token : {state : State} {what : Kind} {t more : List ℕ} → Token (state .comments) what t more
+      → (T (state .after) → NoParameter (state .comments) (t ++ more)) → (what ≡ White → Goes state more → ⊥) → T (clear what t)
+      → ParameterizedRule state t more
+      (newLine (state .fresh && not (ownMark state what)) ++ (other (becomes what t) ∷ [])) (afterToken state what)
 
 -- A value and what becomes of it, part by part. That no name is shared by two parameters is asked of the items besides.
 abbrev pub ParameterizedValue : List ℕ → List Item → Type 0
