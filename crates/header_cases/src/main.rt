@@ -16,9 +16,14 @@ fn number(n: usize) {
     io::print_decimal(STDOUT_FILENO, n as u64);
 }
 
-// What becomes of a field, and the words of its text.
+// What becomes of a field, nothing where it is held; and the words of its text.
 fn write(out: &mut [u8], field: &[u8]) -> usize {
-    outgoing_field::add_field(out, 0, Rules::Spool, field)
+    let looked = outgoing_field::first_held(Rules::Spool, field);
+    let held = looked.held;
+    match held {
+        HeldField::Absent => outgoing_field::add_field(out, 0, Rules::Spool, field),
+        HeldField::At(_, _) => 0,
+    }
 }
 
 fn write_words(out: &mut [u8], field: &[u8]) -> usize {
