@@ -46,7 +46,10 @@ fn show_input(input: &mut [u8; 2642040]) {
     let n = io::read_full(STDIN_FILENO, input);
     let mut more = io::buffer();
     if 0 < io::read_full(STDIN_FILENO, &mut more) {
-        io::write_all(STDERR_FILENO, b"read_downgraded: a header has at most 2,642,040 bytes\n");
+        io::write_all(
+            STDERR_FILENO,
+            b"read_downgraded: a header has at most 2,642,040 bytes\n",
+        );
     } else {
         show_header(line::part(input, 0, n));
     }
