@@ -133,7 +133,7 @@ fuzz-c: lib
 	@$(MAKE) --no-print-directory -C relay fuzz-c $(if $(SECONDS),SECONDS=$(SECONDS))
 
 model:
-	$(CARGO) test --release --offline --quiet --features parameters
+	$(CARGO) test --release --offline --quiet
 
 fuzz fuzz-batch fuzz-mailbox fuzz-reader fuzz-pairs: lib
 	$(CARGO) run --release --offline --quiet --features proved --bin $@ -- $(if $(SEED),--seed $(SEED)) $(if $(SECONDS),--seconds $(SECONDS))

@@ -10,7 +10,7 @@ from ctypes import POINTER, c_char_p, c_size_t, c_uint32, c_uint64
 
 VERSION = 400  # HENNELAKU_VERSION of the header that the declarations below are taken from
 ENVELOPE_ROOM_MAX = 16384
-HEADER_ROOM_MAX = 1048576
+HEADER_ROOM_MAX = 2642040
 SPOOL, CURRENT = 0, 1
 
 

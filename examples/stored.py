@@ -9,7 +9,7 @@ import sys
 from ctypes import POINTER, c_char_p, c_size_t, c_uint32
 
 VERSION = 400  # HENNELAKU_VERSION of the header that the declarations below are taken from
-HEADER_ROOM_MAX = 1048576
+HEADER_ROOM_MAX = 2642040
 TEXT, ROOM, NONE = 0, 5, 6  # of enum hennelaku_read_number
 
 

@@ -39,9 +39,10 @@ extern "C" {
 /*
  * Buffers that always suffice.
  *
- * The outgoing header has at most 30 bytes for each byte of the header, and
- * 20,600 for the two fields that may be put before it; the outgoing envelope is
- * never longer than the envelope. Both are proved. So with
+ * The outgoing header has at most 30 bytes for each byte of the header, 50 more
+ * for each byte of a Content-Type or Content-Disposition field that is not
+ * ASCII, and 20,600 for the two fields that may be put before it; the outgoing
+ * envelope is never longer than the envelope. Both are proved. So with
  *
  *     envelope_room >= envelope_len   (or HENNELAKU_ENVELOPE_ROOM_MAX), and
  *     header_room >= HENNELAKU_HEADER_ROOM_FOR(header_len)
@@ -51,22 +52,23 @@ extern "C" {
  * the fastest: the outgoing header is then not measured before it is written.
  */
 #define HENNELAKU_ENVELOPE_ROOM_MAX HENNELAKU_MAX_ENVELOPE
-#define HENNELAKU_HEADER_ROOM_FOR(header_len) (30 * (header_len) + 20600)
-#define HENNELAKU_HEADER_ROOM_MAX 1048576
+#define HENNELAKU_HEADER_ROOM_FOR(header_len) (80 * (header_len) + 20600)
+#define HENNELAKU_HEADER_ROOM_MAX 2642040
 
 /*
- * Stack that one call uses at most, in bytes: frames have a fixed size, and no
- * function calls itself but one for comments inside comments, 256 levels at
- * most, however deep they are. This is measured, not proved: about 121,000
- * bytes (`make -C relay stack`).
+ * The most stack that one call uses, in bytes. Frames have a fixed size. One
+ * function calls itself, for comments inside comments: at most 256 times,
+ * however deep they are. Measured, not proved: about 121,000 bytes
+ * (`make -C relay stack`).
  */
 #define HENNELAKU_STACK 131072
 
 /*
- * The numbers of the answers. Where two conditions hold, the one that is
- * looked for first is told: 1 (envelope, then header); 2, 3 and 4, or in a
- * current message 2, 3 and 10, as the first envelope line at fault, the lowest
- * number within one line; the first 5; 6, the envelope before the header; 7; 8.
+ * The numbers of the answers. Where several conditions hold, the first in this
+ * order is answered: 1, for the envelope, then for the header; 2, 3, 4 and 10,
+ * by the first envelope line at fault, and within that line by the lowest
+ * number; 5, by the first header line at fault; 6, for the envelope, then for
+ * the header; 7; 8.
  *
  * Lines count from 0, each from the start of the envelope or of the header; a
  * continuation line of a header counts as a line.
@@ -198,8 +200,13 @@ uint32_t hennelaku_version(void);
  *                 non-ASCII stands outside comments, where no address in angle
  *                 brackets follows a for, or where a line would have more than
  *                 998 bytes
- *     held        Content-Type Content-Disposition Original-Recipient
- *                 Final-Recipient Keywords: refused by 6
+ *     parameters  Content-Type Content-Disposition: values of parameters that
+ *                 are not ASCII by RFC 2231, each on lines of its own, in as
+ *                 few parts as go; comments as above, all else byte for byte;
+ *                 refused by 6 where a parameter's name has a `*`, where two
+ *                 share a name, where a name leaves no room for a character, or
+ *                 where other non-ASCII stands outside comments
+ *     held        Original-Recipient Final-Recipient Keywords: refused by 6
  *     any other   Downgraded- before the name, text in encoded words
  *
  * In plain text and Downgraded- fields the first encoded word stands after the
@@ -208,6 +215,13 @@ uint32_t hennelaku_version(void);
  * word is in Q or in B of RFC 2047, whichever holds more characters of what is
  * left of the text, in Q where they hold as many. So no row of words of both
  * kinds has fewer words; in those fields, none so set has fewer lines.
+ *
+ * A parameter value that is not ASCII, as the name of a file, goes out in UTF-8
+ * without its quoting and folds: name*=UTF-8''value on a line of its own, or
+ * where that line would have more than 76 characters, a ; counted with it, in
+ * numbered parts, name*0*=UTF-8''value, name*1*=value and so on, a line each, of
+ * whole characters and each as full as its line allows. White space and folds
+ * about such a value go.
  *
  * After any other number no byte of either buffer has changed, and both
  * lengths are 0.
@@ -307,7 +321,7 @@ typedef struct hennelaku_mailbox_answer {
  *                 phrase, the address in encoded words and `:;`; a group with
  *                 such a member its phrase, all between its colon and its
  *                 semicolon in encoded words and `:;`. No Downgraded- field
- *                 follows; only a text that is no list of addresses, or that
+ *                 follows; only a text that is not a list of addresses, or that
  *                 has an inner alternative, is put into one
  *     Message-ID Resent-Message-ID In-Reply-To References: where non-ASCII
  *                 stands outside comments, Downgraded- before the name, all of
@@ -328,7 +342,7 @@ hennelaku_mailbox_answer hennelaku_downgrade_mailbox(
 
 /*
  * The numbers of the reader's answers. Of the refusals, 1 to 5, the lowest that
- * holds of the whole field is told.
+ * holds of the whole field is answered.
  */
 enum hennelaku_read_number {
     /* The text stands in the buffer. */

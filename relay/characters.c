@@ -195,5 +195,6 @@ size_t character_width(uint32_t number)
 
 int is_steering(uint32_t number)
 {
-    return IS_IN(steering, number);
+    /* Letters of most scripts lie between these two. */
+    return (number < 0xA0 || number >= 0x180E) && IS_IN(steering, number);
 }

@@ -39,26 +39,76 @@ static part name_of(part field)
     return part_between(field, 0, len);
 }
 
-int next_downgraded(part header, size_t *place, buffer *text, read_field *f)
+/* Reads the first Downgraded- field that begins at a place or later, and adds
+ * its text. Its number is HENNELAKU_READ_NONE where there is none, and where
+ * there is no memory, which `to` then says. */
+static hennelaku_read_answer read_next(buffer *to, part header, size_t place)
 {
-    hennelaku_read_answer a;
+    hennelaku_read_answer a = {HENNELAKU_READ_NONE, 0, 0, 0};
 
     /* No text is longer than its header. */
-    text->len = 0;
-    if (!buffer_reserve(text, header.len)) {
-        return 0;
+    if (buffer_reserve(to, header.len - place)) {
+        a = hennelaku_read_downgraded(header.bytes, header.len, place,
+                                      to->bytes + to->len,
+                                      to->room - to->len);
+        to->len += a.number == HENNELAKU_READ_TEXT ? a.length : 0;
     }
-    a = hennelaku_read_downgraded(header.bytes, header.len, *place,
-                                  text->bytes, text->room);
-    if (a.number == HENNELAKU_READ_NONE) {
-        return 0;
-    }
-    text->len = a.number == HENNELAKU_READ_TEXT ? a.length : 0;
-    *place = a.next;
-    f->number = a.number;
-    f->name = name_of(part_between(header, a.start, a.next));
-    f->text = buffer_part(text);
-    return 1;
+    return a;
+}
+
+/* A field of a header that was read. */
+typedef struct read_place {
+    uint32_t number;
+    size_t start;
+    size_t end;
+    size_t text;   /* where its text begins in the texts */
+    size_t len;
+} read_place;
+
+int read_downgraded(read_fields *r, part header)
+{
+    hennelaku_read_answer a;
+    size_t at = 0;
+
+    r->texts.len = 0;
+    r->places.len = 0;
+    r->count = 0;
+    r->header = header;
+    do {
+        read_place p = {0, 0, 0, r->texts.len, 0};
+        part bytes = {(const uint8_t *)&p, sizeof p};
+
+        a = read_next(&r->texts, header, at);
+        if (a.number != HENNELAKU_READ_NONE) {
+            p.number = a.number;
+            p.start = a.start;
+            p.end = a.next;
+            p.len = r->texts.len - p.text;
+            buffer_add(&r->places, bytes);
+            r->count++;
+            at = a.next;
+        }
+    } while (a.number != HENNELAKU_READ_NONE);
+    return !r->texts.failed && !r->places.failed;
+}
+
+read_field read_at(const read_fields *r, size_t at)
+{
+    read_place p;
+    read_field f;
+
+    memcpy(&p, r->places.bytes + at * sizeof p, sizeof p);
+    f.number = p.number;
+    f.name = name_of(part_between(r->header, p.start, p.end));
+    f.text = part_between(buffer_part(&r->texts), p.text, p.text + p.len);
+    return f;
+}
+
+void read_fields_clear(read_fields *r)
+{
+    buffer_clear(&r->texts);
+    buffer_clear(&r->places);
+    r->count = 0;
 }
 
 int begins_field(part header, size_t at, part name)
@@ -106,30 +156,54 @@ static void add_unfolded(buffer *to, part field, size_t at)
     }
 }
 
-int add_field_text(buffer *to, part header, const char *name)
+/* Adds the text of a field of any name as the library reads it. Returns 0 where
+ * it does not. */
+static int add_read(buffer *to, part field)
 {
-    part named = part_of(name);
     buffer as_downgraded = {NULL, 0, 0, 0};
-    buffer text = {NULL, 0, 0, 0};
-    read_field f;
-    size_t place = 0;
-    part field;
+    hennelaku_read_answer a = {HENNELAKU_READ_NONE, 0, 0, 0};
 
-    if (!find_field(header, named, &field)) {
-        return 0;
-    }
     /* The library reads fields of such names alone. */
     buffer_add_text(&as_downgraded, "Downgraded-");
     buffer_add(&as_downgraded, field);
-    if (!as_downgraded.failed
-        && next_downgraded(buffer_part(&as_downgraded), &place, &text, &f)
-        && f.number == HENNELAKU_READ_TEXT) {
-        buffer_add(to, f.text);
-    } else {
-        add_unfolded(to, field, named.len + 1);
+    if (!as_downgraded.failed) {
+        a = read_next(to, buffer_part(&as_downgraded), 0);
     }
     buffer_clear(&as_downgraded);
-    buffer_clear(&text);
+    return a.number == HENNELAKU_READ_TEXT;
+}
+
+/* Adds the text of the first of the fields that has a name. Returns 0 where
+ * there is none, and where it was refused. */
+static int add_read_before(buffer *to, const read_fields *r, part name)
+{
+    size_t at;
+
+    for (at = 0; at < r->count; at++) {
+        read_field f = read_at(r, at);
+
+        if (part_equal_in_any_case(f.name, name)) {
+            buffer_add(to, f.text);
+            return f.number == HENNELAKU_READ_TEXT;
+        }
+    }
+    return 0;
+}
+
+int add_field_text(buffer *to, const read_fields *r, const char *name)
+{
+    part named = part_of(name);
+    part field;
+
+    if (add_read_before(to, r, named)) {
+        return 1;
+    }
+    if (!find_field(r->header, named, &field)) {
+        return 0;
+    }
+    if (!add_read(to, field)) {
+        add_unfolded(to, field, named.len + 1);
+    }
     return 1;
 }
 
@@ -152,10 +226,10 @@ static size_t old_path_end(part text)
     return text.len;
 }
 
-int add_old_path(buffer *to, part header, const char *name)
+int add_old_path(buffer *to, const read_fields *r, const char *name)
 {
     buffer text = {NULL, 0, 0, 0};
-    int found = add_field_text(&text, header, name) && text.len > 0
+    int found = add_field_text(&text, r, name) && text.len > 0
              && text.bytes[0] == '<';
 
     if (found) {

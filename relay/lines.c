@@ -6,12 +6,14 @@
 
 size_t next_crlf(part p, size_t at)
 {
-    size_t i;
+    while (at < p.len) {
+        const uint8_t *lf = memchr(p.bytes + at, '\n', p.len - at);
+        size_t place = lf == NULL ? p.len : (size_t)(lf - p.bytes);
 
-    for (i = at; i + 1 < p.len; i++) {
-        if (p.bytes[i] == '\r' && p.bytes[i + 1] == '\n') {
-            return i;
+        if (place > at && place < p.len && p.bytes[place - 1] == '\r') {
+            return place - 1;
         }
+        at = place + 1;
     }
     return p.len;
 }

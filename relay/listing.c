@@ -3,7 +3,6 @@
 #include <stdio.h>
 #include <string.h>
 
-#include "fields.h"
 #include "show.h"
 
 /* The first columns of a table; the file's name has what is left. */
@@ -31,8 +30,9 @@ static int add_date(buffer *to, const char *text)
         return 0;
     }
     start += end;
+    end = 0;
     sscanf(start, ":%*2d%n", &end);
-    sscanf(start[0] == ':' ? start + end : start, " %5[-+0-9A-Za-z]", zone);
+    sscanf(start + end, " %5[-+0-9A-Za-z]", zone);
     for (i = 0; month[i] != '\0'; i++) {
         month[i] = (char)(month[i] | 0x20);
     }
@@ -49,15 +49,16 @@ static int add_date(buffer *to, const char *text)
 
 /* Puts a cell of the table into l->cell. Sender and recipient are those that
  * the message had before it was downgraded, where it says so. */
-static void make_cell(listing *l, part header, int which)
+static void make_cell(listing *l, int which)
 {
+    const read_fields *r = &l->read;
     buffer *c = &l->cell;
 
     c->len = 0;
     switch (which) {
     case DATE:
         l->text.len = 0;
-        add_field_text(&l->text, header, "Date");
+        add_field_text(&l->text, r, "Date");
         buffer_add_byte(&l->text, '\0');
         if (!l->text.failed && !add_date(c, (const char *)l->text.bytes)) {
             buffer_add(c, part_between(buffer_part(&l->text), 0,
@@ -65,18 +66,18 @@ static void make_cell(listing *l, part header, int which)
         }
         break;
     case SENDER:
-        (void)(add_field_text(c, header, "Downgraded-From")
-               || add_old_path(c, header, "Downgraded-Mail-From")
-               || add_field_text(c, header, "From"));
+        (void)(add_field_text(c, r, "Downgraded-From")
+               || add_old_path(c, r, "Downgraded-Mail-From")
+               || add_field_text(c, r, "From"));
         break;
     case RECIPIENT:
-        (void)(add_old_path(c, header, "Downgraded-Rcpt-To")
-               || add_field_text(c, header, "Downgraded-To")
-               || add_field_text(c, header, "To"));
+        (void)(add_old_path(c, r, "Downgraded-Rcpt-To")
+               || add_field_text(c, r, "Downgraded-To")
+               || add_field_text(c, r, "To"));
         break;
     default:
-        (void)(add_field_text(c, header, "Subject")
-               || add_field_text(c, header, "Downgraded-Subject"));
+        (void)(add_field_text(c, r, "Subject")
+               || add_field_text(c, r, "Downgraded-Subject"));
         break;
     }
 }
@@ -139,22 +140,21 @@ static void add_json_field(listing *l, const read_field *f, int is_first)
  * are refused are told. */
 static void add_fields(listing *l, const listed *m)
 {
-    size_t place = 0;
-    read_field f;
-    int is_first = 1;
+    size_t at;
 
-    while (next_downgraded(m->header, &place, &l->text, &f)) {
+    for (at = 0; at < l->read.count; at++) {
+        read_field f = read_at(&l->read, at);
+
         l->refused += f.number != HENNELAKU_READ_TEXT;
         if (l->form == LISTING_FIELDS) {
             add_field(l, m, &f);
         } else if (l->form == LISTING_JSON) {
-            add_json_field(l, &f, is_first);
+            add_json_field(l, &f, at == 0);
         } else if (f.number != HENNELAKU_READ_TEXT) {
             add_file(&l->told, m);
             buffer_add_text(&l->told, ": ");
             add_refused(&l->told, &f);
         }
-        is_first = 0;
     }
 }
 
@@ -184,7 +184,7 @@ static void add_row(listing *l, const listed *m)
     int which;
 
     for (which = 0; which < CELLS; which++) {
-        make_cell(l, m->header, which);
+        make_cell(l, which);
         if (l->form == LISTING_TABLE) {
             add_shown_in(&l->out, buffer_part(&l->cell),
                          cell_columns(l, which));
@@ -209,7 +209,7 @@ static void add_object(listing *l, const listed *m)
         buffer_add_number(&l->out, m->number);
     }
     for (which = 0; which < CELLS; which++) {
-        make_cell(l, m->header, which);
+        make_cell(l, which);
         buffer_add_text(&l->out, ",\"");
         buffer_add_text(&l->out, headings[which]);
         buffer_add_text(&l->out, "\":");
@@ -222,6 +222,9 @@ static void add_object(listing *l, const listed *m)
 
 int add_message(listing *l, const listed *m)
 {
+    if (!read_downgraded(&l->read, m->header)) {
+        return 0;
+    }
     switch (l->form) {
     case LISTING_FIELDS:
         add_fields(l, m);
@@ -245,4 +248,5 @@ void listing_clear(listing *l)
     buffer_clear(&l->told);
     buffer_clear(&l->text);
     buffer_clear(&l->cell);
+    read_fields_clear(&l->read);
 }

@@ -4,6 +4,7 @@
 #define LISTING_H
 
 #include "bytes.h"
+#include "fields.h"
 
 enum listing_form {
     LISTING_FIELDS,
@@ -19,8 +20,9 @@ typedef struct listing {
     size_t refused;   /* fields that could not be read, so far */
     buffer out;       /* what is to be printed */
     buffer told;      /* for standard error */
-    buffer text;      /* a text that was read */
+    buffer text;
     buffer cell;
+    read_fields read; /* of the message that is listed */
 } listing;
 
 /* A message of a file. */

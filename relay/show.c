@@ -42,15 +42,46 @@ static void add_one(buffer *to, part text, size_t at, const shown *s)
     }
 }
 
+/* The place of the first character from `at` on that does not stand for itself:
+ * a backslash, `also`, a byte that is no character, or one that could steer a
+ * terminal. */
+static size_t plain_end(part text, size_t at, uint8_t also)
+{
+    for (;;) {
+        uint32_t number;
+        size_t len;
+
+        /* Most characters are these, for which nothing is called. */
+        while (at < text.len && text.bytes[at] >= 0x20 && text.bytes[at] < 0x7F
+               && text.bytes[at] != '\\' && text.bytes[at] != also) {
+            at++;
+        }
+        if (at == text.len || text.bytes[at] < 0x80) {
+            return at;
+        }
+        len = character_at(text, at, &number);
+        if (len == 0 || is_steering(number)) {
+            return at;
+        }
+        at += len;
+    }
+}
+
 void add_shown(buffer *to, part text)
 {
     size_t at = 0;
 
     while (at < text.len) {
-        shown s = show_at(text, at);
+        size_t end = plain_end(text, at, '\\');
 
-        add_one(to, text, at, &s);
-        at += s.len;
+        buffer_add(to, part_between(text, at, end));
+        at = end;
+        if (at < text.len) {
+            shown s = show_at(text, at);
+
+            add_one(to, text, at, &s);
+            at += s.len;
+        }
     }
 }
 
@@ -106,27 +137,34 @@ static void add_json_escape(buffer *to, uint32_t number)
     buffer_add_text(to, escape);
 }
 
+/* Adds the character, or the byte that is none, at a place of a text, as it is
+ * escaped. Returns its length. */
+static size_t add_json_character(buffer *to, part text, size_t at)
+{
+    uint32_t number;
+    size_t len = character_at(text, at, &number);
+
+    if (len == 0) {
+        buffer_add_text(to, "\\ufffd");
+    } else if (number == '"' || number == '\\') {
+        buffer_add_byte(to, '\\');
+        buffer_add_byte(to, (uint8_t)number);
+    } else {
+        add_json_escape(to, number);
+    }
+    return len == 0 ? 1 : len;
+}
+
 void add_json(buffer *to, part text)
 {
     size_t at = 0;
 
     buffer_add_byte(to, '"');
     while (at < text.len) {
-        uint32_t number;
-        size_t len = character_at(text, at, &number);
+        size_t end = plain_end(text, at, '"');
 
-        if (len == 0) {
-            len = 1;
-            buffer_add_text(to, "\\ufffd");
-        } else if (number == '"' || number == '\\') {
-            buffer_add_byte(to, '\\');
-            buffer_add_byte(to, (uint8_t)number);
-        } else if (is_steering(number)) {
-            add_json_escape(to, number);
-        } else {
-            buffer_add(to, part_between(text, at, at + len));
-        }
-        at += len;
+        buffer_add(to, part_between(text, at, end));
+        at = end < text.len ? end + add_json_character(to, text, end) : end;
     }
     buffer_add_byte(to, '"');
 }

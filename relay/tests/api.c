@@ -12,6 +12,7 @@
 #include "check.h"
 #include "mailbox.h"
 #include "offset.h"
+#include "parameters.h"
 #include "reader.h"
 #include "setting.h"
 
@@ -256,7 +257,8 @@ static void test_null(void)
                 2, HENNELAKU_ENVELOPE, 0, 0);
 }
 
-/* The header that grows most of those that are known: fields of 59 bytes with
+/* Of headers without parameters the one that grows most of those that are known:
+ * fields of 59 bytes with
  * eleven tiny addresses, each of them removed. An address and the comma after it
  * take 68 bytes: 28 and 12 besides its word, which is in Q, of 12 characters.
  * The original text has 35 bytes in B on the name's line, and in Q the 19 that
@@ -289,7 +291,7 @@ static void test_bounds(void)
         blame("%zu bytes grew to %zu", h.len, o.answer.header_len);
     }
     outcome_free(&o);
-    report("the header that grows most stays within the bounds");
+    report("the header without parameters that grows most stays within the bounds");
     text_free(&h);
 }
 
@@ -772,6 +774,7 @@ int main(void)
     test_nul();
     test_null();
     test_bounds();
+    test_parameters();
     test_first_fields();
     test_received_lines();
     test_nothing_kept();

@@ -47,7 +47,24 @@
     "Downgraded-Rcpt-To:" HERE_B \
     "PMOpQGV4YW1wbGUubmV0IDxlQGV4YW1wbGUubmV0Pj4=" CLOSE "\r\n"
 
+/* A parameter's name is followed so, where its value is converted and fits a line,
+ * or in parts; then characters, by RFC 2231. */
+#define ALONE "*=UTF-8''"
+#define FIRST "*0*=UTF-8''"
+#define SECOND "*1*="
+#define E_HEX "%C3%A9"
+#define E_9 E_5 E_ACUTE E_ACUTE E_ACUTE E_ACUTE
+#define E_HEX_9 E_HEX E_HEX E_HEX E_HEX E_HEX E_HEX E_HEX E_HEX E_HEX
+#define SUN_6 SUN SUN SUN SUN SUN SUN
+#define SUN_HEX "%E6%97%A5"
+#define SUN_HEX_6 SUN_HEX SUN_HEX SUN_HEX SUN_HEX SUN_HEX SUN_HEX
+
 #define TAKEN {HENNELAKU_OK, HENNELAKU_NO_INPUT, 0, 0, 0, 0}
+
+/* A Content-Type field, of whose value this becomes. */
+#define CONTENT(value, out) \
+    PLAIN, "Content-Type:" value "\r\n", TAKEN, PLAIN, \
+    "Content-Type:" out "\r\n"
 
 /* A refusal that is about the envelope or the header. This input is cut in two
  * before the byte that the offset names. */
@@ -100,6 +117,60 @@ const test_case cases[] = {
      IN_LINES(6, 1, "X: a\r\nDate: (", E_ACUTE ") " E_ACUTE "\r\n")},
     {"non-ASCII after an unclosed parenthesis",
      IN_LINES(6, 0, "Date: (a (", E_ACUTE ")\r\n")},
+
+    /* Parameters of Content-Type and Content-Disposition. */
+    {"a parameter", CONTENT(" image/png; name=" E_ACUTE, " image/png;\r\n name" ALONE E_HEX)},
+    {"a parameter, a string", PLAIN, "content-DISPOSITION:attachment;fileName=\"" SUN " 1.pdf\"\r\n", TAKEN, PLAIN,
+     "content-DISPOSITION:attachment;\r\n fileName" ALONE SUN_HEX "%201.pdf\r\n"},
+    {"a parameter: quoting, escapes and folds go",
+     CONTENT(" a; n=\"" E_ACUTE " \\\"b\\\\c\\d\r\n\t(" E_ACUTE ")\"",
+             " a;\r\n n" ALONE E_HEX "%20%22b%5Ccd%09%28" E_HEX "%29")},
+    {"a parameter: a backslash before a fold", CONTENT(";n=\"" E_ACUTE "\\\r\n b\"", ";\r\n n" ALONE E_HEX "%20b")},
+    {"a parameter: attribute characters are bare",
+     CONTENT(";n=\"" E_ACUTE "!#$&+-.09AZ^_`az{|}~\"", ";\r\n n" ALONE E_HEX "!#$&+-.09AZ^_`az{|}~")},
+    {"a parameter: all others are not",
+     CONTENT(";n=\"" E_ACUTE "*'%()<>@,;:/[]?=\x7F\"",
+             ";\r\n n" ALONE E_HEX "%2A%27%25%28%29%3C%3E%40%2C%3B%3A%2F%5B%5D%3F%3D%7F")},
+    {"a parameter: a run of token bytes", CONTENT(";n=*'%" E_ACUTE ".a", ";\r\n n" ALONE "%2A%27%25" E_HEX ".a")},
+    {"parameters in ASCII stay",
+     CONTENT(" a; b=\"c\\d\" ; n=" E_ACUTE "; e=\"*'%\"", " a; b=\"c\\d\" ;\r\n n" ALONE E_HEX ";\r\n e=\"*'%\"")},
+    {"a parameter: white space before it goes", CONTENT(" a ; \t\r\n  n=" E_ACUTE, " a ;\r\n n" ALONE E_HEX)},
+    {"a parameter after a comment", CONTENT("a;\r\n (c) \r\n n=" E_ACUTE, "a;\r\n (c)\r\n n" ALONE E_HEX)},
+    {"a parameter: white space about its ; goes",
+     CONTENT("a; n=" E_ACUTE " \r\n\t;\r\n b=c ", "a;\r\n n" ALONE E_HEX ";\r\n b=c ")},
+    {"a parameter: a comment before its ;", CONTENT("a;p=" E_ACUTE " (c) ; x", "a;\r\n p" ALONE E_HEX "\r\n (c) ; x")},
+    {"a parameter: text after it", CONTENT("a;p=" E_ACUTE " junk", "a;\r\n p" ALONE E_HEX "\r\n junk")},
+    {"a parameter: only blanks after it", CONTENT("a;n=" E_ACUTE " \r\n \t", "a;\r\n n" ALONE E_HEX)},
+    {"a parameter: only its ; after it", CONTENT("a;n=" E_ACUTE " ;\t", "a;\r\n n" ALONE E_HEX ";")},
+    {"two parameters", CONTENT("a; n=" E_ACUTE " ; m=\"" E_ACUTE "\"", "a;\r\n n" ALONE E_HEX ";\r\n m" ALONE E_HEX)},
+    {"a parameter after an unclosed parenthesis", CONTENT("a (b; n=" E_ACUTE, "a (b;\r\n n" ALONE E_HEX)},
+    {"a parameter: one without a value is none", CONTENT("a; n=; n=" E_ACUTE, "a; n=;\r\n n" ALONE E_HEX)},
+    {"a comment beside parameters", CONTENT(" a (" E_ACUTE "); n=b", " a (" OPEN E_WORD CLOSE "\r\n ); n=b")},
+    {"a comment before a parameter",
+     CONTENT(" a (" E_ACUTE "); n=" E_ACUTE, " a (" OPEN E_WORD CLOSE "\r\n );\r\n n" ALONE E_HEX)},
+    {"a comment after a parameter",
+     CONTENT("a; n=" E_ACUTE " (" E_ACUTE ")", "a;\r\n n" ALONE E_HEX "\r\n (" OPEN E_WORD CLOSE "\r\n )")},
+    {"a parameter of 57 characters after filename", CONTENT("a;filename=" E_9 "aaa", "a;\r\n filename" ALONE E_HEX_9 "aaa")},
+    {"a parameter of 58: 55 and the rest",
+     CONTENT("a;filename=" E_9 "aaaa", "a;\r\n filename" FIRST E_HEX_9 "a;\r\n filename" SECOND "aaa")},
+    {"a parameter in parts: whole characters in each",
+     CONTENT("a;filename=" SUN_6 SUN "; b", "a;\r\n filename" FIRST SUN_HEX_6 ";\r\n filename" SECOND SUN_HEX ";\r\n b")},
+    {"parameters in ASCII are copied", CONTENT(" a;n*=b; n=\"c\" ;N=d", " a;n*=b; n=\"c\" ;N=d")},
+    {"6: non-ASCII before the parameters", IN_LINES(6, 0, "Content-Type: ", E_ACUTE "; n=a\r\n")},
+    {"6: a parameter's name with *", IN_LINES(6, 1, "X: a\r\nContent-Type: a;\r\n n*=", E_ACUTE "\r\n")},
+    {"6: * in the name of another, in ASCII", IN_LINES(6, 0, "Content-Type: a; n*=b; m=", E_ACUTE "\r\n")},
+    {"6: * in a name beside a comment", IN_LINES(6, 0, "Content-Type: a (", E_ACUTE "); n*0=b\r\n")},
+    {"6: a name shared by two parameters, in any case", IN_LINES(6, 0, "Content-Type: a; name=", E_ACUTE "; NAME=b\r\n")},
+    {"6: a name shared by two in ASCII", IN_LINES(6, 0, "Content-Disposition: a; n=b; n=c; m=", E_ACUTE "\r\n")},
+    {"6: non-ASCII in a parameter's name", IN_LINES(6, 0, "Content-Type: a; n", E_ACUTE "=b\r\n")},
+    {"6: a parameter's string that is not closed", IN_LINES(6, 0, "Content-Type: a; n=\"", E_ACUTE "\r\n")},
+    {"6: a blank after =", IN_LINES(6, 0, "Content-Type: a; n= ", E_ACUTE "\r\n")},
+    {"6: a blank before =", IN_LINES(6, 0, "Content-Type: a; n =", E_ACUTE "\r\n")},
+    {"6: a comment after =", IN_LINES(6, 0, "Content-Type: a; n=(c)", E_ACUTE "\r\n")},
+    {"6: no ; before a parameter", IN_LINES(6, 0, "Content-Type: a n=", E_ACUTE "\r\n")},
+    {"6: text straight after a string", IN_LINES(6, 0, "Content-Type: a; n=\"", E_ACUTE "\"b\r\n")},
+    {"6: / straight after a run", IN_LINES(6, 0, "Content-Type: a; n=", E_ACUTE "/b\r\n")},
+    {"6: non-ASCII after a parameter", IN_LINES(6, 0, "Content-Type: a; n=", E_ACUTE " " E_ACUTE "\r\n")},
 
     /* Received fields. */
     {"Received of Postfix, its clause removed", PLAIN,

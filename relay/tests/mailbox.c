@@ -135,6 +135,8 @@ static void test_as_relay(void)
         "Date: a (" E ")\r\n", "Received: from x (" E ") for <" E "@x>; a\r\n",
         "Comments: a\r\n " E "\r\n", "Message-ID: <a@x> (" E ")\r\n",
         "MIME-Version: 1.0 (" E "(" E "))\r\n",
+        "Content-Type: a; n=" E " (" E "); m=\"" E "\"; b=c\r\n",
+        "Content-Disposition: a;\r\n filename=\"" E E E E E E E E E E E E "\"\r\n",
         "From: " E " (" E ") <a@x>\r\nSubject: a\r\n\t" E E "\r\n"
     };
     uint8_t envelope_out[100];
@@ -224,6 +226,10 @@ static void test_refused(void)
                    mailbox_refusal(HENNELAKU_HELD, 0, 12));
     expect_refused(bytes_of("Content-Transfer-Encoding: 8bit " E "\r\n"),
                    mailbox_refusal(HENNELAKU_HELD, 0, 32));
+    expect_refused(bytes_of("Content-Type: a; n*=" E "\r\n"),
+                   mailbox_refusal(HENNELAKU_HELD, 0, 20));
+    expect_refused(bytes_of("Content-Disposition: " E "; n=a\r\n"),
+                   mailbox_refusal(HENNELAKU_HELD, 0, 21));
     report("mailbox: 6, and before 8");
 }
 

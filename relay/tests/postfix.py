@@ -28,10 +28,12 @@ smtp unix - - n - - smtp
 error unix - - n - - error
 retry unix - - n - - error
 anvil unix - - n - 1 anvil
+tlsmgr unix - - n 1000? 1 tlsmgr
 postlog unix-dgram n - n - 1 postlogd
 """
 
-# Nothing of a message is changed on the way, and nothing outside the folder is used.
+# Nothing of a message is changed on the way, nothing outside the folder is used, and each message has a connection of its own, as servers of the tests
+# have it.
 SETTINGS = """\
 compatibility_level = 3.6
 queue_directory = {folder}/queue
@@ -52,7 +54,15 @@ notify_classes =
 smtpd_client_connection_rate_limit = 0
 smtpd_client_event_limit_exceptions = 127.0.0.0/8
 disable_dns_lookups = yes
+smtp_connection_cache_on_demand = no
 """
+
+
+def once(settings):
+    """Settings with the last value for each name alone. For one that stands twice every program of Postfix warns when it starts: under maillog_file
+    postlogd would then wait for room in the queue that only it empties."""
+    lines = [line.partition("=") for line in settings.splitlines() if "=" in line and not line.startswith("#")]
+    return "".join(f"{name.strip()} = {value.strip()}\n" for name, value in {name.strip(): value for name, _, value in lines}.items())
 
 
 def free_port():
@@ -72,7 +82,7 @@ class Instance:
             (self.folder / part).mkdir(parents=True)
         subprocess.run(["chown", "postfix", self.folder / "data"], check=True)
         values = {"folder": self.folder, "name": name, "port": port}
-        (self.etc / "main.cf").write_text(SETTINGS.format(**values) + settings)
+        (self.etc / "main.cf").write_text(once(SETTINGS.format(**values) + settings))
         (self.etc / "master.cf").write_text(SERVICES.format(**values) + services)
 
     def run(self, *command, check=True, seconds=30):
@@ -83,7 +93,11 @@ class Instance:
             out, errors = child.communicate(timeout=seconds)
         except subprocess.TimeoutExpired:
             os.killpg(child.pid, signal.SIGKILL)
-            out, errors = child.communicate(timeout=seconds)
+            child.wait()
+            # Not read to their end: a `master -t` in a session of its own may hold them.
+            child.stdout.close()
+            child.stderr.close()
+            out = errors = ""
             self.stuck += 1
         done = subprocess.CompletedProcess(command, child.returncode, out, errors)
         if check:

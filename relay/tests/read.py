@@ -5,7 +5,6 @@ import os
 import pathlib
 import random
 import re
-import resource
 import shutil
 import subprocess
 import sys
@@ -172,6 +171,7 @@ def tables():
         ("yesterday", "yesterday"),
         ("2 Fex 2026 18:00 +0200", "2 Fex 2026 18:00 +0200"),
         ("2 Feb 2026 18:00", "2026-02-02 18:00"),
+        ("2" + " " * 300 + "Feb 2026 18:00:", "2026-02-02 18:00"),
     ]:
         same(f"the date {text}", read("-t", data=f"Date: {text}\n\n".encode())[1].split("\t")[0], want)
     quoted = "Downgraded-Mail-From: " + '<"a <\\"é"@x <b@x>>' + "\nFrom: c@x\n\n"
@@ -309,35 +309,7 @@ def arguments():
     same("a header that is too long", (status, out, err), (66, "", "standard input: a header is too long\n"))
 
 
-def spent(command):
-    """Processor seconds of a command, the least of three."""
-    least = 1e9
-    for _ in range(3):
-        before = resource.getrusage(resource.RUSAGE_CHILDREN)
-        subprocess.run(command, shell=True, check=True, stdout=subprocess.DEVNULL)
-        after = resource.getrusage(resource.RUSAGE_CHILDREN)
-        least = min(least, after.ru_utime + after.ru_stime - before.ru_utime - before.ru_stime)
-    return least
-
-
-def speed():
-    body = "line of a bulletin with some text in it\r\n" * 80
-    for i in range(10000):
-        file(f"large/cur/{i:05}.host:2,S", crlf(GREEK) + body) if i == 0 else os.link(
-            ROOM / "large/cur/00000.host:2,S", ROOM / f"large/cur/{i:05}.host:2,S"
-        )
-    cat = spent(f"find {ROOM}/large/cur -type f -print0 | xargs -0 cat")
-    for form in ("", "-t", "--json"):
-        ours = spent(f"{PROGRAM} {form} {ROOM}/large")
-        check(
-            f"10,000 messages {form}".strip() + ": at most twice the time of reading them",
-            None if ours <= 2 * cat + 0.05 else f"{ours:.2f} s, cat {cat:.2f} s",
-        )
-
-
 for part in (messages, mboxes, folders, refusals, tables, quoting, any_bytes, terminals, arguments):
     part()
-if "sanitized" not in PROGRAM.parts:
-    speed()
 shutil.rmtree(ROOM)
 sys.exit(closing_line())

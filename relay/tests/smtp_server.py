@@ -34,16 +34,16 @@ class Ended(Exception):
 
 
 class Server:
-    """Listens on a port of its own; takes one connection after another, each by the next of its plans."""
+    """Listens on a port of its own, or at a place; takes one connection after another, each by the next of its plans."""
 
-    def __init__(self, plans, read_slowly=0):
+    def __init__(self, plans, read_slowly=0, place=("127.0.0.1", 0)):
         self.plans = plans if isinstance(plans, list) else [plans]
         self.read_slowly = read_slowly
         self.commands = []      # of the last connection
         self.asked = []         # RCPT lines of all connections
         self.taken = []         # messages that came in whole: data with dots doubled, without the closing dot
         self.acknowledged = []  # those of them that were answered by 2xx
-        self.listening = socket.create_server(("127.0.0.1", 0))
+        self.listening = socket.create_server(place)
         self.port = self.listening.getsockname()[1]
         self.thread = threading.Thread(target=self.run, daemon=True)
         self.thread.start()

@@ -171,7 +171,7 @@ fn held(kind: Kind, field: &Field) -> bool {
         Kind::Held => true,
         Kind::HeldOutsideComments => comment::non_ascii_outside(field.value),
         Kind::Received => received::check(field.name.len(), field.value).is_err(),
-        Kind::Parameters => !cfg!(feature = "parameters") || parameter::check(field.value).is_err(),
+        Kind::Parameters => parameter::check(field.value).is_err(),
         Kind::Address | Kind::Plain | Kind::EncapsulatedOutsideComments | Kind::Other => false,
     }
 }

@@ -42,7 +42,7 @@ use Rattle.outgoing_header.specs.declared.HeaderRefusal.the-variants.{Over, Lin
 use Rattle.outgoing_header.specs.HeaderOutcome.{ofSize, ofLines, ofHeld, ofRoom, numberOf as headerNumber, placeOf as headerPlace, offsetOf as headerOffset}
 use Rattle.outgoing_header.specs.HeaderOutcomeLaws.{size-over, size-within, room-short, room-enough}
 use Rattle.outgoing_header.specs.HeaderBoundLaws.{malformed-le, header-line-le, held-le, field-offset-le}
-use Rattle.outgoing_field.specs.OwedLaws.{most-le}
+use Rattle.outgoing_field.specs.MostLaws.{most-le}
 use Rattle.call.specs.OutgoingHeader.{newFieldsMost, outgoingHeader}
 use Rattle.call.specs.Outcome.{numberOf, inputOf, placeOf, offsetOf, over, ofEnvelope, ofHeader, ofOrcpt, firstOf, verdict, Outcome, outcomeOf, outcome}
 use Rattle.call.specs.OutputLaws.{over-yes, over-no, outgoing-le}
@@ -193,7 +193,7 @@ module _ (rules : Rules) (e h : List ℕ) (room₁ room₂ : ℕ) where
   unfolding firstOf numberOf placeOf offsetOf headerNumber headerPlace headerOffset newFieldsMost
   rooms-bound k l count p w =
       let n : length (written e) ≤ greatest32 = omega (arith, written-le rules e count p) in
-      let m : length (outgoingHeader rules e h) ≤ greatest32 = omega (arith, outgoing-le rules e h count p l w, most-le h l) in
+      let m : length (outgoingHeader rules e h) ≤ greatest32 = omega (arith, outgoing-le rules e h count p l w, most-le rules h l) in
       let last : Verdict = ofHeader (ofRoom room₂ (length (outgoingHeader rules e h))) in
       first-over rules Bounds (last ∷ []) room₁ (length (written e)) (EnvelopeNeeds (length (written e)))
       (λ f.

@@ -22,10 +22,13 @@ use Rattle.header_line.specs.declared.LineCheck.{LineCheck}
 use Rattle.header_line.specs.declared.LineCheck.the-variants.{WellFormed, Malformed}
 use Rattle.header_line.specs.Lines.{checkedLines}
 use Rattle.rules.specs.declared.Rules.{Rules}
-use Rattle.outgoing_field.specs.Fate.{segmentsOf, headerSegments, limited, heldOf}
-use Rattle.outgoing_field.specs.FateLaws.{limited-short}
+use Rattle.outgoing_field.specs.declared.HeldField.{HeldField}
+use Rattle.outgoing_field.specs.declared.HeldField.the-variants.{Absent, At}
+use Rattle.outgoing_field.specs.Fate.{segmentsOf, headerSegments, headerWritten, limited, heldOf}
+use Rattle.outgoing_field.specs.FateLaws.{limited-short, unheld-header}
 use Rattle.outgoing_field.specs.Most.{mostOf}
-use Rattle.outgoing_field.specs.OwedLaws.{owed-header, most-le}
+use Rattle.outgoing_field.specs.MostLaws.{most-le}
+use Rattle.outgoing_field.specs.OwedLaws.{owed-header}
 use Rattle.call.specs.declared.Refusal.{Refusal}
 use Rattle.call.specs.declared.Refusal.the-variants.{EnvelopeOver, EnvelopeLine, EnvelopeNeeds, Header}
 use Rattle.call.specs.declared.Verdict.{Verdict}
@@ -36,7 +39,7 @@ use Rattle.call.specs.Outcome.{over, ofEnvelope, ofHeader, ofOrcpt, firs
 use Rattle.offset.specs.Offset.{faultOffset}
 use Rattle.outgoing_header.specs.declared.HeaderRefusal.the-variants.{Over, Needs}
 use Rattle.outgoing_header.specs.HeaderOutcome.{ofSize, ofLines, ofHeld, ofRoom}
-use Rattle.outgoing_header.specs.HeaderOutcomeLaws.{size-over, size-within, room-short, room-enough, Needed, needed-none}
+use Rattle.outgoing_header.specs.HeaderOutcomeLaws.{size-over, size-within, room-short, room-enough, Needed, needed-none, Passed as PassedHeader}
 use Rattle.call.specs.OutcomeLaws.{RefusedBy}
 use Rattle.call.specs.NewFieldLaws.{length-new-field}
 
@@ -133,11 +136,19 @@ module _ (rules : Rules) (e h : List ℕ) (room₁ room₂ : ℕ) (q : firstOf (
         by-rooms
         ∙ rw (over-no room₁ (length (written e)) (EnvelopeNeeds (length (written e))) k, room-short room₂ (length (outgoingHeader rules e h)) l)
 
--- no header line is malformed, and no ORCPT and no held field carries non-ASCII
-pub record Accepted (rules : Rules) (e h : List ℕ) : Type 0 where
-  pub content : firstOf (ofHeader (ofLines h (checkedLines h)) ∷ ofOrcpt e (orcptLine e) ∷ ofHeader (ofHeld h (heldOf rules h)) ∷ []) ≡ Accept
+last-accepted : (a b v : Verdict) → firstOf (a ∷ b ∷ v ∷ []) ≡ Accept → v ≡ Accept
+unfolding firstOf
+last-accepted Accept Accept Accept k = refl
+last-accepted Accept Accept (Refuse r) k = k
+last-accepted Accept (Refuse r) v k = absurd (let z : _≡_ {A = ℕ} 0 1 = cc in omega arith)
+last-accepted (Refuse r) b v k = absurd (let z : _≡_ {A = ℕ} 0 1 = cc in omega arith)
 
-pub accepted-lines : {rules : Rules} {e h : List ℕ} → Accepted rules e h → checkedLines h ≡ WellFormed
+-- no header line is malformed, and no ORCPT and no held field carries non-ASCII; and this is the most of the header
+pub record Accepted (rules : Rules) (e h : List ℕ) (most : ℕ) : Type 0 where
+  pub content : firstOf (ofHeader (ofLines h (checkedLines h)) ∷ ofOrcpt e (orcptLine e) ∷ ofHeader (ofHeld h (heldOf rules h)) ∷ []) ≡ Accept
+  pub greatest : most ≡ mostOf rules h
+
+accepted-lines : {rules : Rules} {e h : List ℕ} {most : ℕ} → Accepted rules e h most → checkedLines h ≡ WellFormed
 unfolding firstOf ofLines ofHeader
 accepted-lines {rules} {e} {h} ok = go (checkedLines h) refl (ok .content)
   where
@@ -145,25 +156,32 @@ accepted-lines {rules} {e} {h} ok = go (checkedLines h) refl (ok .content)
     go WellFormed q k = q
     go (Malformed line at) q k = absurd (let z : _≡_ {A = ℕ} 0 1 = cc in omega arith)
 
+accepted-none : {rules : Rules} {e h : List ℕ} {most : ℕ} → Accepted rules e h most → heldOf rules h ≡ Absent
+unfolding ofHeld ofHeader
+accepted-none {rules} {e} {h} ok = by-held (heldOf rules h) refl (last-accepted (ofHeader (ofLines h (checkedLines h))) (ofOrcpt e (orcptLine e)) (ofHeader (ofHeld h (heldOf rules h))) (ok .content))
+  where
+    by-held : (f : HeldField) → heldOf rules h ≡ f → ofHeader (ofHeld h f) ≡ Accept → heldOf rules h ≡ Absent
+    by-held Absent q k = q
+    by-held (At line at) q k = absurd (let z : _≡_ {A = ℕ} 0 1 = cc in omega arith)
+
 -- ---- the header, by the texts of its new first fields
 
 unfoldable pub headerOf : Rules → List ℕ → List ℕ → List ℕ → List ℕ
 headerOf rules mail rcpt h =
     rendered ((newField (bytes "Downgraded-Mail-From:") mail ++ newField (bytes "Downgraded-Rcpt-To:") rcpt) ++ headerSegments rules h)
 
-header-le : (rules : Rules) (h : List ℕ) → checkedLines h ≡ WellFormed → length (rendered (headerSegments rules h)) ≤ mostOf h
+header-le : (rules : Rules) (h : List ℕ) → checkedLines h ≡ WellFormed → length (rendered (headerSegments rules h)) ≤ mostOf rules h
 unfolding segmentsOf
 header-le rules h w = owed-header rules h w .short
 
--- texts of new first fields, and a header, within their limits
-pub record Short (mail rcpt h : List ℕ) : Type 0 where
+-- texts of new first fields within their limits
+pub record Short (mail rcpt : List ℕ) : Type 0 where
   pub of-mail : length mail ≤ 2048
   pub of-rcpt : length rcpt ≤ 2048
-  pub of-header : length h ≤ 32768
 
-header-of-le : (rules : Rules) {mail rcpt h : List ℕ} → Short mail rcpt h → checkedLines h ≡ WellFormed → length (headerOf rules mail rcpt h) ≤ mostOf h + newFieldsMost
+header-of-le : (rules : Rules) {mail rcpt : List ℕ} (h : List ℕ) → Short mail rcpt → checkedLines h ≡ WellFormed → length (headerOf rules mail rcpt h) ≤ mostOf rules h + newFieldsMost
 unfolding headerOf bytes newFieldsMost
-header-of-le rules {mail} {rcpt} {h} s w =
+header-of-le rules {mail} {rcpt} h s w =
     let first = newField (bytes "Downgraded-Mail-From:") mail in
     let second = newField (bytes "Downgraded-Rcpt-To:") rcpt in
     omega (
@@ -179,34 +197,31 @@ header-of-le rules {mail} {rcpt} {h} s w =
       s .of-rcpt,
     )
 
-pub header-wrote : (rules : Rules) {mail rcpt h before mid rest after : List ℕ} {n m k : ℕ} → Short mail rcpt h → checkedLines h ≡ WellFormed → length before ≤ greatest
+pub header-wrote : (rules : Rules) {mail rcpt h before mid rest after : List ℕ} {n m k : ℕ} → Short mail rcpt → PassedHeader rules h → length before ≤ greatest
     → AppendedCapped (rendered (newField (bytes "Downgraded-Mail-From:") mail)) 0 before mid n
     → AppendedCapped (rendered (newField (bytes "Downgraded-Rcpt-To:") rcpt)) n mid rest m
-    → AppendedCapped (rendered (headerSegments rules (limited h))) m rest after k
+    → AppendedCapped (rendered (headerWritten rules (limited h))) m rest after k
     → Wrote (headerOf rules mail rcpt h) before after k
 unfolding headerOf newFieldsMost
-header-wrote rules {mail} {rcpt} {h} s w room a b d =
+header-wrote rules {mail} {rcpt} {h} s p room a b d =
     let first = newField (bytes "Downgraded-Mail-From:") mail in
     let second = newField (bytes "Downgraded-Rcpt-To:") rcpt in
     let last = headerSegments rules h in
-    let whole = capped-then (capped-then a b room) (rw (limited-short h (s .of-header)) at d) room in
+    let whole = capped-then (capped-then a b room) (rw (limited-short h (p .short), ← (unheld-header rules h (p .none))) at d) room in
     let same : (rendered first ++ rendered second) ++ rendered last ≡ rendered ((first ++ second) ++ last) = rw (rendered-append (first ++ second) last, rendered-append first second) in
-    wrote-of (capped-same same whole) (omega (arith, header-of-le rules s w, most-le h (s .of-header)))
+    wrote-of (capped-same same whole) (omega (arith, header-of-le rules h s (p .lines), most-le rules h (p .short)))
 
 -- ---- room
 
--- the most of the outgoing header, as code adds it up
-most-given : (h : List ℕ) {n : ℕ} → length h ≤ 32768 → n ≡ mostOf (limited h) → n ≡ mostOf h
-most-given h k e = rw (limited-short h k) at e
+-- no sum with the most wraps
+pub most-small : {rules : Rules} {h : List ℕ} {n : ℕ} → PassedHeader rules h → n ≡ mostOf rules h → n ≤ 2621440
+most-small {rules} {h} p e = rw e (most-le rules h (p .short))
 
-pub most-small : (h : List ℕ) {n : ℕ} → length h ≤ 32768 → n ≡ mostOf (limited h) → n ≤ 2621440
-most-small h k e = rw (most-given h k e) (most-le h k)
-
--- a room that holds whatever the outgoing header of a well-formed header can be
-pub ample : (rules : Rules) {mail rcpt h : List ℕ} {room n : ℕ} → Short mail rcpt h → checkedLines h ≡ WellFormed → n ≡ mostOf (limited h) → n + 20600 ≤ room
+-- a room that holds the most of a header, and that of the new first fields
+pub ample : {rules : Rules} {mail rcpt h : List ℕ} {room n : ℕ} → Short mail rcpt → PassedHeader rules h → n ≡ mostOf rules h → n + 20600 ≤ room
     → Needed (length (headerOf rules mail rcpt h)) room 0
 unfolding newFieldsMost
-ample rules {h = h} s w e k = needed-none (omega (arith, header-of-le rules s w, most-given h (s .of-header) e))
+ample {rules} {h = h} s p e k = needed-none (omega (arith, header-of-le rules h s (p .lines), e))
 
 -- these are the texts of the new first fields
 pub record Texts (e mail rcpt : List ℕ) : Type 0 where
@@ -219,12 +234,12 @@ header-of rules t h = rw (t .of-mail, t .of-rcpt)
 
 -- the outgoing header has at most the most of a well-formed header, and that of the new first fields
 pub outgoing-le : (rules : Rules) (e h : List ℕ) (count : ℕ) → checked rules e ≡ Passed count → length h ≤ 32768 → checkedLines h ≡ WellFormed
-    → length (outgoingHeader rules e h) ≤ mostOf h + newFieldsMost
+    → length (outgoingHeader rules e h) ≤ mostOf rules h + newFieldsMost
 outgoing-le rules e h count p k w =
     let t : Texts e (mailReplacement e) (rcptReplacement e) = record { of-mail = refl; of-rcpt = refl } in
-    let s : Short (mailReplacement e) (rcptReplacement e) h =
-    record { of-mail = omega (arith, mail-replacement-short rules e count p); of-rcpt = omega (arith, rcpt-replacement-short rules e count p); of-header = k } in
-    rw (header-of rules t h) at (header-of-le rules s w)
+    let s : Short (mailReplacement e) (rcptReplacement e) =
+    record { of-mail = omega (arith, mail-replacement-short rules e count p); of-rcpt = omega (arith, rcpt-replacement-short rules e count p) } in
+    rw (header-of rules t h) at (header-of-le rules h s w)
 
 -- ---- what the writers need
 
@@ -274,12 +289,15 @@ module _ {rules : Rules} {e h array : List ℕ} {count : ℕ} (r : Ready rules e
   pub ready-texts : {mail rcpt : List ℕ} → mail ≡ mailReplacement e → rcpt ≡ onlyRcptOf (textsAt count array e) → Texts e mail rcpt
   ready-texts p q = record { of-mail = p; of-rcpt = q ∙ rcpt-is }
 
-  pub ready-short : {mail rcpt : List ℕ} → Texts e mail rcpt → Short mail rcpt h
-  ready-short t = record { of-mail = rw (t .of-mail) mail-short; of-rcpt = rw (t .of-rcpt) (omega (arith, rcpt-replacement-short rules e count (r .passed))); of-header = r .short₂ }
+  pub ready-short : {mail rcpt : List ℕ} → Texts e mail rcpt → Short mail rcpt
+  ready-short t = record { of-mail = rw (t .of-mail) mail-short; of-rcpt = rw (t .of-rcpt) (omega (arith, rcpt-replacement-short rules e count (r .passed))) }
+
+  pub ready-passed : {most : ℕ} → Accepted rules e h most → PassedHeader rules h
+  ready-passed ok = record { short = r .short₂; lines = accepted-lines ok; none = accepted-none ok }
 
   -- ---- room
 
-  module _ (ok : Accepted rules e h) (b c : List ℕ) where
+  module _ {most : ℕ} (ok : Accepted rules e h most) (b c : List ℕ) where
     past-content : verdict rules e h (length b) (length c)
         ≡ firstOf
         (over (length b) (length (written e)) (EnvelopeNeeds (length (written e)))

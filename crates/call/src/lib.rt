@@ -27,6 +27,13 @@ pub enum Verdict {
     Refuse(Refusal),
 }
 
+// A verdict on what stands in an envelope that is well formed and in a header; where both pass, with the most bytes that are written for the
+// header.
+pub(crate) enum Content {
+    Passes(usize),
+    Fails(Refusal),
+}
+
 // What a call answers: the paper's number, which input it is about (1 the envelope, 2 the header, 0 neither), the paper's place and
 // offset, and the lengths of what was written.
 #[repr(C)]
@@ -53,12 +60,13 @@ fn downgrade_checked(
     ensures { λ r. ⌜ observed r (now («envelope_buffer» .exit)) (now («header_buffer» .exit)) ≡ outcome rules (now (envelope .entry)) (now (header .entry)) (now («envelope_buffer» .entry)) (now («header_buffer» .entry)) ⌝ }
 {
     match refusals::of_content(rules, envelope, header) {
-        Verdict::Refuse(refusal) => refused(refusal),
-        Verdict::Accept => {
+        Content::Fails(refusal) => refused(refusal),
+        Content::Passes(most) => {
             output::fill(
                 rules,
                 envelope,
                 header,
+                most,
                 starts,
                 count,
                 envelope_buffer,

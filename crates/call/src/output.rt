@@ -4,9 +4,8 @@ ghost use lib.ListN.{length};
 ghost use Rattle.buffer.specs.Buffer.{Wrote};
 ghost use Rattle.envelope.specs.Envelope.{written};
 ghost use Rattle.call.specs.Outcome.{observed, outcome};
-ghost use Rattle.header_line.specs.declared.LineCheck.the-variants.{WellFormed};
-ghost use Rattle.header_line.specs.Lines.{checkedLines};
-ghost use Rattle.outgoing_header.specs.HeaderOutcomeLaws.{Needed};
+ghost use Rattle.outgoing_field.specs.Most.{mostOf};
+ghost use Rattle.outgoing_header.specs.HeaderOutcomeLaws.{Needed, Passed};
 ghost use Rattle.call.specs.OutputLaws.{Short, headerOf, Ready, StartsOf, Accepted, Texts};
 use crate::Answer;
 use crate::Refusal;
@@ -24,7 +23,7 @@ const NEW_FIELDS_MOST: usize = 20600;
 // Writes the outgoing header to the front of out, as far as it fits; answers its whole length. `mail` and `rcpt` are the texts of
 // the new first fields.
 fn put_header(out: &mut [u8], rules: Rules, mail: &[u8], rcpt: &[u8], header: &[u8]) -> usize
-    requires { ⌜ Short (now mail) (now rcpt) (now header) × (checkedLines (now header) ≡ WellFormed) ⌝ }
+    requires { ⌜ Short (now mail) (now rcpt) × Passed rules (now header) ⌝ }
     ensures { λ r. ⌜ Wrote (headerOf rules (now (mail .entry)) (now (rcpt .entry)) (now (header .entry))) (now (out .entry)) (now (out .exit)) r ⌝ }
 {
     let mail_end = add_new_field(out, 0, b"Downgraded-Mail-From:", mail);
@@ -33,19 +32,26 @@ fn put_header(out: &mut [u8], rules: Rules, mail: &[u8], rcpt: &[u8], header: &[
 }
 
 fn header_len(rules: Rules, mail: &[u8], rcpt: &[u8], header: &[u8]) -> usize
-    requires { ⌜ Short (now mail) (now rcpt) (now header) × (checkedLines (now header) ≡ WellFormed) ⌝ }
+    requires { ⌜ Short (now mail) (now rcpt) × Passed rules (now header) ⌝ }
     ensures { λ r. ⌜ r ≡ length (headerOf rules (now (mail .entry)) (now (rcpt .entry)) (now (header .entry))) ⌝ }
 {
     let mut none = [0u8; 0];
     put_header(&mut none, rules, mail, rcpt, header)
 }
 
-// The length of the outgoing header; or 0 where the room holds whatever the outgoing header can be, which then need not be measured.
-fn header_needs(rules: Rules, mail: &[u8], rcpt: &[u8], header: &[u8], room: usize) -> usize
-    requires { ⌜ Short (now mail) (now rcpt) (now header) × (checkedLines (now header) ≡ WellFormed) ⌝ }
+// The length of the outgoing header; or 0 where the room holds the most that it can be, and it need not be measured.
+fn header_needs(
+    rules: Rules,
+    mail: &[u8],
+    rcpt: &[u8],
+    header: &[u8],
+    most: usize,
+    room: usize,
+) -> usize
+    requires { ⌜ Short (now mail) (now rcpt) × Passed rules (now header) × (most ≡ mostOf rules (now header)) ⌝ }
     ensures { λ r. ⌜ Needed (length (headerOf rules (now (mail .entry)) (now (rcpt .entry)) (now (header .entry)))) room r ⌝ }
 {
-    if outgoing_header::most(header) + NEW_FIELDS_MOST <= room {
+    if most + NEW_FIELDS_MOST <= room {
         return 0;
     }
     header_len(rules, mail, rcpt, header)
@@ -64,6 +70,7 @@ fn fill_with(
     rules: Rules,
     envelope: &[u8],
     header: &[u8],
+    most: usize,
     starts: &[usize; 100],
     count: usize,
     mail: &[u8],
@@ -71,14 +78,14 @@ fn fill_with(
     envelope_buffer: &mut [u8],
     header_buffer: &mut [u8],
 ) -> Answer
-    requires { ⌜ Ready rules (now envelope) (now header) (now starts) count × Accepted rules (now envelope) (now header) × Texts (now envelope) (now mail) (now rcpt) ⌝ }
+    requires { ⌜ Ready rules (now envelope) (now header) (now starts) count × Accepted rules (now envelope) (now header) most × Texts (now envelope) (now mail) (now rcpt) ⌝ }
     ensures { λ r. ⌜ observed r (now («envelope_buffer» .exit)) (now («header_buffer» .exit)) ≡ outcome rules (now (envelope .entry)) (now (header .entry)) (now («envelope_buffer» .entry)) (now («header_buffer» .entry)) ⌝ }
 {
     let n = envelope_len(envelope, starts, count);
     if envelope_buffer.len() < n {
         return refused(Refusal::EnvelopeNeeds(n));
     }
-    let m = header_needs(rules, mail, rcpt, header, header_buffer.len());
+    let m = header_needs(rules, mail, rcpt, header, most, header_buffer.len());
     if header_buffer.len() < m {
         return refused(Refusal::Header(HeaderRefusal::Needs(m)));
     }
@@ -97,12 +104,13 @@ pub(crate) fn fill(
     rules: Rules,
     envelope: &[u8],
     header: &[u8],
+    most: usize,
     starts: &[usize; 100],
     count: usize,
     envelope_buffer: &mut [u8],
     header_buffer: &mut [u8],
 ) -> Answer
-    requires { ⌜ Ready rules (now envelope) (now header) (now starts) count × Accepted rules (now envelope) (now header) ⌝ }
+    requires { ⌜ Ready rules (now envelope) (now header) (now starts) count × Accepted rules (now envelope) (now header) most ⌝ }
     ensures { λ r. ⌜ observed r (now («envelope_buffer» .exit)) (now («header_buffer» .exit)) ≡ outcome rules (now (envelope .entry)) (now (header .entry)) (now («envelope_buffer» .entry)) (now («header_buffer» .entry)) ⌝ }
 {
     let mut mail = [0u8; ROOM];
@@ -113,6 +121,7 @@ pub(crate) fn fill(
         rules,
         envelope,
         header,
+        most,
         starts,
         count,
         &mail[..n],

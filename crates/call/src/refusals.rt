@@ -1,17 +1,21 @@
 // Refusals by what stands in the header, and by non-ASCII in an ORCPT; and what a refused call answers.
 ghost use mathlib.Core.Path.{_≡_};
 ghost use mathlib.Core.List.{[], _∷_};
+ghost use Prim.Native.Nat.{_≤_};
+ghost use lib.ListN.{length};
 ghost use Rattle.envelope.specs.Envelope.{faultNumber, orcptLine};
 ghost use Rattle.header_line.specs.Lines.{checkedLines};
 ghost use Rattle.outgoing_field.specs.Fate.{heldOf};
+ghost use Rattle.outgoing_field.specs.Most.{mostOf};
 ghost use Rattle.outgoing_header.specs.HeaderOutcome.{ofLines, ofHeld};
 ghost use Rattle.call.specs.Outcome.{numberOf, placeOf, offsetOf, inputOf, firstOf, ofHeader, ofOrcpt};
-ghost use Rattle.call.specs.OutcomeLaws.{RefusedBy};
+ghost use Rattle.call.specs.OutcomeLaws.{RefusedBy, withMost, ofContent};
 use crate::Answer;
+use crate::Content;
 use crate::Refusal;
-use crate::Verdict;
 use envelope::Orcpt;
 use envelope_line::Fault;
+use outgoing_header::HeaderContent;
 use outgoing_header::HeaderVerdict;
 use rules::Rules;
 
@@ -92,33 +96,35 @@ pub(crate) fn refused(refusal: Refusal) -> Answer
 }
 
 // A verdict on the header.
-fn of_header(verdict: HeaderVerdict) -> Verdict
-    ensures { λ r. ⌜ r ≡ ofHeader verdict ⌝ }
+fn of_header(content: HeaderContent) -> Content
+    ensures { λ r. ⌜ r ≡ ofContent content ⌝ }
 {
-    match verdict {
-        HeaderVerdict::Accept => Verdict::Accept,
-        HeaderVerdict::Refuse(refusal) => Verdict::Refuse(Refusal::Header(refusal)),
+    match content {
+        HeaderContent::Passes(most) => Content::Passes(most),
+        HeaderContent::Fails(refusal) => Content::Fails(Refusal::Header(refusal)),
     }
 }
 
 // Non-ASCII in an ORCPT, or else in a held field.
-fn non_ascii(rules: Rules, envelope: &[u8], header: &[u8]) -> Verdict
-    ensures { λ r. ⌜ r ≡ firstOf (ofOrcpt (now (envelope .entry)) (orcptLine (now (envelope .entry))) ∷ ofHeader (ofHeld (now (header .entry)) (heldOf rules (now (header .entry)))) ∷ []) ⌝ }
+fn non_ascii(rules: Rules, envelope: &[u8], header: &[u8]) -> Content
+    requires { ⌜ length (now header) ≤ 32768 ⌝ }
+    ensures { λ r. ⌜ r ≡ withMost (firstOf (ofOrcpt (now (envelope .entry)) (orcptLine (now (envelope .entry))) ∷ ofHeader (ofHeld (now (header .entry)) (heldOf rules (now (header .entry)))) ∷ [])) (mostOf rules (now (header .entry))) ⌝ }
 {
     match envelope::orcpt_line(envelope) {
         Orcpt::Clean => of_header(outgoing_header::of_held(rules, header)),
         Orcpt::At(line) => {
-            Verdict::Refuse(Refusal::OrcptLine(line, offset::of_orcpt(envelope, line)))
+            Content::Fails(Refusal::OrcptLine(line, offset::of_orcpt(envelope, line)))
         }
     }
 }
 
 // A malformed header line, or else non-ASCII that cannot be passed on.
-pub(crate) fn of_content(rules: Rules, envelope: &[u8], header: &[u8]) -> Verdict
-    ensures { λ r. ⌜ r ≡ firstOf (ofHeader (ofLines (now (header .entry)) (checkedLines (now (header .entry)))) ∷ ofOrcpt (now (envelope .entry)) (orcptLine (now (envelope .entry))) ∷ ofHeader (ofHeld (now (header .entry)) (heldOf rules (now (header .entry)))) ∷ []) ⌝ }
+pub(crate) fn of_content(rules: Rules, envelope: &[u8], header: &[u8]) -> Content
+    requires { ⌜ length (now header) ≤ 32768 ⌝ }
+    ensures { λ r. ⌜ r ≡ withMost (firstOf (ofHeader (ofLines (now (header .entry)) (checkedLines (now (header .entry)))) ∷ ofOrcpt (now (envelope .entry)) (orcptLine (now (envelope .entry))) ∷ ofHeader (ofHeld (now (header .entry)) (heldOf rules (now (header .entry)))) ∷ [])) (mostOf rules (now (header .entry))) ⌝ }
 {
     match outgoing_header::of_lines(header) {
         HeaderVerdict::Accept => non_ascii(rules, envelope, header),
-        HeaderVerdict::Refuse(refusal) => Verdict::Refuse(Refusal::Header(refusal)),
+        HeaderVerdict::Refuse(refusal) => Content::Fails(Refusal::Header(refusal)),
     }
 }

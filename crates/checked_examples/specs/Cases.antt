@@ -30,7 +30,7 @@ use Rattle.header.specs.Fields.{fold, fieldLen, fieldsOf, nameOf, valueOf, unfo
 use Rattle.header_name.specs.Names.{groups, among, otherCommented, otherKind, kindAmong, kindOf}
 use Rattle.field_method.specs.FieldMethod.{methodOf}
 use Rattle.field.specs.Field.{labelledField, prefix, encodedField}
-use Rattle.outgoing_field.specs.Fate.{methodFate, fateOf, segmentsOf, fieldSegments, headerSegments, isHeld, heldFrom, heldOf}
+use Rattle.outgoing_field.specs.Fate.{holds, methodWritten, methodFate, fateOf, segmentsOf, fieldSegments, headerSegments, isHeld, heldFrom, heldOf}
 use Rattle.encoded_word.specs.Segments.{rendered}
 use Rattle.rules.specs.declared.Rules.the-variants.{Spool}
 use Rattle.call.specs.declared.Verdict.the-variants.{Accept}
@@ -162,7 +162,7 @@ needs-by e h n m q p r b c = (
 )
 
 pub cases-right : AllRight cases
-unfolding alt altPlace orcptClean newPath withoutAlt rowAfterIn runsAfter linesAfter nameOf unfoldedAfter trimmed textOf groups among otherCommented otherKind kindAmong kindOf methodOf labelledField prefix encodedField methodFate lineCount rowIn runs chosen cut lines word digit64 inBase64 spell spellByte bare hexDigit bytes lower sameAnyCase crlf lineLen later byteThen scanThen isAtext isAtomByte isQuotedByte isLiteralByte dotAtomFrom dotAtomScan quotedFrom quotedScan literalFrom literalScan domainScan localScan addressScan isAddress isAsciiAddress run utf8 chars cutBy cutAfter charLen leadingZeros isChar secondLow secondHigh isXchar isHexDigit hexValue isHexchar unitLen unitByte decodingAfter decoding isXtext decoded isAltAddress verb hasVerb pathScan pathLen path hasPath tail params spaced isKeywordByte keywordLen keyword hasValue value isOrcpt isAlt isValueByte isParam alts altsOk wellFormed valueFault altFault lineFault envelopeLines lineText endedFault faultOf faultNumber isFine counted checkedFrom checked lineByte blank nameByte nameLen named continuation lineOk linesOf linesFrom checkedLines wellFormedLine numberOf placeOf headerNumber headerPlace over ofSize ofEnvelope ofHeader ofLines ofOrcpt ofHeld ofRoom firstOf verdict outcomeOf outcome texts orcptFrom orcptLine orcptFault writtenEnded writtenOf written writtenLine heldFrom heldOf isHeld fateOf fold fieldLen fieldsOf valueOf newField newFields outgoingSegments outgoingHeader mailOf mailReplacement onlyRcptOf rcptReplacement replacement segmentsOf fieldSegments headerSegments rendered
+unfolding alt altPlace orcptClean newPath withoutAlt rowAfterIn runsAfter linesAfter nameOf unfoldedAfter trimmed textOf groups among otherCommented otherKind kindAmong kindOf methodOf labelledField prefix encodedField holds methodWritten methodFate lineCount rowIn runs chosen cut lines word digit64 inBase64 spell spellByte bare hexDigit bytes lower sameAnyCase crlf lineLen later byteThen scanThen isAtext isAtomByte isQuotedByte isLiteralByte dotAtomFrom dotAtomScan quotedFrom quotedScan literalFrom literalScan domainScan localScan addressScan isAddress isAsciiAddress run utf8 chars cutBy cutAfter charLen leadingZeros isChar secondLow secondHigh isXchar isHexDigit hexValue isHexchar unitLen unitByte decodingAfter decoding isXtext decoded isAltAddress verb hasVerb pathScan pathLen path hasPath tail params spaced isKeywordByte keywordLen keyword hasValue value isOrcpt isAlt isValueByte isParam alts altsOk wellFormed valueFault altFault lineFault envelopeLines lineText endedFault faultOf faultNumber isFine counted checkedFrom checked lineByte blank nameByte nameLen named continuation lineOk linesOf linesFrom checkedLines wellFormedLine numberOf placeOf headerNumber headerPlace over ofSize ofEnvelope ofHeader ofLines ofOrcpt ofHeld ofRoom firstOf verdict outcomeOf outcome texts orcptFrom orcptLine orcptFault writtenEnded writtenOf written writtenLine heldFrom heldOf isHeld fateOf fold fieldLen fieldsOf valueOf newField newFields outgoingSegments outgoingHeader mailOf mailReplacement onlyRcptOf rcptReplacement replacement segmentsOf fieldSegments headerSegments rendered
 cases-right = (
   refl,
   (

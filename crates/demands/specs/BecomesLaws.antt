@@ -1,6 +1,6 @@
 -- What becomes of a header's fields, by relations, is what is written for them and what is held. Assumes nothing.
 use mathlib.Core.Path.{_≡_, refl, sym, ap, _∙_}
-use mathlib.Core.Bool.{Bool, true, not, cond, _&&_}
+use mathlib.Core.Bool.{Bool, true, false, not, cond, _&&_}
 use mathlib.Core.List.{List, [], _∷_, _++_, append-nil, map}
 use Prim.Native.Nat.{ℕ, suc, _+_}
 use native.Mathlib.Nat.{add-zero, zero-add}
@@ -30,7 +30,9 @@ use Rattle.structured_field.specs.GrammarLaws.{made-reads as structured-reads, 
 use Rattle.received.specs.Received.{valueClear, linesFit, passes, receivedField}
 use Rattle.received.specs.LinesLaws.{lines-fit, fit-lines}
 use Rattle.received.specs.GrammarLaws.{made-reads as received-reads, reads-made as reads-received}
-use Rattle.outgoing_field.specs.Fate.{Fate, commentsOrEncapsulated, methodFate, fateOf, segmentsOf, fieldSegments, headerSegments, isHeld, heldFrom, heldOf}
+use Rattle.parameterized_field.specs.Value.{segmentsFrom, parameterizedField, passes as parametersPass}
+use Rattle.parameterized_field.specs.GrammarLaws.{passes-made, made-passes}
+use Rattle.outgoing_field.specs.Fate.{Fate, commentsOrEncapsulated, holds, methodWritten, methodFate, fateOf, segmentsOf, fieldSegments, headerSegments, isHeld, heldFrom, heldOf}
 use Rattle.outgoing_field.specs.Fate.Fate.{held, written}
 use Rattle.outgoing_field.specs.declared.HeldField.{HeldField}
 use Rattle.outgoing_field.specs.declared.HeldField.the-variants.{Absent, At}
@@ -44,6 +46,11 @@ Held rules field = (new : List Segment) → Becomes rules field new → ⊥
 
 -- ---- a field
 
+-- what holds of either, by a test that is denied
+if-not : {X : Type 0} (P : X → Type 0) (b : Bool) (x y : X) → (T b → P y) → (T (not b) → P x) → P (cond (not b) x y)
+if-not P true x y f g = f tt
+if-not P false x y f g = g tt
+
 -- a fate, by what is written for it
 data Fated (Written : List Segment → Type 0) : Fate → Type 0 where
   nothing : Fated Written held
@@ -54,17 +61,17 @@ fated-written (Fated.something w) = w
 
 module _ (rules : Rules) (field : List ℕ) where
   method-fated : (method : Method) → Fated (MethodBecomes rules field method) (methodFate rules method field)
-  unfolding methodFate commentsOrEncapsulated structuredField receivedField passes
+  unfolding methodFate holds methodWritten commentsOrEncapsulated structuredField receivedField parameterizedField segmentsFrom passes
   method-fated Pieces = Fated.something (MethodBecomes.pieces (field-made rules (nameOf field) (textOf field)))
   method-fated PlainText = Fated.something MethodBecomes.plain-text
   method-fated Encapsulated = Fated.something MethodBecomes.encapsulated
   method-fated Received =
-      cond-has (Fated (MethodBecomes rules field Received)) (passes (nameOf field) (valueOf field)) (written (receivedField (nameOf field) (valueOf field))) held
+      if-not (Fated (MethodBecomes rules field Received)) (passes (nameOf field) (valueOf field)) held (written (receivedField (nameOf field) (valueOf field)))
       (λ t. let b = and-yes (valueClear (valueOf field)) (linesFit (rendered (receivedField (nameOf field) (valueOf field)))) t in
       Fated.something (MethodBecomes.received (reads-received (record { clear-all = b .0; is = refl })) (lines-fit (rendered (receivedField (nameOf field) (valueOf field))) (b .1))))
       (λ t. Fated.nothing)
   method-fated CommentsOrHeld =
-      cond-has (Fated (MethodBecomes rules field CommentsOrHeld)) (asciiOutsideComments (valueOf field)) (written (structuredField (nameOf field) (valueOf field))) held
+      if-not (Fated (MethodBecomes rules field CommentsOrHeld)) (asciiOutsideComments (valueOf field)) held (written (structuredField (nameOf field) (valueOf field)))
       (λ t. Fated.something (MethodBecomes.comments (reads-structured (record { ascii = t; is = refl }))))
       (λ t. Fated.nothing)
   method-fated CommentsOrEncapsulated =
@@ -72,7 +79,10 @@ module _ (rules : Rules) (field : List ℕ) where
       (cond-has (MethodBecomes rules field CommentsOrEncapsulated) (asciiOutsideComments (valueOf field)) (structuredField (nameOf field) (valueOf field)) (encodedField true (nameOf field) (textOf field))
       (λ t. MethodBecomes.comments-alone (reads-structured (record { ascii = t; is = refl })))
       (λ t. MethodBecomes.outside-comments (λ segments v. T-not (asciiOutsideComments (valueOf field)) t (structured-reads v .ascii))))
-  method-fated Parameters = Fated.nothing
+  method-fated Parameters =
+      if-not (Fated (MethodBecomes rules field Parameters)) (parametersPass (valueOf field)) held (written (parameterizedField (nameOf field) (valueOf field)))
+      (λ t. let b = passes-made (valueOf field) t in Fated.something (MethodBecomes.parameters (b .0) (b .1)))
+      (λ t. Fated.nothing)
   method-fated HeldMethod = Fated.nothing
 
   by-method : {fate : Fate} → T (not (all isAscii (valueOf field))) → Fated (MethodBecomes rules field (methodOf rules (kindOf (nameOf field)))) fate → Fated (Becomes rules field) fate
@@ -90,7 +100,7 @@ module _ (rules : Rules) (field : List ℕ) where
   becomes e = fated-written (rw e at fated)
 
   method-exact : {method : Method} {segments : List Segment} → MethodBecomes rules field method segments → methodFate rules method field ≡ written segments
-  unfolding methodFate commentsOrEncapsulated structuredField receivedField passes
+  unfolding methodFate holds methodWritten commentsOrEncapsulated structuredField receivedField parameterizedField segmentsFrom passes
   method-exact (MethodBecomes.pieces a) = ap written (field-only rules (nameOf field) (textOf field) a)
   method-exact (MethodBecomes.plain-text) = refl
   method-exact (MethodBecomes.encapsulated) = refl
@@ -109,6 +119,9 @@ module _ (rules : Rules) (field : List ℕ) where
       let short = rw (r .is) at fit in
       let lines = linesFit (rendered (receivedField (nameOf field) (valueOf field))) in
       rw (r .is, yes-true (valueClear (valueOf field) && lines) (yes-and (valueClear (valueOf field)) lines (r .clear-all) (fit-lines (rendered (receivedField (nameOf field) (valueOf field))) short)))
+  method-exact (MethodBecomes.parameters v names) =
+      let r = made-passes v names in
+      rw (r .1, yes-true (parametersPass (valueOf field)) (r .0))
 
   pub becomes-exact : {segments : List Segment} → Becomes rules field segments → fateOf rules field ≡ written segments
   unfolding fateOf

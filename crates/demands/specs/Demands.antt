@@ -14,7 +14,9 @@ use Rattle.lists.specs.Run.{run}
 use Rattle.row.specs.Demand3.{Demand3}
 use Rattle.row.specs.FieldRow.{FieldDemand3}
 use Rattle.encoded_word.specs.Segments.{Segment, rendered}
-use Rattle.encoded_word.specs.Segments.Segment.{words, labelled}
+use Rattle.encoded_word.specs.Segments.Segment.{words, labelled, parameter}
+use Rattle.mime_parameter.specs.Pieces.{laid}
+use Rattle.mime_parameter.specs.Parameter2231.{ParameterDemand}
 use Rattle.envelope_line.specs.LineGrammar.{Line, LineRefused}
 use Rattle.line_stop.specs.FirstBad.{MalformedAt}
 use Rattle.envelope.specs.EnvelopeDemand.{WellFormedAt, Any, Ascii, EnvelopeLines}
@@ -88,7 +90,8 @@ pub record Demand2 (rules : Rules) (e h e′ h′ : List ℕ) : Type 0 where
 -- counts by itself."
 
 -- Demand 3 for an outgoing header h′ that is rendered of segments which are `Written`: wherever they ask for the encoded words of a text,
--- the bytes there are a row of which demand 3 holds, which `Demand3` and `FieldDemand3` state for one text and its row.
+-- the bytes there are a row of which demand 3 holds, which `Demand3` and `FieldDemand3` state for one text and its row; and what request 7
+-- promises wherever they ask for a parameter by RFC 2231, which `ParameterDemand` states for its name, the text of its value and its pieces.
 pub record DemandThree (Written : List Segment → Type 0) (h′ : List ℕ) : Type 0 where
   pub alone : (before : List Segment) (text : List ℕ) (after : List Segment) → Written (before ++ (words text ∷ after))
       → (row : List ℕ) × (h′ ≡ rendered before ++ (row ++ rendered after)) × Demand3 text row
@@ -96,6 +99,10 @@ pub record DemandThree (Written : List Segment → Type 0) (h′ : List ℕ) : T
   -- now speaks of the fewest lines of the field, among rows set as ours are".
   pub after-label : (before : List Segment) (label text : List ℕ) (after : List Segment) → Written (before ++ (labelled label text ∷ after))
       → (row : List ℕ) × (h′ ≡ rendered before ++ (label ++ (row ++ rendered after))) × FieldDemand3 (length label) text row
+  -- "Each converted piece has its own line, begun by one space", with a `;` between two of them (`laid`). "Reading the parts back gives the
+  -- value, and no numbering from zero in parts of this same spelling .. needs fewer parts."
+  pub converted : (before : List Segment) (name text : List ℕ) (after : List Segment) → Written (before ++ (parameter name text ∷ after))
+      → (pieces : List (List ℕ)) × (h′ ≡ rendered before ++ (laid [] pieces ++ rendered after)) × ParameterDemand name text pieces
 
 -- ---- all three
 

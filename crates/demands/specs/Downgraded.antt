@@ -1,11 +1,11 @@
 -- What is written for an envelope and a header that pass, by the paper's grammar, and what passes. Assumes nothing.
 use mathlib.Core.Bool.{true, false, not}
-use mathlib.Core.List.{List, [], _∷_, _++_}
+use mathlib.Core.List.{List, [], _∷_, _++_, map}
 use Prim.Native.Nat.{ℕ, suc, _≤_}
 use lib.Dec.{T, eqb}
 use lib.ListN.{length}
 use Rattle.lists.specs.Byte.{isAscii}
-use Rattle.lists.specs.Lists.{all}
+use Rattle.lists.specs.Lists.{all, joined}
 use Rattle.letter_case.specs.LetterCase.{bytes}
 use Rattle.rules.specs.declared.Rules.{Rules}
 use Rattle.encoded_word.specs.Segments.{Segment, rendered}
@@ -15,13 +15,16 @@ use Rattle.envelope.specs.EnvelopeDemand.{Ascii, EnvelopeLines}
 use Rattle.header_line.specs.Lines.{wellFormed}
 use Rattle.header.specs.Fields.{fieldsOf, nameOf, valueOf, textOf}
 use Rattle.field_method.specs.declared.Method.{Method}
-use Rattle.field_method.specs.declared.Method.the-variants.{Pieces, PlainText, Encapsulated, Received, CommentsOrHeld, CommentsOrEncapsulated}
+use Rattle.field_method.specs.declared.Method.the-variants.{Pieces, PlainText, Encapsulated, Received, CommentsOrHeld, CommentsOrEncapsulated, Parameters}
 use Rattle.field_method.specs.FieldMethod.{methodOf}
 use Rattle.header_name.specs.Names.{kindOf}
 use Rattle.field.specs.Field.{encodedField, named}
 use Rattle.address_grammar.specs.AddressField.{AddressField}
 use Rattle.structured_field.specs.Grammar.{StructuredValue}
 use Rattle.received.specs.Grammar.{ReceivedValue, LinesFit}
+use Rattle.parameter_names.specs.Names.{distinct}
+use Rattle.parameterized_field.specs.Value.{Item, itemSegments, itemNames}
+use Rattle.parameterized_field.specs.Grammar.{ParameterizedValue}
 use Rattle.call.specs.OutgoingHeader.{newField}
 
 -- ---- the envelope
@@ -52,7 +55,8 @@ pub data HeaderLines : ℕ → List ℕ → Type 0 where
 -- What becomes of a field whose value is not ASCII, by the method for it. "Plain text: name, colon, encoded words of the text."
 -- "encapsulated: `Downgraded-` before the name". Date and the others with comments "are held only if non-ASCII stands outside their
 -- comments"; in a mailbox Message-ID to References "are encapsulated" then. A Received field is held too "with a line grown past 998
--- bytes". For the methods Parameters and Held there is no rule: such a field is held.
+-- bytes", one with parameters where a name "is shared by two parameters (any case)". For the method Held there is no rule: such a field
+-- is held.
 pub data MethodBecomes (rules : Rules) (field : List ℕ) : Method → List Segment → Type 0 where
   pieces : {segments : List Segment} → AddressField rules (nameOf field) (textOf field) segments → MethodBecomes rules field Pieces segments
   plain-text : MethodBecomes rules field PlainText (encodedField false (nameOf field) (textOf field))
@@ -63,6 +67,8 @@ pub data MethodBecomes (rules : Rules) (field : List ℕ) : Method → List Segm
       → MethodBecomes rules field CommentsOrEncapsulated (encodedField true (nameOf field) (textOf field))
   received : {segments : List Segment} → ReceivedValue (valueOf field) segments → LinesFit (rendered (named (nameOf field) segments))
       → MethodBecomes rules field Received (named (nameOf field) segments)
+  parameters : {items : List Item} → ParameterizedValue (valueOf field) items → T (distinct (joined (map itemNames items)))
+      → MethodBecomes rules field Parameters (named (nameOf field) (joined (map itemSegments items)))
 
 -- "A field whose value is ASCII is copied."
 pub data Becomes (rules : Rules) (field : List ℕ) : List Segment → Type 0 where

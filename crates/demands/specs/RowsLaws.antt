@@ -1,4 +1,4 @@
--- Demand 3 of every row of sound segments; and that two rows, one straight after the other, read back as their two texts joined. Assumes
+-- Demand 3 of every row of sound segments, and the promise of every parameter; and that two rows, one straight after the other, read back as their two texts joined. Assumes
 -- nothing.
 use mathlib.Core.Path.{_≡_, refl, sym, ap, _∙_}
 use mathlib.Core.Bool.{Bool, false}
@@ -19,8 +19,9 @@ use Rattle.row.specs.Layout.{Word, wordBytes, LaidAfter, addedText}
 use Rattle.row.specs.Layout.LaidAfter.{empty, space, crlf, word}
 use Rattle.row.specs.Demand3Laws.{demand-3}
 use Rattle.encoded_word.specs.Segments.{Segment, bytesOf, rendered, sound}
-use Rattle.encoded_word.specs.Segments.Segment.{words, labelled}
-use Rattle.encoded_word.specs.SegmentsLaws.{rendered-append, words-demand-3, labelled-demand-3}
+use Rattle.encoded_word.specs.Segments.Segment.{words, labelled, parameter}
+use Rattle.encoded_word.specs.SegmentsLaws.{rendered-append, words-demand-3, labelled-demand-3, parameter-promise}
+use Rattle.mime_parameter.specs.Pieces.{pieces, parameterLines}
 use Rattle.demands.specs.Demands.{DemandThree}
 use Rattle.demands.specs.ReadsBack.{ReadsBack}
 
@@ -88,11 +89,14 @@ module _ {Written : List Segment → Type 0} {h′ : List ℕ} (segments : List 
   asked before s after w = rw (only (before ++ (s ∷ after)) w) at (mem-at before s after)
 
   pub rows-right : DemandThree Written h′
+  unfolding parameterLines
   rows-right = record {
     alone = λ before text after w. (row text, there before (words text) after w, words-demand-3 segments text right (asked before (words text) after w));
     after-label = λ before label text after w.
         let at = there before (labelled label text) after w ∙ ap (λ (l : List ℕ). rendered before ++ l) (append-assoc label (rowAfter (length label) text) (rendered after)) in
         (rowAfter (length label) text, at, labelled-demand-3 segments label text right (asked before (labelled label text) after w));
+    converted = λ before name text after w.
+        (pieces name text, there before (parameter name text) after w, parameter-promise segments name text right (asked before (parameter name text) after w));
   }
 
   -- "an encoded phrase and the row straight after it together read back as the two texts joined"

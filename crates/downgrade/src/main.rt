@@ -47,7 +47,7 @@ fn downgrade(
     envelope: &[u8],
     header: &[u8],
     envelope_buffer: &mut [u8; 16384],
-    header_buffer: &mut [u8; 1048576],
+    header_buffer: &mut [u8; 2642040],
 ) {
     let answer = hennelaku::hennelaku_downgrade_slices(
         0,
@@ -67,12 +67,12 @@ fn downgrade(
 }
 
 // The first empty line parts envelope and header; without one all is envelope. The buffers hold every output: an envelope does not
-// grow, and a header of 32,768 bytes grows less than thirtyfold.
+// grow, and a header of 32,768 bytes grows at most eightyfold, and by 20,600.
 fn downgrade_input(input: &[u8]) {
     let end = empty_line(input);
     let start = buffer::place_after(end, 2);
     let mut envelope_buffer = [0u8; 16384];
-    let mut header_buffer = [0u8; 1048576];
+    let mut header_buffer = [0u8; 2642040];
     downgrade(
         line::part(input, 0, end),
         line::part(input, start, input.len()),

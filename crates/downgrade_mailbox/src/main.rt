@@ -15,7 +15,7 @@ fn print_numbers(no: u32, n: usize) {
     say(b"\r\n");
 }
 
-fn downgrade(header: &[u8], buffer: &mut [u8; 1048576]) {
+fn downgrade(header: &[u8], buffer: &mut [u8; 2642040]) {
     let answer = hennelaku::hennelaku_downgrade_mailbox_slices(header, buffer);
     let no = answer.number;
     let n = answer.length;
@@ -27,9 +27,9 @@ fn downgrade(header: &[u8], buffer: &mut [u8; 1048576]) {
     }
 }
 
-// The buffer holds every output: a header of 32,768 bytes grows less than thirtyfold.
+// The buffer holds every output: a header of 32,768 bytes grows at most eightyfold.
 fn downgrade_input(header: &[u8]) {
-    let mut buffer = [0u8; 1048576];
+    let mut buffer = [0u8; 2642040];
     downgrade(header, &mut buffer);
 }
 

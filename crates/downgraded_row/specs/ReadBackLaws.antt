@@ -17,7 +17,7 @@ use Rattle.line.specs.Line.{blank, crlf}
 use Rattle.utf8.specs.Utf8.{utf8}
 use Rattle.row.specs.Row.{rowAfter}
 use Rattle.encoded_word.specs.Segments.{Segment, rendered}
-use Rattle.encoded_word.specs.Segments.Segment.{raw, words, labelled}
+use Rattle.encoded_word.specs.Segments.Segment.{raw, words, labelled, parameter}
 use Rattle.encoded_word.specs.SegmentsLaws.{rendered-append}
 use Rattle.field.specs.Field.{labelledField}
 use Rattle.header_line.specs.Lines.{nameByte}
@@ -43,6 +43,7 @@ ended-then {a} e (Ended.by-crlf front) = rw (← append-assoc a front (13 ∷ 10
 abbrev pub unlabelled : Segment → Bool
 unlabelled (raw bytes) = true
 unlabelled (words text) = true
+unlabelled (parameter name text) = true
 unlabelled (labelled label text) = false
 
 -- A header of written fields: each is a label with the encoded words of a text, or whole lines that begin with no white space.
@@ -123,6 +124,7 @@ none-there (x ∷ before) s after e = let z : _≡_ {A = ℕ} 0 1 = cc in omega 
 has-label : (s : Segment) {label text : List ℕ} {a b : List Segment} → T (unlabelled s) → s ∷ a ≡ labelled label text ∷ b → ⊥
 has-label (raw bytes) t e = let z : _≡_ {A = ℕ} 0 1 = cc in omega arith
 has-label (words text) t e = let z : _≡_ {A = ℕ} 0 1 = cc in omega arith
+has-label (parameter name text) t e = let z : _≡_ {A = ℕ} 0 1 = cc in omega arith
 has-label (labelled label text) t e = t
 
 tails : {x y : Segment} {a b : List Segment} → x ∷ a ≡ y ∷ b → a ≡ b

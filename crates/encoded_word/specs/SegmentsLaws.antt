@@ -1,5 +1,6 @@
 -- Of segments that are sound: what is written is all ASCII, and demand 3 holds of each text that is encoded. Assumes nothing.
 use mathlib.Core.Path.{_≡_, refl, sym}
+use mathlib.Core.Bool.{_&&_}
 use mathlib.Core.Logic.{⊎-elim}
 use mathlib.Core.List.{List, [], _∷_, _++_, append-assoc, List·Memᴰ, map}
 use Prim.Native.Nat.{ℕ, _+_, _-_, _<_}
@@ -8,7 +9,7 @@ use lib.Dec.{T, eqb, eqb→eq, ltb→lt}
 use mir.Facts.{and-yes, or-yes}
 use Rattle.lists.specs.Byte.{isByte, isAscii}
 use Rattle.lists.specs.ByteLaws.{below}
-use Rattle.lists.specs.Lists.{all, joined}
+use Rattle.lists.specs.Lists.{all, joined, nonempty}
 use Rattle.lists.specs.ListsLaws.{all-append, all-joined, all-mem, all-weaken, joined-map}
 use Rattle.utf8.specs.Utf8.{chars, utf8}
 use Rattle.utf8.specs.Utf8Laws.{chars-joined, utf8-bytes}
@@ -25,8 +26,12 @@ use Rattle.row.specs.Demand3.{Demand3}
 use Rattle.row.specs.Demand3Laws.{runs-joined, demand-3}
 use Rattle.row.specs.FieldRow.{FieldDemand3}
 use Rattle.row.specs.FieldRowLaws.{runs-after-joined, field-demand-3}
+use Rattle.mime_parameter.specs.Pieces.{pieces, hasRoom}
+use Rattle.mime_parameter.specs.LinesLaws as parameters
+use Rattle.mime_parameter.specs.Parameter2231.{ParameterDemand}
+use Rattle.mime_parameter.specs.Parameter2231Laws.{parameter-demand}
 use Rattle.encoded_word.specs.Segments.{Segment, bytesOf, rendered, sound}
-use Rattle.encoded_word.specs.Segments.Segment.{raw, words, labelled}
+use Rattle.encoded_word.specs.Segments.Segment.{raw, words, labelled, parameter}
 
 -- ---- a row is ASCII
 
@@ -98,12 +103,29 @@ unfolding rendered
 rendered-append [] b = refl
 rendered-append (s ∷ a) b = rw (rendered-append a b) (sym (append-assoc (bytesOf s) (rendered a) (rendered b)))
 
+-- a parameter that is sound
+record SoundParameter (name text : List ℕ) : Type 0 where
+  ascii : T (all isAscii name)
+  whole : T (utf8 text)
+  some : T (nonempty text)
+  room : T (hasRoom name text)
+
+parameter-sound : (name text : List ℕ) → T (sound (parameter name text)) → SoundParameter name text
+parameter-sound name text h =
+    let x = and-yes (all isAscii name && utf8 text && nonempty text) (hasRoom name text) h in
+    let y = and-yes (all isAscii name && utf8 text) (nonempty text) (x .0) in
+    let z = and-yes (all isAscii name) (utf8 text) (y .0) in
+    record { ascii = z .0; whole = z .1; some = y .1; room = x .1 }
+
 bytes-ascii : (s : Segment) → T (sound s) → T (all isAscii (bytesOf s))
 bytes-ascii (raw bytes) h = h
 bytes-ascii (words text) h = row-ascii encodings 63 text (utf8-bytes text h)
 bytes-ascii (labelled label text) h =
     let both = and-yes (all isAscii label) (utf8 text) h in
     all-append isAscii label (rowAfter (length label) text) (both .0) (row-after-ascii encodings 63 (length label) text (utf8-bytes text (both .1)))
+bytes-ascii (parameter name text) h =
+    let p = parameter-sound name text h in
+    parameters.lines-ascii name (p .ascii) text (utf8-bytes text (p .whole))
 
 pub rendered-ascii : (ss : List Segment) → T (all sound ss) → T (all isAscii (rendered ss))
 unfolding rendered
@@ -118,3 +140,9 @@ words-demand-3 ss text h m = demand-3 text (all-mem sound h m)
 
 pub labelled-demand-3 : (ss : List Segment) (label text : List ℕ) → T (all sound ss) → List·Memᴰ (labelled label text) ss → FieldDemand3 (length label) text (rowAfter (length label) text)
 labelled-demand-3 ss label text h m = field-demand-3 (length label) text (and-yes (all isAscii label) (utf8 text) (all-mem sound h m) .1)
+
+-- The promise of RFC 2231 for every parameter that is converted.
+pub parameter-promise : (ss : List Segment) (name text : List ℕ) → T (all sound ss) → List·Memᴰ (parameter name text) ss → ParameterDemand name text (pieces name text)
+parameter-promise ss name text h m =
+    let p = parameter-sound name text (all-mem sound h m) in
+    parameter-demand name text (p .whole) (p .some) (p .room)

@@ -1,2 +1,4 @@
 pub mod Parameter
 pub mod ParameterLaws
+pub mod Grammar
+pub mod GrammarLaws

@@ -16,9 +16,14 @@ fn number(n: usize) {
     io::print_decimal(STDOUT_FILENO, n as u64);
 }
 
-// What becomes of a field, and the words of its text.
+// What becomes of a field, nothing where it is held; and the words of its text.
 fn write(out: &mut [u8], field: &[u8]) -> usize {
-    outgoing_field::add_field(out, 0, Rules::Spool, field)
+    let looked = outgoing_field::first_held(Rules::Spool, field);
+    let held = looked.held;
+    match held {
+        HeldField::Absent => outgoing_field::add_field(out, 0, Rules::Spool, field),
+        HeldField::At(_, _) => 0,
+    }
 }
 
 fn write_words(out: &mut [u8], field: &[u8]) -> usize {
@@ -55,6 +60,7 @@ fn say_kind(kind: Kind) {
         Kind::Received => say(b"Received"),
         Kind::Commented => say(b"with comments"),
         Kind::MessageId => say(b"with comments"),
+        Kind::Parameterized => say(b"with parameters"),
         Kind::OtherCommented => say(b"other"),
         Kind::Other => say(b"other"),
         _ => say(b"held"),
@@ -94,7 +100,9 @@ fn refused(number_and_words: &[u8], line: usize) {
 }
 
 fn show_well_formed(h: &[u8]) {
-    match outgoing_field::first_held(Rules::Spool, h) {
+    let looked = outgoing_field::first_held(Rules::Spool, h);
+    let held = looked.held;
+    match held {
         HeldField::Absent => show_fields(h),
         HeldField::At(line, _) => refused(b"6 at line ", line),
     }

@@ -9,4 +9,5 @@ pub mod Parameter2231Laws
 pub mod CounterexampleLaws
 pub mod PartLaws
 pub mod WritingLaws
+pub mod LinesLaws
 pub mod PieceCases

@@ -1,5 +1,5 @@
 -- What becomes of each field of a header: it is held, or something is written for it. Assumes nothing.
-use mathlib.Core.Bool.{Bool, true, false, cond}
+use mathlib.Core.Bool.{Bool, true, false, cond, not}
 use mathlib.Core.List.{List, [], _∷_, map}
 use Prim.Native.Nat.{ℕ, _+_}
 use lib.Dec.{leb}
@@ -17,7 +17,8 @@ use Rattle.field_method.specs.FieldMethod.{methodOf}
 use Rattle.field.specs.Field.{encodedField}
 use Rattle.address_pieces.specs.AddressField.{addressField}
 use Rattle.structured_field.specs.StructuredField.{asciiOutsideComments, structuredField}
-use Rattle.received.specs.Received.{receivedField, passes}
+use Rattle.received.specs.Received.{receivedField, passes as receivedPasses}
+use Rattle.parameterized_field.specs.Value.{parameterizedField, passes as parametersPass}
 use Rattle.outgoing_field.specs.declared.HeldField.{HeldField}
 use Rattle.outgoing_field.specs.declared.HeldField.the-variants.{Absent, At}
 
@@ -29,18 +30,32 @@ pub data Fate : Type 0 where
 unfoldable pub commentsOrEncapsulated : List ℕ → List ℕ → List ℕ → List Segment
 commentsOrEncapsulated name value text = cond (asciiOutsideComments value) (structuredField name value) (encodedField true name text)
 
--- what becomes of a field whose value is not ASCII, by the method for it. "Plain text: name, colon, encoded words of the text."
--- "encapsulated: `Downgraded-` before the name". Date and the others with comments "are held only if non-ASCII stands outside their
--- comments". Received fields by request 2.
+-- whether a field whose value is not ASCII is held, by the method for it. Date and the others with comments "are held only if non-ASCII
+-- stands outside their comments". Received fields by request 2, parameters by request 7.
+unfoldable pub holds : Method → List ℕ → Bool
+holds Pieces field = false
+holds PlainText field = false
+holds Encapsulated field = false
+holds Received field = not (receivedPasses (nameOf field) (valueOf field))
+holds CommentsOrHeld field = not (asciiOutsideComments (valueOf field))
+holds CommentsOrEncapsulated field = false
+holds Parameters field = not (parametersPass (valueOf field))
+holds Held field = true
+
+-- what is written for it where it is not held. "Plain text: name, colon, encoded words of the text." "encapsulated: `Downgraded-` before
+-- the name".
+unfoldable pub methodWritten : Rules → Method → List ℕ → List Segment
+methodWritten rules Pieces field = addressField rules (nameOf field) (textOf field)
+methodWritten rules PlainText field = encodedField false (nameOf field) (textOf field)
+methodWritten rules Encapsulated field = encodedField true (nameOf field) (textOf field)
+methodWritten rules Received field = receivedField (nameOf field) (valueOf field)
+methodWritten rules CommentsOrHeld field = structuredField (nameOf field) (valueOf field)
+methodWritten rules CommentsOrEncapsulated field = commentsOrEncapsulated (nameOf field) (valueOf field) (textOf field)
+methodWritten rules Parameters field = parameterizedField (nameOf field) (valueOf field)
+methodWritten rules Held field = []
+
 unfoldable pub methodFate : Rules → Method → List ℕ → Fate
-methodFate rules Pieces field = written (addressField rules (nameOf field) (textOf field))
-methodFate rules PlainText field = written (encodedField false (nameOf field) (textOf field))
-methodFate rules Encapsulated field = written (encodedField true (nameOf field) (textOf field))
-methodFate rules Received field = cond (passes (nameOf field) (valueOf field)) (written (receivedField (nameOf field) (valueOf field))) held
-methodFate rules CommentsOrHeld field = cond (asciiOutsideComments (valueOf field)) (written (structuredField (nameOf field) (valueOf field))) held
-methodFate rules CommentsOrEncapsulated field = written (commentsOrEncapsulated (nameOf field) (valueOf field) (textOf field))
-methodFate rules Parameters field = held
-methodFate rules Held field = held
+methodFate rules method field = cond (holds method field) held (written (methodWritten rules method field))
 
 -- "A field whose value is ASCII is copied."
 unfoldable pub fateOf : Rules → List ℕ → Fate
@@ -59,6 +74,13 @@ fieldSegments rules field = segmentsOf (fateOf rules field)
 -- what is written for the fields of a header, one after another
 unfoldable pub headerSegments : Rules → List ℕ → List Segment
 headerSegments rules h = joined (map (fieldSegments rules) (fieldsOf h))
+
+-- the same where no field is held: code looks for held fields before it writes, and does not test them again
+unfoldable pub fieldWritten : Rules → List ℕ → List Segment
+fieldWritten rules field = cond (all isAscii (valueOf field)) (raw field ∷ []) (methodWritten rules (methodOf rules (kindOf (nameOf field))) field)
+
+unfoldable pub headerWritten : Rules → List ℕ → List Segment
+headerWritten rules h = joined (map (fieldWritten rules) (fieldsOf h))
 
 -- A header has at most 32,768 bytes, and so has a field: a longer one counts as empty.
 unfoldable pub limited : List ℕ → List ℕ

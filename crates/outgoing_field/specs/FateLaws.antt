@@ -10,7 +10,7 @@ use lib.Seq.{length-take-le, take-length}
 use mir.Facts.{and-yes, leb-yes}
 use borrow.Author.Tests.{le-leb, not-false}
 use Rattle.lists.specs.Byte.{isAscii}
-use Rattle.lists.specs.ListsLaws.{cond-has, yes-true, true-yes}
+use Rattle.lists.specs.ListsLaws.{by-test, cond-has, yes-true, true-yes, no-false}
 use Rattle.lists.specs.Lists.{all, joined}
 use Rattle.buffer.specs.Buffer.{Wrote, AppendedCapped, ReachedCapped, greatest}
 use Rattle.buffer.specs.BufferLaws.{length-wrote, capped-none, capped-start, length-capped, capped-turn, capped-end}
@@ -37,8 +37,9 @@ use Rattle.piece.specs.Piece.{fitting}
 use Rattle.piece.specs.PieceLaws.{fitting-short}
 use Rattle.address_pieces.specs.AddressField.{addressField}
 use Rattle.structured_field.specs.StructuredField.{asciiOutsideComments, structuredField}
-use Rattle.received.specs.Received.{receivedField, passes}
-use Rattle.outgoing_field.specs.Fate.{Fate, commentsOrEncapsulated, methodFate, fateOf, segmentsOf, fieldSegments, headerSegments, limited, isHeld, heldFrom, heldOf}
+use Rattle.received.specs.Received.{receivedField, passes as receivedPasses}
+use Rattle.parameterized_field.specs.Value.{parameterizedField, passes as parametersPass}
+use Rattle.outgoing_field.specs.Fate.{Fate, commentsOrEncapsulated, holds, methodWritten, methodFate, fateOf, segmentsOf, fieldSegments, headerSegments, fieldWritten, headerWritten, limited, isHeld, heldFrom, heldOf}
 use Rattle.outgoing_field.specs.Fate.Fate.{held, written}
 use Rattle.outgoing_field.specs.declared.HeldField.the-variants.{Absent, At}
 
@@ -54,6 +55,10 @@ module _ (rules : Rules) (field : List ℕ) where
   unfolding fieldSegments segmentsOf rendered
   field-copied t = rw (fate-ascii (yes-true (all isAscii (valueOf field)) t)) (append-nil field)
 
+  written-copied : all isAscii (valueOf field) ≡ true → rendered (fieldWritten rules field) ≡ field
+  unfolding fieldWritten rendered
+  written-copied e = rw e (append-nil field)
+
   pub ascii-not-held : all isAscii (valueOf field) ≡ true → false ≡ isHeld (fateOf rules field)
   unfolding isHeld
   ascii-not-held e = rw (fate-ascii e)
@@ -66,32 +71,14 @@ module _ (rules : Rules) (field : List ℕ) where
 
 -- ---- held fields
 
--- whether a field is held where its value is not ASCII, by the method for it
-unfoldable pub holds : Method → List ℕ → Bool
-holds Pieces field = false
-holds PlainText field = false
-holds Encapsulated field = false
-holds Received field = not (passes (nameOf field) (valueOf field))
-holds CommentsOrHeld field = not (asciiOutsideComments (valueOf field))
-holds CommentsOrEncapsulated field = false
-holds Parameters field = true
-holds Held field = true
-
-held-unless : (b : Bool) (segments : List Segment) → not b ≡ isHeld (cond b (written segments) held)
+held-if : (b : Bool) (segments : List Segment) → b ≡ isHeld (cond b held (written segments))
 unfolding isHeld
-held-unless true segments = refl
-held-unless false segments = refl
+held-if true segments = refl
+held-if false segments = refl
 
 holds-is : (rules : Rules) (method : Method) (field : List ℕ) → holds method field ≡ isHeld (methodFate rules method field)
-unfolding holds isHeld methodFate
-holds-is rules Pieces field = refl
-holds-is rules PlainText field = refl
-holds-is rules Encapsulated field = refl
-holds-is rules Received field = held-unless (passes (nameOf field) (valueOf field)) (receivedField (nameOf field) (valueOf field))
-holds-is rules CommentsOrHeld field = held-unless (asciiOutsideComments (valueOf field)) (structuredField (nameOf field) (valueOf field))
-holds-is rules CommentsOrEncapsulated field = refl
-holds-is rules Parameters field = refl
-holds-is rules Held field = refl
+unfolding methodFate
+holds-is rules method field = held-if (holds method field) (methodWritten rules method field)
 
 pub held-by-method : (rules : Rules) (field : List ℕ) (n : ℕ) {kind : Kind} {method : Method} {r : Bool} → all isAscii (valueOf field) ≡ false → n ≡ nameLen field → kind ≡ kindOf (take n field)
     → method ≡ methodOf rules kind → r ≡ holds method field → r ≡ isHeld (fateOf rules field)
@@ -102,10 +89,17 @@ pub holds-commented : (method : Method) (field : List ℕ) {value : List ℕ} {c
 unfolding holds
 holds-commented method field e v q = rw (e, q, v)
 
-pub holds-received : (method : Method) (field : List ℕ) {value : List ℕ} {n : ℕ} {clear : Bool} → method ≡ Received → value ≡ valueOf field → n ≡ nameLen field → clear ≡ passes (take n field) value
+pub holds-received : (method : Method) (field : List ℕ) {value : List ℕ} {n : ℕ} {clear : Bool} → method ≡ Received → value ≡ valueOf field → n ≡ nameLen field → clear ≡ receivedPasses (take n field) value
     → not clear ≡ holds method field
 unfolding holds
 holds-received method field {n = n} e v k q = rw (e, q, v, name-part field n k)
+
+pub holds-parameters : (method : Method) (field : List ℕ) {value : List ℕ} {clear : Bool} → method ≡ Parameters → length field ≤ 32768 → value ≡ valueOf field
+    → clear ≡ parametersPass (fitting 65536 value) → not clear ≡ holds method field
+unfolding holds
+holds-parameters method field {value} e k v q =
+    let short : length value ≤ 32768 = rw v (omega (arith, length-value field)) in
+    rw (e, q, fitting-short 65536 value short (omega (arith, short)), v)
 
 -- what is left to look through from a place on
 pub record HeldLeft (rules : Rules) (h : List ℕ) (at : ℕ) : Type 0 where
@@ -156,7 +150,7 @@ needsScratch Encapsulated = false
 needsScratch Received = true
 needsScratch CommentsOrHeld = true
 needsScratch CommentsOrEncapsulated = true
-needsScratch Parameters = false
+needsScratch Parameters = true
 needsScratch Held = false
 
 -- The field is within the limit, its text is given, and a scratch that this method needs is twice as long.
@@ -176,24 +170,22 @@ pub record CommentsGiven (value text scratch : List ℕ) : Type 0 where
 
 module _ (rules : Rules) {method : Method} {field text scratch : List ℕ} {n : ℕ} (s : Served method field text scratch) (k : n ≡ nameLen field) where
   pub method-address : {before after : List ℕ} {at r : ℕ} → method ≡ Pieces → AppendedCapped (rendered (addressField rules (take n field) (fitting (length scratch) text))) at before after r
-      → AppendedCapped (rendered (segmentsOf (methodFate rules method field))) at before after r
-  unfolding methodFate segmentsOf needsScratch
+      → AppendedCapped (rendered (methodWritten rules method field)) at before after r
+  unfolding methodWritten needsScratch
   method-address e a =
       let room : 2 * length field ≤ length scratch = s .room (rw e) in
       let given : fitting (length scratch) text ≡ text = fitting-short (length scratch) text (omega (arith, length-served s, s .short)) (omega (arith, length-served s)) in
       rw e (rw (given, s .is, name-part field n k) at a)
 
-  pub method-encoded : {before after : List ℕ} {at r : ℕ} (downgraded : Bool) → methodFate rules method field ≡ written (encodedField downgraded (nameOf field) (textOf field))
+  pub method-encoded : {before after : List ℕ} {at r : ℕ} (downgraded : Bool) → methodWritten rules method field ≡ encodedField downgraded (nameOf field) (textOf field)
       → AppendedCapped (rendered (encodedField downgraded (take n field) (bounded text))) at before after r
-      → AppendedCapped (rendered (segmentsOf (methodFate rules method field))) at before after r
-  unfolding segmentsOf
+      → AppendedCapped (rendered (methodWritten rules method field)) at before after r
   method-encoded downgraded e a = rw e (rw (bounded-short text (omega (arith, length-served s, s .short)), s .is, name-part field n k) at a)
 
   -- a field that is made of its value, with the scratch that its method needs
-  pub method-made : (made : List ℕ → List ℕ → List Segment) {value before after : List ℕ} {at r : ℕ} → needsScratch method ≡ true → methodFate rules method field ≡ written (made (nameOf field) (valueOf field))
+  pub method-made : (made : List ℕ → List ℕ → List Segment) {value before after : List ℕ} {at r : ℕ} → needsScratch method ≡ true → methodWritten rules method field ≡ made (nameOf field) (valueOf field)
       → value ≡ valueOf field → AppendedCapped (rendered (made (take n field) (fitting (length scratch) value))) at before after r
-      → AppendedCapped (rendered (segmentsOf (methodFate rules method field))) at before after r
-  unfolding segmentsOf
+      → AppendedCapped (rendered (methodWritten rules method field)) at before after r
   method-made made {value} t e v a =
       let short : length value ≤ length field = rw v (length-value field) in
       let given : fitting (length scratch) value ≡ value = fitting-short (length scratch) value (omega (arith, s .short)) (omega (arith, s .room t)) in
@@ -201,8 +193,8 @@ module _ (rules : Rules) {method : Method} {field text scratch : List ℕ} {n : 
 
   -- comments, or else the text encapsulated
   pub method-comments : {value before after : List ℕ} {at r : ℕ} → method ≡ CommentsOrEncapsulated → value ≡ valueOf field
-      → AppendedCapped (rendered (commentsOrEncapsulated (take n field) value text)) at before after r → AppendedCapped (rendered (segmentsOf (methodFate rules method field))) at before after r
-  unfolding methodFate segmentsOf
+      → AppendedCapped (rendered (commentsOrEncapsulated (take n field) value text)) at before after r → AppendedCapped (rendered (methodWritten rules method field)) at before after r
+  unfolding methodWritten
   method-comments e v a = rw e (rw (v, s .is, name-part field n k) at a)
 
 pub comments-given : {method : Method} {field text scratch value : List ℕ} → Served method field text scratch → method ≡ CommentsOrEncapsulated → value ≡ valueOf field
@@ -224,30 +216,29 @@ module _ (name : List ℕ) {value text scratch : List ℕ} (g : CommentsGiven va
   comments-encapsulated e a = rw e (rw (bounded-short text (omega (arith, g .short-text))) at a)
 
 module _ (rules : Rules) (method : Method) (field : List ℕ) where
-  pub plain-is : method ≡ PlainText → methodFate rules method field ≡ written (encodedField false (nameOf field) (textOf field))
-  unfolding methodFate
+  pub plain-is : method ≡ PlainText → methodWritten rules method field ≡ encodedField false (nameOf field) (textOf field)
+  unfolding methodWritten
   plain-is e = rw e
 
-  pub encapsulated-is : method ≡ Encapsulated → methodFate rules method field ≡ written (encodedField true (nameOf field) (textOf field))
-  unfolding methodFate
+  pub encapsulated-is : method ≡ Encapsulated → methodWritten rules method field ≡ encodedField true (nameOf field) (textOf field)
+  unfolding methodWritten
   encapsulated-is e = rw e
 
-  pub commented-is : method ≡ CommentsOrHeld → holds method field ≡ false → methodFate rules method field ≡ written (structuredField (nameOf field) (valueOf field))
-  unfolding methodFate holds
-  commented-is e h = rw (e, not-false (asciiOutsideComments (valueOf field)) (rw e at h))
+  pub commented-is : method ≡ CommentsOrHeld → methodWritten rules method field ≡ structuredField (nameOf field) (valueOf field)
+  unfolding methodWritten
+  commented-is e = rw e
 
-  pub received-is : method ≡ Received → holds method field ≡ false → methodFate rules method field ≡ written (receivedField (nameOf field) (valueOf field))
-  unfolding methodFate holds
-  received-is e h = rw (e, not-false (passes (nameOf field) (valueOf field)) (rw e at h))
+  pub received-is : method ≡ Received → methodWritten rules method field ≡ receivedField (nameOf field) (valueOf field)
+  unfolding methodWritten
+  received-is e = rw e
 
-  pub method-none : (before : List ℕ) (at : ℕ) → holds method field ≡ true → at ≤ greatest
-      → AppendedCapped (rendered (segmentsOf (methodFate rules method field))) at before before at
-  unfolding segmentsOf isHeld rendered
-  method-none before at e h = none (methodFate rules method field) (sym (holds-is rules method field) ∙ e)
-    where
-      none : (fate : Fate) → isHeld fate ≡ true → AppendedCapped (rendered (segmentsOf fate)) at before before at
-      none held e = capped-none at before h
-      none (written segments) e = absurd (true-yes false e)
+  pub parameters-is : method ≡ Parameters → methodWritten rules method field ≡ parameterizedField (nameOf field) (valueOf field)
+  unfolding methodWritten
+  parameters-is e = rw e
+
+  pub method-none : (before : List ℕ) (at : ℕ) → method ≡ Held → at ≤ greatest → AppendedCapped (rendered (methodWritten rules method field)) at before before at
+  unfolding methodWritten rendered
+  method-none before at e h = rw e (capped-none at before h)
 
 -- ---- a field
 
@@ -279,19 +270,23 @@ pub served-placed : (method : Method) (field : List ℕ) {text scratch : List �
 served-placed method field n h e = record { short = h; is = e; room = λ k. absurd (true-yes false (sym n ∙ k)) }
 
 module _ (rules : Rules) (field : List ℕ) {before after : List ℕ} {at r : ℕ} where
-  pub added-copied : all isAscii (valueOf field) ≡ true → AppendedCapped field at before after r → AppendedCapped (rendered (fieldSegments rules field)) at before after r
-  added-copied e a = rw (field-copied rules field (true-yes (all isAscii (valueOf field)) e)) a
+  pub added-copied : all isAscii (valueOf field) ≡ true → AppendedCapped field at before after r → AppendedCapped (rendered (fieldWritten rules field)) at before after r
+  added-copied e a = rw (written-copied rules field e) a
 
   pub added-by-method : (n : ℕ) {kind : Kind} {method : Method} → all isAscii (valueOf field) ≡ false → n ≡ nameLen field → kind ≡ kindOf (take n field) → method ≡ methodOf rules kind
-      → AppendedCapped (rendered (segmentsOf (methodFate rules method field))) at before after r
-      → AppendedCapped (rendered (fieldSegments rules field)) at before after r
-  unfolding fieldSegments
-  added-by-method n e k q m a = rw (fate-method rules field n e k q m) at a
+      → AppendedCapped (rendered (methodWritten rules method field)) at before after r
+      → AppendedCapped (rendered (fieldWritten rules field)) at before after r
+  unfolding fieldWritten
+  added-by-method n e k q m a = rw e (rw (m, q, name-part field n k) at a)
 
 -- ---- the limit
 
 unfoldable pub limitedLen : ℕ → ℕ
 limitedLen n = cond (leb n 32768) n 0
+
+pub limited-small : {n : ℕ} (m : ℕ) → n ≡ limitedLen m → n ≤ 32768
+unfolding limitedLen
+limited-small m e = rw e (cond-has (λ (k : ℕ). k ≤ 32768) (leb m 32768) m 0 (λ t. leb-yes t) (λ t. omega arith))
 
 module _ (s : List ℕ) (n : ℕ) (e : n ≡ limitedLen (length s)) where
   pub limited-part : take n s ≡ limited s
@@ -310,55 +305,86 @@ module _ (s : List ℕ) (n : ℕ) (e : n ≡ limitedLen (length s)) where
   limited-size = sym (length-take-le n s limited-le)
 
   pub limited-within : length (take n s) ≤ 32768
-  unfolding limitedLen
-  limited-within =
-      rw (length-take-le n s limited-le, e) (cond-has (λ n. n ≤ 32768) (leb (length s) 32768) (length s) 0 (λ t. leb-yes t) (λ t. omega arith))
+  limited-within = rw (length-take-le n s limited-le) (limited-small (length s) e)
 
 pub limited-short : (s : List ℕ) → length s ≤ 32768 → limited s ≡ s
 unfolding limited
 limited-short s h = rw (le-leb (length s) 32768 h)
 
+-- ---- where nothing is held
+
+by-tests : (a b : Bool) (x y : List Segment) → isHeld (cond a (written x) (cond b held (written y))) ≡ false
+    → segmentsOf (cond a (written x) (cond b held (written y))) ≡ cond a x y
+unfolding isHeld segmentsOf
+by-tests true b x y e = refl
+by-tests false true x y e = absurd (true-yes false (sym e))
+by-tests false false x y e = refl
+
+unheld-field : (rules : Rules) (field : List ℕ) → isHeld (fateOf rules field) ≡ false → fieldSegments rules field ≡ fieldWritten rules field
+unfolding fieldSegments fieldWritten fateOf methodFate
+unheld-field rules field e =
+    let method = methodOf rules (kindOf (nameOf field)) in
+    by-tests (all isAscii (valueOf field)) (holds method field) (raw field ∷ []) (methodWritten rules method field) e
+
+pub found-none : {line at : ℕ} → At line at ≡ Absent → ⊥
+found-none e = let z : _≡_ {A = ℕ} 0 1 = cc in omega arith
+
+unheld-fields : (rules : Rules) (h : List ℕ) (at : ℕ) (fields : List (List ℕ)) → heldFrom rules h at fields ≡ Absent
+    → joined (map (fieldSegments rules) fields) ≡ joined (map (fieldWritten rules) fields)
+unfolding heldFrom
+unheld-fields rules h at [] e = refl
+unheld-fields rules h at (field ∷ fields) e =
+    let here = isHeld (fateOf rules field) in
+    by-test here
+    (λ t. absurd (found-none (rw (yes-true here t) at e)))
+    (λ t. rw (unheld-field rules field (no-false here t), unheld-fields rules h (at + length field) fields (rw (no-false here t) at e)))
+
+-- what code writes for a header none of whose fields is held
+pub unheld-header : (rules : Rules) (h : List ℕ) → heldOf rules h ≡ Absent → headerSegments rules h ≡ headerWritten rules h
+unfolding headerSegments headerWritten heldOf
+unheld-header rules h e = unheld-fields rules h 0 (fieldsOf h) e
+
 -- ---- field after field
 
 header-next : (rules : Rules) (h : List ℕ) (i to : ℕ) → i < length h → to ≡ i + fieldLen (drop i h)
-    → rendered (headerSegments rules (drop i h)) ≡ rendered (fieldSegments rules (take (to - i) (drop i h))) ++ rendered (headerSegments rules (drop to h))
-unfolding headerSegments
+    → rendered (headerWritten rules (drop i h)) ≡ rendered (fieldWritten rules (take (to - i) (drop i h))) ++ rendered (headerWritten rules (drop to h))
+unfolding headerWritten
 header-next rules h i to k e =
     rw (fields-next h i to k e)
-    (rendered-append (fieldSegments rules (take (to - i) (drop i h))) (joined (map (fieldSegments rules) (fieldsOf (drop to h)))))
+    (rendered-append (fieldWritten rules (take (to - i) (drop i h))) (joined (map (fieldWritten rules) (fieldsOf (drop to h)))))
 
 rendered-passed : (rules : Rules) (passed more : List (List ℕ)) → T (all (all isAscii) passed)
-    → rendered (joined (map (fieldSegments rules) (passed ++ more))) ≡ joined passed ++ rendered (joined (map (fieldSegments rules) more))
+    → rendered (joined (map (fieldWritten rules) (passed ++ more))) ≡ joined passed ++ rendered (joined (map (fieldWritten rules) more))
 rendered-passed rules [] more t = refl
 rendered-passed rules (field ∷ passed) more t =
     let both = and-yes (all isAscii field) (all (all isAscii) passed) t in
-    let rest = joined (map (fieldSegments rules) (passed ++ more)) in
-    rendered-append (fieldSegments rules field) rest
-    ∙ rw (field-copied rules field (value-ascii field (both .0)), rendered-passed rules passed more (both .1))
-    (sym (append-assoc field (joined passed) (rendered (joined (map (fieldSegments rules) more)))))
+    let rest = joined (map (fieldWritten rules) (passed ++ more)) in
+    rendered-append (fieldWritten rules field) rest
+    ∙ rw (written-copied rules field (yes-true (all isAscii (valueOf field)) (value-ascii field (both .0))), rendered-passed rules passed more (both .1))
+    (sym (append-assoc field (joined passed) (rendered (joined (map (fieldWritten rules) more)))))
 
 header-passed : (rules : Rules) (h : List ℕ) (i r : ℕ) → AsciiFields h i r
-    → rendered (headerSegments rules (drop i h)) ≡ take (r - i) (drop i h) ++ rendered (headerSegments rules (drop r h))
-unfolding headerSegments
+    → rendered (headerWritten rules (drop i h)) ≡ take (r - i) (drop i h) ++ rendered (headerWritten rules (drop r h))
+unfolding headerWritten
 header-passed rules h i r p = rw (p .fields, ← p .bytes) (rendered-passed rules (p .passed) (fieldsOf (drop r h)) (p .ascii))
 
 -- where a loop that writes the fields of a header stands
 pub record Fielding (rules : Rules) (h : List ℕ) (i at : ℕ) (before after : List ℕ) (n : ℕ) : Type 0 where
-  pub reached : ReachedCapped (rendered (headerSegments rules h)) (rendered (headerSegments rules (drop i h))) at before after n
+  pub reached : ReachedCapped (rendered (headerWritten rules h)) (rendered (headerWritten rules (drop i h))) at before after n
 
 pub fielding-start : (rules : Rules) (h : List ℕ) (at : ℕ) (before : List ℕ) → at ≤ greatest → Fielding rules h 0 at before before at
-fielding-start rules h at before k = record { reached = capped-start (rendered (headerSegments rules h)) at before k }
+fielding-start rules h at before k = record { reached = capped-start (rendered (headerWritten rules h)) at before k }
 
 module _ {rules : Rules} {h before mid : List ℕ} {i at n : ℕ} (g : Fielding rules h i at before mid n) where
-  pub fielding-end : length h ≤ i → AppendedCapped (rendered (headerSegments rules h)) at before mid n
-  unfolding headerSegments rendered
+  pub fielding-end : length h ≤ i → AppendedCapped (rendered (headerWritten rules h)) at before mid n
+  unfolding headerWritten rendered
   fielding-end k = capped-end (g .reached) (rw (drop-of-length-le h {i = i} k, fields-nil))
 
   pub length-fielding : length mid ≡ length before
   length-fielding = length-capped (g .reached)
 
   pub fielding-next : {after : List ℕ} {to m : ℕ} → length before ≤ greatest → i < length h → to ≡ i + fieldLen (drop i h)
-      → AppendedCapped (rendered (fieldSegments rules (take (to - i) (drop i h)))) n mid after m → Fielding rules h to at before after m
+      → AppendedCapped (rendered (fieldWritten rules (take (to - i) (drop i h)))) n mid after m → Fielding rules h to at before after m
   fielding-next {after} {to} {m} room k e a = record { reached = capped-turn (g .reached) (header-next rules h i to k e) a room }
 
   -- fields that are wholly ASCII are copied together

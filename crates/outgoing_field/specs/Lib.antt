@@ -1,4 +1,5 @@
 pub mod Fate
 pub mod FateLaws
 pub mod Most
+pub mod MostLaws
 pub mod OwedLaws

@@ -1,6 +1,6 @@
 -- What every method for a field owes: what is written for it is sound, and no longer than its most (Most.antt). Assumes nothing.
 use mathlib.Core.Path.{_≡_, refl, ap, _∙_}
-use mathlib.Core.Bool.{Bool, true, false}
+use mathlib.Core.Bool.{Bool, true, false, not, cond}
 use mathlib.Core.List.{List, [], _∷_, _++_, append-nil, map}
 use Prim.Native.Nat.{ℕ, _+_, _*_, _≤_}
 use native.Mathlib.Omega.{arith}
@@ -8,7 +8,7 @@ use lib.Dec.{T}
 use lib.ListN.{length, length-append}
 use mir.Facts.{yes-and}
 use Rattle.lists.specs.Byte.{isAscii}
-use Rattle.lists.specs.ListsLaws.{cond-has, all-append}
+use Rattle.lists.specs.ListsLaws.{by-test, cond-has, yes-true, no-false, all-append}
 use Rattle.lists.specs.Lists.{all, joined}
 use Rattle.encoded_word.specs.Segments.{Segment, rendered, sound}
 use Rattle.encoded_word.specs.Segments.Segment.{raw}
@@ -31,11 +31,13 @@ use Rattle.address_pieces.specs.SoundLaws.{address-field-sound}
 use Rattle.address_pieces.specs.LengthLaws.{address-field-within}
 use Rattle.structured_field.specs.StructuredField.{asciiOutsideComments, structuredField}
 use Rattle.structured_field.specs.StructuredFieldLaws.{structured-sound, length-structured}
-use Rattle.received.specs.Received.{receivedField, passes}
+use Rattle.received.specs.Received.{receivedField, passes as receivedPasses}
 use Rattle.received.specs.ReceivedLaws.{received-sound, length-received}
-use Rattle.outgoing_field.specs.Fate.{Fate, commentsOrEncapsulated, methodFate, fateOf, segmentsOf, fieldSegments, headerSegments}
+use Rattle.parameterized_field.specs.Value.{parameterizedField, passes as parametersPass}
+use Rattle.parameterized_field.specs.ParameterizedLaws.{parameterized-sound, length-parameterized}
+use Rattle.outgoing_field.specs.Fate.{Fate, commentsOrEncapsulated, holds, methodWritten, methodFate, fateOf, segmentsOf, fieldSegments, headerSegments}
 use Rattle.outgoing_field.specs.Fate.Fate.{held, written}
-use Rattle.outgoing_field.specs.Most.{fieldMost, fieldsMost, mostOf}
+use Rattle.outgoing_field.specs.Most.{methodMost, fieldMost, fieldsMost, mostOf}
 
 -- What becomes of a field owes this. A method that is added owes it too, and nothing else.
 pub record Owed (most : ℕ) (fate : Fate) : Type 0 where
@@ -47,12 +49,12 @@ unfolding segmentsOf rendered
 owed-held most = record { sound-all = tt; short = omega arith }
 
 module _ {field : List ℕ} (s : Shaped field) where
-  owed-copied : T (all isAscii (valueOf field)) → Owed (fieldMost field) (written (raw field ∷ []))
-  unfolding segmentsOf rendered fieldMost
+  owed-copied : T (all isAscii (valueOf field)) → Owed (30 * length field) (written (raw field ∷ []))
+  unfolding segmentsOf rendered
   owed-copied t = record { sound-all = yes-and (all isAscii field) true (field-ascii s t) tt; short = rw append-nil (omega arith) }
 
-  owed-encoded : (downgraded : Bool) → Owed (fieldMost field) (written (encodedField downgraded (nameOf field) (textOf field)))
-  unfolding segmentsOf fieldMost
+  owed-encoded : (downgraded : Bool) → Owed (30 * length field) (written (encodedField downgraded (nameOf field) (textOf field)))
+  unfolding segmentsOf
   owed-encoded downgraded = record {
     sound-all = encoded-sound downgraded (nameOf field) (textOf field) (name-ascii field) (text-utf8 s);
     short = omega (arith, length-encoded downgraded (nameOf field) (textOf field), length-shaped s);
@@ -63,22 +65,34 @@ module _ {field : List ℕ} (s : Shaped field) where
       ap length (s .parts)
       ∙ (length-append (nameOf field) (58 ∷ (valueOf field ++ (13 ∷ 10 ∷ []))) ∙ omega (arith, length-append (valueOf field) (13 ∷ 10 ∷ [])))
 
-  owed-structured : T (asciiOutsideComments (valueOf field)) → Owed (fieldMost field) (written (structuredField (nameOf field) (valueOf field)))
-  unfolding segmentsOf fieldMost
+  owed-structured : T (asciiOutsideComments (valueOf field)) → Owed (30 * length field) (written (structuredField (nameOf field) (valueOf field)))
+  unfolding segmentsOf
   owed-structured t = record {
     sound-all = structured-sound (nameOf field) (valueOf field) (name-ascii field) (value-utf8 s) t;
     short = omega (arith, length-structured (nameOf field) (valueOf field) t, length-parts);
   }
 
-  owed-received : T (passes (nameOf field) (valueOf field)) → Owed (fieldMost field) (written (receivedField (nameOf field) (valueOf field)))
-  unfolding segmentsOf fieldMost
+  owed-received : T (receivedPasses (nameOf field) (valueOf field)) → Owed (30 * length field) (written (receivedField (nameOf field) (valueOf field)))
+  unfolding segmentsOf
   owed-received t = record {
     sound-all = received-sound (nameOf field) (valueOf field) (name-ascii field) (value-utf8 s) t;
     short = omega (arith, length-received (nameOf field) (valueOf field) t, length-parts);
   }
 
-  owed-method : (rules : Rules) (method : Method) → Owed (fieldMost field) (methodFate rules method field)
-  unfolding methodFate segmentsOf fieldMost commentsOrEncapsulated
+  owed-parameters : T (parametersPass (valueOf field)) → Owed (80 * length field) (written (parameterizedField (nameOf field) (valueOf field)))
+  unfolding segmentsOf
+  owed-parameters t = record {
+    sound-all = parameterized-sound (nameOf field) (valueOf field) (name-ascii field) (value-utf8 s) t;
+    short = omega (arith, length-parameterized (nameOf field) (valueOf field) t, length-parts);
+  }
+
+  -- a method that holds a field unless it passes a test
+  owed-unless : (most : ℕ) (passes : Bool) (segments : List Segment) → (T passes → Owed most (written segments)) → Owed most (cond (not passes) held (written segments))
+  owed-unless most true segments k = k tt
+  owed-unless most false segments k = owed-held most
+
+  owed-method : (rules : Rules) (method : Method) → Owed (methodMost method (length field)) (methodFate rules method field)
+  unfolding methodFate holds methodWritten methodMost segmentsOf commentsOrEncapsulated
   owed-method rules Pieces = record {
     sound-all = address-field-sound rules (nameOf field) (textOf field) (name-ascii field) (text-utf8 s);
     short = address-field-within rules (nameOf field) (textOf field) (length field) (length-shaped s);
@@ -86,29 +100,27 @@ module _ {field : List ℕ} (s : Shaped field) where
   owed-method rules PlainText = owed-encoded false
   owed-method rules Encapsulated = owed-encoded true
   owed-method rules Received =
-      cond-has (Owed (fieldMost field)) (passes (nameOf field) (valueOf field)) (written (receivedField (nameOf field) (valueOf field))) held
-      owed-received
-      (λ t. owed-held (fieldMost field))
+      owed-unless (30 * length field) (receivedPasses (nameOf field) (valueOf field)) (receivedField (nameOf field) (valueOf field)) owed-received
   owed-method rules CommentsOrHeld =
-      cond-has (Owed (fieldMost field)) (asciiOutsideComments (valueOf field)) (written (structuredField (nameOf field) (valueOf field))) held
-      owed-structured
-      (λ t. owed-held (fieldMost field))
+      owed-unless (30 * length field) (asciiOutsideComments (valueOf field)) (structuredField (nameOf field) (valueOf field)) owed-structured
   owed-method rules CommentsOrEncapsulated =
-      cond-has (λ (ss : List Segment). Owed (fieldMost field) (written ss)) (asciiOutsideComments (valueOf field)) (structuredField (nameOf field) (valueOf field))
+      cond-has (λ (ss : List Segment). Owed (30 * length field) (written ss)) (asciiOutsideComments (valueOf field)) (structuredField (nameOf field) (valueOf field))
       (encodedField true (nameOf field) (textOf field))
       owed-structured
       (λ t. owed-encoded true)
-  owed-method rules Parameters = owed-held (fieldMost field)
-  owed-method rules Held = owed-held (fieldMost field)
+  owed-method rules Parameters =
+      owed-unless (80 * length field) (parametersPass (valueOf field)) (parameterizedField (nameOf field) (valueOf field)) owed-parameters
+  owed-method rules Held = owed-held (30 * length field)
 
-  owed-field : (rules : Rules) → Owed (fieldMost field) (fateOf rules field)
-  unfolding fateOf
+  owed-field : (rules : Rules) → Owed (fieldMost rules field) (fateOf rules field)
+  unfolding fateOf fieldMost
   owed-field rules =
-      cond-has (Owed (fieldMost field)) (all isAscii (valueOf field)) (written (raw field ∷ [])) (methodFate rules (methodOf rules (kindOf (nameOf field))) field)
-      owed-copied
-      (λ t. owed-method rules (methodOf rules (kindOf (nameOf field))))
+      let ascii = all isAscii (valueOf field) in
+      by-test ascii
+      (λ t. rw (yes-true ascii t) (owed-copied t))
+      (λ t. rw (no-false ascii t) (owed-method rules (methodOf rules (kindOf (nameOf field)))))
 
-owed-fields : (rules : Rules) (fields : List (List ℕ)) → Each Shaped fields → Owed (fieldsMost fields) (written (joined (map (fieldSegments rules) fields)))
+owed-fields : (rules : Rules) (fields : List (List ℕ)) → Each Shaped fields → Owed (fieldsMost rules fields) (written (joined (map (fieldSegments rules) fields)))
 unfolding segmentsOf rendered fieldSegments fieldsMost
 owed-fields rules [] s = record { sound-all = tt; short = omega arith }
 owed-fields rules (field ∷ fields) s =
@@ -122,21 +134,6 @@ owed-fields rules (field ∷ fields) s =
     }
 
 -- the same of all that is written for the fields of a well-formed header
-pub owed-header : (rules : Rules) (h : List ℕ) → checkedLines h ≡ WellFormed → Owed (mostOf h) (written (headerSegments rules h))
+pub owed-header : (rules : Rules) (h : List ℕ) → checkedLines h ≡ WellFormed → Owed (mostOf rules h) (written (headerSegments rules h))
 unfolding headerSegments mostOf
 owed-header rules h w = owed-fields rules (fieldsOf h) (fields-shaped h w)
-
--- ---- the most by the length
-
-fields-most : (fields : List (List ℕ)) → fieldsMost fields ≡ 30 * length (joined fields)
-unfolding fieldsMost fieldMost
-fields-most [] = refl
-fields-most (field ∷ fields) = rw (length-append field (joined fields), fields-most fields) (omega arith)
-
-pub most-is : (h : List ℕ) → mostOf h ≡ 30 * length h
-unfolding mostOf
-most-is h = rw fields-joined at (fields-most (fieldsOf h))
-
--- a header within its limit
-pub most-le : (h : List ℕ) → length h ≤ 32768 → mostOf h ≤ 2621440
-most-le h k = rw (most-is h) (omega arith)

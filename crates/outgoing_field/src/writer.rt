@@ -4,15 +4,12 @@ ghost use Prim.Native.Nat.{_≤_};
 ghost use lib.ListN.{length};
 ghost use Rattle.buffer.specs.Buffer.{AppendedCapped};
 ghost use Rattle.encoded_word.specs.Segments.{rendered};
-ghost use Rattle.outgoing_field.specs.Fate.{commentsOrEncapsulated, methodFate, segmentsOf, fieldSegments, headerSegments, limited};
-ghost use Rattle.outgoing_field.specs.FateLaws.{needsScratch, limitedLen, CommentsGiven, Served, Roomy};
-use crate::held::holds;
+ghost use Rattle.outgoing_field.specs.Fate.{commentsOrEncapsulated, methodWritten, fieldWritten, headerWritten, limited};
+ghost use Rattle.outgoing_field.specs.FateLaws.{needsScratch, CommentsGiven, Served, Roomy};
+use crate::limited_len;
 use field_method::Method;
 use field_text::TextPlace;
 use rules::Rules;
-
-// The most bytes that a header has, and so a field.
-const LIMIT: usize = 32768;
 
 // Comments encoded, or the text encapsulated where non-ASCII stands outside them.
 fn add_comments_or_encapsulated(
@@ -32,7 +29,7 @@ fn add_comments_or_encapsulated(
     field::add_encoded(out, at, name, text, true)
 }
 
-// A field by the method for it and its text, where it is not held. Address fields, Received fields and those with comments need a scratch.
+// A field by the method for it and its text. Address fields, Received fields and those with comments or parameters need a scratch.
 fn add_by_method(
     out: &mut [u8],
     at: usize,
@@ -43,11 +40,8 @@ fn add_by_method(
     scratch: &mut [u8],
 ) -> usize
     requires { ⌜ Served method (now field) (now text) (now scratch) ⌝ }
-    ensures { λ r. ⌜ AppendedCapped (rendered (segmentsOf (methodFate rules method (now (field .entry))))) at (now (out .entry)) (now (out .exit)) r ⌝ }
+    ensures { λ r. ⌜ AppendedCapped (rendered (methodWritten rules method (now (field .entry)))) at (now (out .entry)) (now (out .exit)) r ⌝ }
 {
-    if holds(method, field) {
-        return at;
-    }
     let n = header_line::name_len(field);
     let name = &field[..n];
     match method {
@@ -70,7 +64,13 @@ fn add_by_method(
             text,
             scratch,
         ),
-        Method::Parameters => at,
+        Method::Parameters => parameterized_field::add_field(
+            out,
+            at,
+            name,
+            header::value(field),
+            scratch,
+        ),
         Method::Held => at,
     }
 }
@@ -86,7 +86,7 @@ fn add_with(
     scratch: &mut [u8],
 ) -> usize
     requires { ⌜ Roomy (now field) (now made) (now scratch) ⌝ }
-    ensures { λ r. ⌜ AppendedCapped (rendered (segmentsOf (methodFate rules method (now (field .entry))))) at (now (out .entry)) (now (out .exit)) r ⌝ }
+    ensures { λ r. ⌜ AppendedCapped (rendered (methodWritten rules method (now (field .entry)))) at (now (out .entry)) (now (out .exit)) r ⌝ }
 {
     match field_text::place(field) {
         TextPlace::InPlace(from, to) => {
@@ -110,7 +110,7 @@ fn add_with(
 // A field of at most 1,024 bytes: small buffers take less time to clear.
 fn add_short(out: &mut [u8], at: usize, rules: Rules, method: Method, field: &[u8]) -> usize
     requires { ⌜ length (now field) ≤ 1024 ⌝ }
-    ensures { λ r. ⌜ AppendedCapped (rendered (segmentsOf (methodFate rules method (now (field .entry))))) at (now (out .entry)) (now (out .exit)) r ⌝ }
+    ensures { λ r. ⌜ AppendedCapped (rendered (methodWritten rules method (now (field .entry)))) at (now (out .entry)) (now (out .exit)) r ⌝ }
 {
     let mut made = [0u8; 1024];
     let mut scratch = [0u8; 2048];
@@ -119,7 +119,7 @@ fn add_short(out: &mut [u8], at: usize, rules: Rules, method: Method, field: &[u
 
 fn add_long(out: &mut [u8], at: usize, rules: Rules, method: Method, field: &[u8]) -> usize
     requires { ⌜ length (now field) ≤ 32768 ⌝ }
-    ensures { λ r. ⌜ AppendedCapped (rendered (segmentsOf (methodFate rules method (now (field .entry))))) at (now (out .entry)) (now (out .exit)) r ⌝ }
+    ensures { λ r. ⌜ AppendedCapped (rendered (methodWritten rules method (now (field .entry)))) at (now (out .entry)) (now (out .exit)) r ⌝ }
 {
     let mut made = [0u8; 32768];
     let mut scratch = [0u8; 65536];
@@ -137,7 +137,7 @@ fn needs_scratch(method: Method) -> bool
         Method::Received => true,
         Method::CommentsOrHeld => true,
         Method::CommentsOrEncapsulated => true,
-        Method::Parameters => false,
+        Method::Parameters => true,
         Method::Held => false,
     }
 }
@@ -145,7 +145,7 @@ fn needs_scratch(method: Method) -> bool
 // A field whose value is not ASCII. Most texts that are encoded whole have no fold, and need no buffer.
 fn add_non_ascii(out: &mut [u8], at: usize, rules: Rules, method: Method, field: &[u8]) -> usize
     requires { ⌜ length (now field) ≤ 32768 ⌝ }
-    ensures { λ r. ⌜ AppendedCapped (rendered (segmentsOf (methodFate rules method (now (field .entry))))) at (now (out .entry)) (now (out .exit)) r ⌝ }
+    ensures { λ r. ⌜ AppendedCapped (rendered (methodWritten rules method (now (field .entry)))) at (now (out .entry)) (now (out .exit)) r ⌝ }
 {
     if !needs_scratch(method) {
         if let TextPlace::InPlace(from, to) = field_text::place(field) {
@@ -169,7 +169,7 @@ fn add_non_ascii(out: &mut [u8], at: usize, rules: Rules, method: Method, field:
 
 fn add_limited(out: &mut [u8], at: usize, rules: Rules, field: &[u8]) -> usize
     requires { ⌜ length (now field) ≤ 32768 ⌝ }
-    ensures { λ r. ⌜ AppendedCapped (rendered (fieldSegments rules (now (field .entry)))) at (now (out .entry)) (now (out .exit)) r ⌝ }
+    ensures { λ r. ⌜ AppendedCapped (rendered (fieldWritten rules (now (field .entry)))) at (now (out .entry)) (now (out .exit)) r ⌝ }
 {
     if header::value_is_ascii(field) {
         return buffer::add_slice(out, at, field);
@@ -179,17 +179,10 @@ fn add_limited(out: &mut [u8], at: usize, rules: Rules, field: &[u8]) -> usize
     add_non_ascii(out, at, rules, field_method::method_of(rules, kind), field)
 }
 
-// How many of n bytes count.
-fn limited_len(n: usize) -> usize
-    ensures { λ r. ⌜ r ≡ limitedLen n ⌝ }
-{
-    if n <= LIMIT { n } else { 0 }
-}
-
-// Writes what becomes of a field from a place on, as far as it fits; answers the place after it. A field whose value is ASCII is
-// copied; names are looked up only where it is not. A field of more than 32,768 bytes counts as empty.
+// Writes what becomes of a field that is not held from a place on, as far as it fits; answers the place after it. A field whose value is
+// ASCII is copied; names are looked up only where it is not. A field of more than 32,768 bytes counts as empty.
 pub fn add_field(out: &mut [u8], at: usize, rules: Rules, field: &[u8]) -> usize
-    ensures { λ r. ⌜ AppendedCapped (rendered (fieldSegments rules (limited (now (field .entry))))) at (now (out .entry)) (now (out .exit)) r ⌝ }
+    ensures { λ r. ⌜ AppendedCapped (rendered (fieldWritten rules (limited (now (field .entry))))) at (now (out .entry)) (now (out .exit)) r ⌝ }
 {
     let end = limited_len(field.len());
     add_limited(out, at, rules, &field[..end])
@@ -197,7 +190,7 @@ pub fn add_field(out: &mut [u8], at: usize, rules: Rules, field: &[u8]) -> usize
 
 fn add_all(out: &mut [u8], at: usize, rules: Rules, h: &[u8]) -> usize
     requires { ⌜ length (now h) ≤ 32768 ⌝ }
-    ensures { λ r. ⌜ AppendedCapped (rendered (headerSegments rules (now (h .entry)))) at (now (out .entry)) (now (out .exit)) r ⌝ }
+    ensures { λ r. ⌜ AppendedCapped (rendered (headerWritten rules (now (h .entry)))) at (now (out .entry)) (now (out .exit)) r ⌝ }
 {
     let mut next = at;
     let mut i: usize = 0;
@@ -214,10 +207,10 @@ fn add_all(out: &mut [u8], at: usize, rules: Rules, h: &[u8]) -> usize
     next
 }
 
-// Writes what becomes of the fields of a header from a place on, as far as it fits; answers the place after all of it. Fields that
-// are wholly ASCII are copied together. A header of more than 32,768 bytes counts as empty.
+// Writes what becomes of the fields of a header, none of which is held, from a place on, as far as it fits; answers the place after all of
+// it. Fields that are wholly ASCII are copied together. A header of more than 32,768 bytes counts as empty.
 pub fn add_fields(out: &mut [u8], at: usize, rules: Rules, h: &[u8]) -> usize
-    ensures { λ r. ⌜ AppendedCapped (rendered (headerSegments rules (limited (now (h .entry))))) at (now (out .entry)) (now (out .exit)) r ⌝ }
+    ensures { λ r. ⌜ AppendedCapped (rendered (headerWritten rules (limited (now (h .entry))))) at (now (out .entry)) (now (out .exit)) r ⌝ }
 {
     let end = limited_len(h.len());
     add_all(out, at, rules, &h[..end])

@@ -1,3 +1,4 @@
+pub mod HeaderContent
 pub mod HeaderOutcome
 pub mod HeaderOutcomeLaws
 pub mod HeaderBoundLaws

@@ -2,10 +2,13 @@
 ghost use mathlib.Core.Path.{_≡_};
 ghost use mathlib.Core.List.{[], _∷_};
 ghost use Rattle.header_line.specs.Lines.{checkedLines};
-ghost use Rattle.outgoing_field.specs.Fate.{heldOf};
+ghost use Rattle.outgoing_field.specs.Fate.{limited, heldOf};
 ghost use Rattle.outgoing_header.specs.HeaderOutcome.{numberOf, placeOf, offsetOf, ofSize, ofLines, ofHeld, firstOf};
+ghost use Rattle.outgoing_field.specs.Most.{mostOf};
+ghost use Rattle.outgoing_header.specs.HeaderContent.{withMost};
 ghost use Rattle.outgoing_header.specs.HeaderOutcomeLaws.{RefusedBy};
 use crate::HeaderAnswer;
+use crate::HeaderContent;
 use crate::HeaderRefusal;
 use crate::HeaderVerdict;
 use header_line::LineCheck;
@@ -73,27 +76,29 @@ pub fn of_lines(header: &[u8]) -> HeaderVerdict
     }
 }
 
-// A held field with non-ASCII.
-pub fn of_held(rules: Rules, header: &[u8]) -> HeaderVerdict
-    ensures { λ r. ⌜ r ≡ ofHeld (now (header .entry)) (heldOf rules (now (header .entry))) ⌝ }
+// A held field with non-ASCII. A header of more than 32,768 bytes has none.
+pub fn of_held(rules: Rules, header: &[u8]) -> HeaderContent
+    ensures { λ r. ⌜ r ≡ withMost (ofHeld (now (header .entry)) (heldOf rules (limited (now (header .entry))))) (mostOf rules (limited (now (header .entry)))) ⌝ }
 {
-    match outgoing_field::first_held(rules, header) {
-        HeldField::Absent => HeaderVerdict::Accept,
+    let looked = outgoing_field::first_held(rules, header);
+    let held = looked.held;
+    match held {
+        HeldField::Absent => HeaderContent::Passes(looked.most),
         HeldField::At(line, at) => {
-            HeaderVerdict::Refuse(HeaderRefusal::Held(line, offset::of_field(header, at)))
+            HeaderContent::Fails(HeaderRefusal::Held(line, offset::of_field(header, at)))
         }
     }
 }
 
 // The refusals that the buffer does not decide.
-pub(crate) fn of_content(rules: Rules, header: &[u8]) -> HeaderVerdict
-    ensures { λ r. ⌜ r ≡ firstOf (ofSize (now (header .entry)) ∷ ofLines (now (header .entry)) (checkedLines (now (header .entry))) ∷ ofHeld (now (header .entry)) (heldOf rules (now (header .entry))) ∷ []) ⌝ }
+pub(crate) fn of_content(rules: Rules, header: &[u8]) -> HeaderContent
+    ensures { λ r. ⌜ r ≡ withMost (firstOf (ofSize (now (header .entry)) ∷ ofLines (now (header .entry)) (checkedLines (now (header .entry))) ∷ ofHeld (now (header .entry)) (heldOf rules (now (header .entry))) ∷ [])) (mostOf rules (limited (now (header .entry)))) ⌝ }
 {
     if 32768 < header.len() {
-        return HeaderVerdict::Refuse(HeaderRefusal::Over);
+        return HeaderContent::Fails(HeaderRefusal::Over);
     }
     match of_lines(header) {
-        HeaderVerdict::Refuse(refusal) => HeaderVerdict::Refuse(refusal),
+        HeaderVerdict::Refuse(refusal) => HeaderContent::Fails(refusal),
         HeaderVerdict::Accept => of_held(rules, header),
     }
 }

@@ -9,15 +9,15 @@ use native.Mathlib.Omega.{arith}
 use lib.Dec.{T, ltb}
 use lib.ListN.{length, take, drop, length-drop, drop-of-length-le}
 use lib.Seq.{drop-drop}
-use Rattle.lists.specs.Byte.{isAscii}
 use Rattle.lists.specs.Lists.{all, joined}
 use Rattle.lists.specs.ListsLaws.{joined-append}
 use Rattle.encoded_word.specs.Segments.{Segment, rendered}
 use Rattle.encoded_word.specs.SegmentsLaws.{rendered-append}
 use Rattle.structured_token.specs.declared.Kind.{Kind}
-use Rattle.structured_token.specs.Tokens.{kindOf, sizeOf, commentKind, Took}
+use Rattle.structured_token.specs.Tokens.{kindOf, sizeOf, Took}
 use Rattle.structured_token.specs.Walk.{Front, walk, clearOf, becomesOf}
 use Rattle.structured_token.specs.WalkLaws.{walk-nil, walk-front}
+use Rattle.structured_field.specs.StructuredField.{clear}
 use Rattle.field_parameter.specs.Parameter.{parameterLen, isConverted, parameterClear}
 use Rattle.parameterized_field.specs.declared.State.{State}
 use Rattle.parameterized_field.specs.Value.{Item, itemSegments, itemNames, parameterItems, tokenItems, afterToken, afterParameter, parameterHere, parameterFront, tokenFront, front, itemsFrom, clearFrom, segmentsFrom, namesFrom}
@@ -35,7 +35,7 @@ took-token h t = record { no = refl; what = t .what; is = t .is; some = t .some 
 
 -- what a part is, whether it may stand there, what it becomes, and the state after it
 unfoldable pub partClear : Bool → Kind → List ℕ → Bool
-partClear parameter kind t = cond parameter (parameterClear t) (commentKind kind || all isAscii t)
+partClear parameter kind t = cond parameter (parameterClear t) (clear kind t)
 
 unfoldable pub partItems : State → Bool → Kind → List ℕ → List ℕ → List Item
 partItems state parameter kind t more = cond parameter (parameterItems state t) (tokenItems state kind t more)
@@ -105,6 +105,10 @@ module _ (state : State) (s : List ℕ) (at : ℕ) where
 
 -- ---- step by step
 
+pub map-append : {A : Type 0} (f : Item → List A) (a b : List Item) → joined (map f (a ++ b)) ≡ joined (map f a) ++ joined (map f b)
+map-append f [] b = refl
+map-append f (x ∷ a) b = rw (map-append f a b) (sym (append-assoc (f x) (joined (map f a)) (joined (map f b))))
+
 module _ {state : State} {s : List ℕ} {at : ℕ} {parameter converted : Bool} {kind : Kind} {end : ℕ} (t : TookPart state s at parameter converted kind end) where
   abbrev part : List ℕ
   part = take (end - at) (drop at s)
@@ -127,10 +131,6 @@ module _ {state : State} {s : List ℕ} {at : ℕ} {parameter converted : Bool} 
   items-step : itemsFrom state (drop at s) ≡ items ++ itemsFrom (partNext state parameter converted kind) (drop end s)
   unfolding itemsFrom
   items-step = rw (walk-step, t .is)
-
-  map-append : {A : Type 0} (f : Item → List A) (a b : List Item) → joined (map f (a ++ b)) ≡ joined (map f a) ++ joined (map f b)
-  map-append f [] b = refl
-  map-append f (x ∷ a) b = rw (map-append f a b) (sym (append-assoc (f x) (joined (map f a)) (joined (map f b))))
 
   pub names-step : namesFrom state (drop at s) ≡ joined (map itemNames items) ++ namesFrom (partNext state parameter converted kind) (drop end s)
   unfolding namesFrom

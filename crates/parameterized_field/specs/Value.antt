@@ -4,38 +4,37 @@ use mathlib.Core.List.{List, [], _∷_, _++_, map}
 use Prim.Native.Nat.{ℕ}
 use lib.Dec.{ltb}
 use lib.ListN.{take, drop}
-use Rattle.lists.specs.Byte.{isAscii}
 use Rattle.lists.specs.Lists.{all, joined}
-use Rattle.letter_case.specs.LetterCase.{sameAnyCase}
 use Rattle.encoded_word.specs.Segments.{Segment}
-use Rattle.encoded_word.specs.Segments.Segment.{raw}
+use Rattle.encoded_word.specs.Segments.Segment.{raw, parameter}
 use Rattle.field.specs.Field.{named}
-use Rattle.comment.specs.Parts.{parts}
 use Rattle.structured_token.specs.declared.Kind.{Kind}
 use Rattle.structured_token.specs.declared.Kind.the-variants.{Comment, Quoted, White, Open, Semicolon, Plain, End}
-use Rattle.structured_token.specs.Tokens.{kindOf, sizeOf, goesOn, commentKind, whiteKind}
+use Rattle.structured_token.specs.Tokens.{kindOf, sizeOf, goesOn, whiteKind}
 use Rattle.structured_token.specs.Walk.{Front, walk, clearOf, becomesOf}
-use Rattle.structured_field.specs.StructuredField.{partSegments}
-use Rattle.mime_parameter.specs.Pieces.{valueText, parameterLines}
+use Rattle.structured_field.specs.StructuredField.{clear, becomes}
+use Rattle.mime_parameter.specs.Pieces.{valueText}
 use Rattle.field_parameter.specs.Parameter.{parameterLen, nameOf, valueOf, isConverted, parameterClear, convertedNext}
+use Rattle.parameter_names.specs.Names.{distinct}
 use Rattle.parameterized_field.specs.declared.State.{State}
 
 -- ---- items
 
--- a value is a row of items: a parameter that is converted, one that stays, or something else
+-- a value is a row of items: the name of a parameter that is converted and the text of its value, the name of one that stays and all its
+-- bytes, or something else
 pub data Item : Type 0 where
-  piece : List ℕ → Item
-  stays : List ℕ → Item
+  piece : List ℕ → List ℕ → Item
+  stays : List ℕ → List ℕ → Item
   other : List Segment → Item
 
 abbrev pub itemSegments : Item → List Segment
-itemSegments (piece parameter) = raw (parameterLines (nameOf parameter) (valueText (valueOf parameter))) ∷ []
-itemSegments (stays parameter) = raw parameter ∷ []
+itemSegments (piece name text) = parameter name text ∷ []
+itemSegments (stays name bytes) = raw bytes ∷ []
 itemSegments (other segments) = segments
 
 abbrev pub itemNames : Item → List (List ℕ)
-itemNames (piece parameter) = nameOf parameter ∷ []
-itemNames (stays parameter) = nameOf parameter ∷ []
+itemNames (piece name text) = name ∷ []
+itemNames (stays name bytes) = name ∷ []
 itemNames (other segments) = []
 
 -- ---- the state: whether a comment may start; whether a `;` is the last thing but white space, folds and comments; whether a converted
@@ -78,14 +77,10 @@ dropped state what more = whiteKind what && (state .fresh || (state .after && co
 abbrev pub ownMark : State → Kind → Bool
 ownMark state what = semicolonKind what && state .own
 
--- "Comments follow [1].", all else byte for byte
-unfoldable pub tokenSegments : Kind → List ℕ → List Segment
-tokenSegments what t = cond (commentKind what) (joined (map partSegments (parts t))) (raw t ∷ [])
-
--- a token, and what follows it
+-- a token, and what follows it: "Comments follow [1].", all else byte for byte
 unfoldable pub tokenItems : State → Kind → List ℕ → List ℕ → List Item
 tokenItems state what t more =
-    cond (dropped state what more) [] (newLine (state .fresh && not (ownMark state what)) ++ (other (tokenSegments what t) ∷ []))
+    cond (dropped state what more) [] (newLine (state .fresh && not (ownMark state what)) ++ (other (becomes what t) ∷ []))
 
 abbrev pub afterToken : State → Kind → State
 afterToken state what = record {
@@ -98,7 +93,8 @@ afterToken state what = record {
 -- ---- parameters
 
 unfoldable pub parameterItems : State → List ℕ → List Item
-parameterItems state parameter = cond (isConverted parameter) (piece parameter ∷ []) (newLine (state .fresh) ++ (stays parameter ∷ []))
+parameterItems state p =
+    cond (isConverted p) (piece (nameOf p) (valueText (valueOf p)) ∷ []) (newLine (state .fresh) ++ (stays (nameOf p) p ∷ []))
 
 abbrev pub afterParameter : State → Bool → State
 afterParameter state converted = record { comments = state .comments; after = false; fresh = converted; own = converted }
@@ -120,7 +116,7 @@ tokenFront state s =
     let n = sizeOf what s in
     let t = take n s in
     let more = drop n s in
-    record { size = n; clear = commentKind what || all isAscii t; becomes = tokenItems state what t more; next = afterToken state what }
+    record { size = n; clear = clear what t; becomes = tokenItems state what t more; next = afterToken state what }
 
 unfoldable pub front : State → List ℕ → Front State Item
 front state s = cond (parameterHere state s) (parameterFront state s) (tokenFront state s)
@@ -138,11 +134,6 @@ segmentsFrom state s = joined (map itemSegments (itemsFrom state s))
 
 unfoldable pub namesFrom : State → List ℕ → List (List ℕ)
 namesFrom state s = joined (map itemNames (itemsFrom state s))
-
--- no name is "shared by two parameters (any case)"
-unfoldable pub distinct : List (List ℕ) → Bool
-distinct [] = true
-distinct (name ∷ names) = all (λ other. not (sameAnyCase name other)) names && distinct names
 
 -- "Where a parameter name has `*`, is shared by two parameters (any case) or leaves no room for a character, or non-ASCII stands elsewhere,
 -- the field stays held."

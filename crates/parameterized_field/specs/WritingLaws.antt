@@ -18,21 +18,21 @@ use Rattle.lists.specs.RunLaws.{run-le}
 use Rattle.buffer.specs.Buffer.{AppendedCapped, greatest}
 use Rattle.buffer.specs.BufferLaws.{capped-none, capped-then, capped-same}
 use Rattle.encoded_word.specs.Segments.{Segment, rendered}
-use Rattle.encoded_word.specs.Segments.Segment.{raw}
+use Rattle.encoded_word.specs.Segments.Segment.{raw, parameter}
 use Rattle.field.specs.FieldLaws.{named-added}
 use Rattle.comment.specs.Parts.{parts}
 use Rattle.piece.specs.Piece.{fitting}
 use Rattle.piece.specs.PieceLaws.{rendered-one, fitting-short, MadeIn, made-in}
 use Rattle.structured_token.specs.declared.Kind.{Kind}
 use Rattle.structured_token.specs.Tokens.{commentKind, whiteKind}
-use Rattle.structured_field.specs.StructuredField.{partSegments}
+use Rattle.structured_field.specs.StructuredField.{partSegments, clear, becomes}
 use Rattle.unquote.specs.UnquoteLaws.{length-kept-from}
 use Rattle.mime_parameter.specs.Extended.{isTokenByte}
 use Rattle.mime_parameter.specs.Pieces.{staysInValue, valueText, hasRoom, parameterLines, limited}
 use Rattle.mime_parameter.specs.WritingLaws.{limited-short}
 use Rattle.field_parameter.specs.Parameter.{noStar, nameOf, valueOf, isConverted, parameterClear, convertedNext}
 use Rattle.parameterized_field.specs.declared.State.{State}
-use Rattle.parameterized_field.specs.Value.{Item, itemSegments, newLine, semicolonKind, dropped, ownMark, tokenSegments, tokenItems, parameterItems, segmentsFrom, start, parameterizedField}
+use Rattle.parameterized_field.specs.Value.{Item, itemSegments, newLine, semicolonKind, dropped, ownMark, tokenItems, parameterItems, segmentsFrom, start, parameterizedField}
 use Rattle.parameterized_field.specs.StepLaws.{partClear, partItems}
 
 -- a part is no longer than the whole
@@ -123,11 +123,11 @@ module _ (t : List ℕ) (kind : Kind) {parameter : Bool} where
 
   module _ (e : parameter ≡ false) {comment : Bool} (k : comment ≡ commentKind kind) where
     pub clear-comment : comment ≡ true → true ≡ partClear parameter kind t
-    unfolding partClear
+    unfolding partClear clear
     clear-comment f = rw (e, ← k, f)
 
     pub clear-other : comment ≡ false → {r : Bool} → r ≡ all isAscii t → r ≡ partClear parameter kind t
-    unfolding partClear
+    unfolding partClear clear
     clear-other f q = rw (e, ← k, f) q
 
 -- ---- white space that goes
@@ -168,10 +168,10 @@ parameter-bytes : (state : State) (p : List ℕ) → rendered (joined (map itemS
 unfolding parameterItems parameterBytes
 parameter-bytes state p = go (isConverted p)
   where
-    go : (b : Bool) → rendered (joined (map itemSegments (cond b (Item.piece p ∷ []) (newLine (state .fresh) ++ (Item.stays p ∷ [])))))
+    go : (b : Bool) → rendered (joined (map itemSegments (cond b (Item.piece (nameOf p) (valueText (valueOf p)) ∷ []) (newLine (state .fresh) ++ (Item.stays (nameOf p) p ∷ [])))))
         ≡ cond b (parameterLines (nameOf p) (valueText (valueOf p))) (lineStart (state .fresh) ++ p)
-    go true = rendered-one (raw (parameterLines (nameOf p) (valueText (valueOf p))))
-    go false = line-bytes (state .fresh) (Item.stays p) ∙ ap (λ (l : List ℕ). lineStart (state .fresh) ++ l) (rendered-one (raw p))
+    go true = rendered-one (parameter (nameOf p) (valueText (valueOf p)))
+    go false = line-bytes (state .fresh) (Item.stays (nameOf p) p) ∙ ap (λ (l : List ℕ). lineStart (state .fresh) ++ l) (rendered-one (raw p))
 
 module _ (p : List ℕ) {converted : Bool} (c : converted ≡ isConverted p) where
   pub converted-added : converted ≡ true → (fresh : Bool) {before after : List ℕ} {at r : ℕ} → AppendedCapped (parameterLines (nameOf p) (valueText (valueOf p))) at before after r
@@ -197,12 +197,12 @@ lines-added p name e h u a =
 module _ (kind : Kind) (t : List ℕ) {comment : Bool} (k : comment ≡ commentKind kind) (fresh : Bool) {before mid after : List ℕ} {at n r : ℕ} (h : length before ≤ greatest)
     (l : AppendedCapped (lineStart fresh) at before mid n) where
   pub comment-added : comment ≡ true → (room : ℕ) → (length t ≤ 32768) × (2 * length t ≤ room)
-      → AppendedCapped (rendered (joined (map partSegments (parts (fitting room t))))) n mid after r → AppendedCapped (lineStart fresh ++ rendered (tokenSegments kind t)) at before after r
-  unfolding tokenSegments
+      → AppendedCapped (rendered (joined (map partSegments (parts (fitting room t))))) n mid after r → AppendedCapped (lineStart fresh ++ rendered (becomes kind t)) at before after r
+  unfolding becomes
   comment-added e room q a = capped-same (rw (← k, e)) (capped-then l (rw (fitting-short room t (q .0) (q .1)) at a) h)
 
-  pub token-added : comment ≡ false → AppendedCapped t n mid after r → AppendedCapped (lineStart fresh ++ rendered (tokenSegments kind t)) at before after r
-  unfolding tokenSegments rendered
+  pub token-added : comment ≡ false → AppendedCapped t n mid after r → AppendedCapped (lineStart fresh ++ rendered (becomes kind t)) at before after r
+  unfolding becomes rendered
   token-added e a = capped-same (rw (← k, e, append-nil)) (capped-then l a h)
 
 -- a part
@@ -218,11 +218,11 @@ module _ (state : State) (kind : Kind) (t more : List ℕ) {parameter : Bool} wh
     part-dropped f before at h = capped-same (rw (e, ← g, f)) (capped-none at before h)
 
     pub part-token : gone ≡ false → {mark : Bool} → mark ≡ semicolonKind kind → {before after : List ℕ} {at r : ℕ}
-        → AppendedCapped (lineStart (state .fresh && not (mark && state .own)) ++ rendered (tokenSegments kind t)) at before after r
+        → AppendedCapped (lineStart (state .fresh && not (mark && state .own)) ++ rendered (becomes kind t)) at before after r
         → AppendedCapped (rendered (joined (map itemSegments (partItems state parameter kind t more)))) at before after r
     unfolding partItems tokenItems
     part-token f m a =
-        capped-same (rw (e, ← g, f) (sym (line-bytes (state .fresh && not (ownMark state kind)) (Item.other (tokenSegments kind t))))) (rw m at a)
+        capped-same (rw (e, ← g, f) (sym (line-bytes (state .fresh && not (ownMark state kind)) (Item.other (becomes kind t))))) (rw m at a)
 
 -- ---- the field
 

@@ -1,14 +1,11 @@
 // Whether no name is shared by two parameters.
 ghost use mathlib.Core.Path.{_≡_};
-ghost use mathlib.Core.Bool.{not};
-ghost use Prim.Native.Nat.{_+_, _*_, _≤_};
-ghost use lib.ListN.{length, drop};
-ghost use Rattle.lists.specs.CutBy.{cutBy};
-ghost use Rattle.lists.specs.Lists.{all};
-ghost use Rattle.letter_case.specs.LetterCase.{sameAnyCase};
+ghost use Prim.Native.Nat.{_*_, _≤_};
+ghost use lib.ListN.{length};
 ghost use Rattle.buffer.specs.Buffer.{AppendedCapped};
-ghost use Rattle.parameterized_field.specs.Value.{start as atStart, namesFrom, distinct};
-ghost use Rattle.parameterized_field.specs.NamesLaws.{markedLen, marked, partNames};
+ghost use Rattle.parameter_names.specs.Names.{distinct, marked};
+ghost use Rattle.parameterized_field.specs.Value.{start as atStart, namesFrom};
+ghost use Rattle.parameterized_field.specs.NamesLaws.{partNames};
 use crate::part::next_state;
 use crate::part::part_at;
 use crate::part::start;
@@ -46,51 +43,11 @@ fn add_names(out: &mut [u8], s: &[u8]) -> usize
     next
 }
 
-// Where the name at a place ends, with its `=`.
-fn marked_end(s: &[u8], at: usize) -> usize
-    ensures { λ r. ⌜ r ≡ at + markedLen (drop at (now (s .entry))) ⌝ }
-{
-    let end = field_parameter::token_end(s, at);
-    if s.len() <= end {
-        return end;
-    }
-    end + 1
-}
-
-// Whether a name is none of those from a place on.
-fn is_new(name: &[u8], s: &[u8], at: usize) -> bool
-    ensures { λ r. ⌜ r ≡ all (λ other. not (sameAnyCase (now (name .entry)) other)) (cutBy markedLen (drop at (now (s .entry)))) ⌝ }
-{
-    let mut i = at;
-    while i < s.len() {
-        let end = marked_end(s, i);
-        if letter_case::same_any_case(name, &s[i..end]) {
-            return false;
-        }
-        i = end;
-    }
-    true
-}
-
-fn all_differ(s: &[u8]) -> bool
-    ensures { λ r. ⌜ r ≡ distinct (cutBy markedLen (now (s .entry))) ⌝ }
-{
-    let mut i: usize = 0;
-    while i < s.len() {
-        let end = marked_end(s, i);
-        if !is_new(&s[i..end], s, end) {
-            return false;
-        }
-        i = end;
-    }
-    true
-}
-
 // Whether the names of a value's parameters differ. They are gathered in the scratch.
 pub(crate) fn names_differ(value: &[u8], scratch: &mut [u8]) -> bool
     requires { ⌜ (length (now value) ≤ 32768) × (2 * length (now value) ≤ length (now scratch)) ⌝ }
     ensures { λ r. ⌜ r ≡ distinct (namesFrom atStart (now (value .entry))) ⌝ }
 {
     let n = add_names(scratch, value);
-    all_differ(&scratch[..n])
+    parameter_names::names_differ(&scratch[..n])
 }

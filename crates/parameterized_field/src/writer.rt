@@ -9,7 +9,8 @@ ghost use Rattle.encoded_word.specs.Segments.{rendered};
 ghost use Rattle.piece.specs.Piece.{fitting};
 ghost use Rattle.mime_parameter.specs.Pieces.{valueText, parameterLines};
 ghost use Rattle.field_parameter.specs.Parameter.{nameOf, valueOf, isConverted};
-ghost use Rattle.parameterized_field.specs.Value.{itemSegments, tokenSegments, start as atStart, segmentsFrom, parameterizedField};
+ghost use Rattle.structured_field.specs.StructuredField.{becomes};
+ghost use Rattle.parameterized_field.specs.Value.{itemSegments, start as atStart, segmentsFrom, parameterizedField};
 ghost use Rattle.parameterized_field.specs.StepLaws.{TookPart, partItems};
 ghost use Rattle.parameterized_field.specs.WritingLaws.{lineStart, parameterBytes};
 use crate::State;
@@ -51,7 +52,7 @@ fn add_token(
     scratch: &mut [u8],
 ) -> usize
     requires { ⌜ (length (now token) ≤ 32768) × (2 * length (now token) ≤ length (now scratch)) ⌝ }
-    ensures { λ r. ⌜ AppendedCapped (lineStart fresh ++ rendered (tokenSegments kind (now (token .entry)))) at (now (out .entry)) (now (out .exit)) r ⌝ }
+    ensures { λ r. ⌜ AppendedCapped (lineStart fresh ++ rendered (becomes kind (now (token .entry)))) at (now (out .entry)) (now (out .exit)) r ⌝ }
 {
     let next = add_new_line(out, at, fresh);
     if structured_token::is_comment(kind) {

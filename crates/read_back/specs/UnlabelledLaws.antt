@@ -1,6 +1,6 @@
 -- What the value of a field becomes has no label: labels stand only where a field's text is encoded as a whole. Assumes nothing.
-use mathlib.Core.Bool.{true}
-use mathlib.Core.List.{List, [], _∷_, map}
+use mathlib.Core.Bool.{Bool, true, false, not, _&&_}
+use mathlib.Core.List.{List, [], _∷_, _++_, map, append-nil}
 use Prim.Native.Nat.{ℕ, zero, suc, pred}
 use lib.Dec.{T}
 use lib.ListN.{take, drop}
@@ -24,6 +24,10 @@ use Rattle.structured_token.specs.Walk.{Front, walkAfter, walk, becomesOf, beco
 use Rattle.structured_token.specs.Tokens.{commentKind}
 use Rattle.structured_token.specs.declared.Kind.{Kind}
 use Rattle.structured_field.specs.StructuredField.{partSegments, becomes as structuredBecomes, structuredFront, valueSegments as structuredSegments}
+use Rattle.parameterized_field.specs.declared.State.{State}
+use Rattle.parameterized_field.specs.Value.{Item, itemSegments, start, newLine, ownMark, dropped, tokenItems, parameterItems, parameterHere, parameterFront, tokenFront, front, itemsFrom, segmentsFrom}
+use Rattle.parameterized_field.specs.StepLaws.{map-append}
+use Rattle.field_parameter.specs.Parameter.{isConverted}
 use Rattle.received.specs.Received.{becomes as receivedBecomes, Place, receivedFront, valueSegments as receivedSegments}
 use Rattle.received_token.specs.declared.ReceivedKind.{ReceivedKind}
 use Rattle.received_token.specs.declared.ReceivedKind.the-variants.{Comment as CommentToken, Clause, BareFor, Open, Other}
@@ -80,6 +84,45 @@ front-unlabelled (Place.place comments start) s = clause-unlabelled _ _
 pub received-unlabelled : (value : List ℕ) → Unlabelled (receivedSegments value)
 unfolding receivedSegments
 received-unlabelled value = becoming-unlabelled receivedFront front-unlabelled (Place.place true true) value
+
+-- ---- fields with parameters
+
+abbrev ItemsUnlabelled : List Item → Type 0
+ItemsUnlabelled items = Unlabelled (joined (map itemSegments items))
+
+line-unlabelled : (b : Bool) (item : Item) → Unlabelled (itemSegments item) → ItemsUnlabelled (newLine b ++ (item ∷ []))
+line-unlabelled true item h = rw (append-nil (itemSegments item)) h
+line-unlabelled false item h = rw (append-nil (itemSegments item)) h
+
+parameter-unlabelled : (state : State) (p : List ℕ) → ItemsUnlabelled (parameterItems state p)
+unfolding parameterItems
+parameter-unlabelled state p = cond-has ItemsUnlabelled (isConverted p) _ _ (λ t. tt) (λ t. line-unlabelled (state .fresh) _ tt)
+
+item-unlabelled : (state : State) (what : Kind) (t more : List ℕ) → ItemsUnlabelled (tokenItems state what t more)
+unfolding tokenItems
+item-unlabelled state what t more =
+    cond-has ItemsUnlabelled (dropped state what more) [] _ (λ d. tt) (λ d. line-unlabelled (state .fresh && not (ownMark state what)) _ (token-unlabelled what t))
+
+items-front : (state : State) (s : List ℕ) → ItemsUnlabelled (front state s .becomes)
+unfolding front
+items-front state s =
+    cond-has (λ (f : Front State Item). ItemsUnlabelled (f .becomes)) (parameterHere state s) (parameterFront state s) (tokenFront state s)
+    (λ t. parameter-unlabelled state _)
+    (λ t. item-unlabelled state _ _ _)
+
+items-unlabelled : (state : State) (k : ℕ) (s : List ℕ) → ItemsUnlabelled (joined (map becomesOf (walkAfter front state k s)))
+unfolding walkAfter
+items-unlabelled state k [] = tt
+items-unlabelled state (suc k) (b ∷ s) = items-unlabelled state k s
+items-unlabelled state zero (b ∷ s) =
+    let f = front state (b ∷ s) in
+    let rest = joined (map becomesOf (walkAfter front (f .next) (pred (f .size)) s)) in
+    rw (map-append itemSegments (f .becomes) rest)
+    (all-append unlabelled (joined (map itemSegments (f .becomes))) (joined (map itemSegments rest)) (items-front state (b ∷ s)) (items-unlabelled (f .next) (pred (f .size)) s))
+
+pub parameterized-unlabelled : (value : List ℕ) → Unlabelled (segmentsFrom start value)
+unfolding segmentsFrom itemsFrom walk
+parameterized-unlabelled value = items-unlabelled start 0 value
 
 -- ---- address fields
 

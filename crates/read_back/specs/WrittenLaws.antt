@@ -39,8 +39,9 @@ use Rattle.group.specs.Group.{turnsOf}
 use Rattle.address_pieces.specs.Pieces.{piecesOf}
 use Rattle.address_pieces.specs.AddressField.{rewrittenField, addsCopy, copyOf, fieldBy, addressField}
 use Rattle.structured_field.specs.StructuredField.{asciiOutsideComments, structuredField, valueSegments as structuredSegments}
-use Rattle.received.specs.Received.{passes, receivedField, valueSegments as receivedSegments}
-use Rattle.outgoing_field.specs.Fate.{Fate, commentsOrEncapsulated, methodFate, fateOf, segmentsOf, fieldSegments, headerSegments}
+use Rattle.received.specs.Received.{receivedField, valueSegments as receivedSegments}
+use Rattle.parameterized_field.specs.Value.{start, segmentsFrom, parameterizedField}
+use Rattle.outgoing_field.specs.Fate.{Fate, commentsOrEncapsulated, holds, methodWritten, methodFate, fateOf, segmentsOf, fieldSegments, headerSegments}
 use Rattle.outgoing_field.specs.Fate.Fate.{held, written}
 use Rattle.envelope.specs.Envelope.{checked, mailReplacement, rcptReplacement}
 use Rattle.envelope.specs.ReplacementLaws.{mail-replacement-utf8, rcpt-replacement-utf8}
@@ -48,7 +49,7 @@ use Rattle.envelope.specs.declared.Checked.the-variants.{Passed}
 use Rattle.call.specs.OutgoingHeader.{newField, newFields, outgoingSegments}
 use Rattle.downgraded_row.specs.RowLinesLaws.{Label}
 use Rattle.downgraded_row.specs.ReadBackLaws.{unlabelled, WrittenFields, written-then, name-not-blank}
-use Rattle.read_back.specs.UnlabelledLaws.{Unlabelled, structured-unlabelled, received-unlabelled, turns-unlabelled}
+use Rattle.read_back.specs.UnlabelledLaws.{Unlabelled, structured-unlabelled, received-unlabelled, parameterized-unlabelled, turns-unlabelled}
 
 -- ---- a field alone
 
@@ -146,23 +147,31 @@ module _ {field : List ℕ} (s : Shaped field) where
   unfolding receivedField
   received-written = named-written (receivedSegments (valueOf field)) (received-unlabelled (valueOf field))
 
+  parameterized-written : WrittenFields (parameterizedField (nameOf field) (valueOf field))
+  unfolding parameterizedField
+  parameterized-written = named-written (segmentsFrom start (valueOf field)) (parameterized-unlabelled (valueOf field))
+
+  not-held : (rules : Rules) (method : Method) → WrittenFields (methodWritten rules method field)
+  unfolding methodWritten commentsOrEncapsulated addressField
+  not-held rules Pieces = address-written rules (examined rules (textOf field))
+  not-held rules PlainText = encoded-written false
+  not-held rules Encapsulated = encoded-written true
+  not-held rules Received = received-written
+  not-held rules CommentsOrHeld = structured-written
+  not-held rules CommentsOrEncapsulated =
+      cond-has WrittenFields (asciiOutsideComments (valueOf field)) (structuredField (nameOf field) (valueOf field)) (encodedField true (nameOf field) (textOf field))
+      (λ t. structured-written)
+      (λ t. encoded-written true)
+  not-held rules Parameters = parameterized-written
+  not-held rules Held = WrittenFields.none
+
   abbrev FateWritten : Fate → Type 0
   FateWritten fate = WrittenFields (segmentsOf fate)
 
   method-written : (rules : Rules) (method : Method) → FateWritten (methodFate rules method field)
-  unfolding methodFate segmentsOf commentsOrEncapsulated addressField
-  method-written rules Pieces = address-written rules (examined rules (textOf field))
-  method-written rules PlainText = encoded-written false
-  method-written rules Encapsulated = encoded-written true
-  method-written rules Received = cond-has FateWritten (passes (nameOf field) (valueOf field)) (written (receivedField (nameOf field) (valueOf field))) held (λ t. received-written) (λ t. WrittenFields.none)
-  method-written rules CommentsOrHeld =
-      cond-has FateWritten (asciiOutsideComments (valueOf field)) (written (structuredField (nameOf field) (valueOf field))) held (λ t. structured-written) (λ t. WrittenFields.none)
-  method-written rules CommentsOrEncapsulated =
-      cond-has WrittenFields (asciiOutsideComments (valueOf field)) (structuredField (nameOf field) (valueOf field)) (encodedField true (nameOf field) (textOf field))
-      (λ t. structured-written)
-      (λ t. encoded-written true)
-  method-written rules Parameters = WrittenFields.none
-  method-written rules Held = WrittenFields.none
+  unfolding methodFate segmentsOf
+  method-written rules method =
+      cond-has FateWritten (holds method field) held (written (methodWritten rules method field)) (λ t. WrittenFields.none) (λ t. not-held rules method)
 
   field-written : (rules : Rules) → WrittenFields (fieldSegments rules field)
   unfolding fieldSegments fateOf segmentsOf

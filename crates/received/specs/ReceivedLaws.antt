@@ -73,7 +73,7 @@ clause-le : (c : List ℕ) → length (rendered (clauseSegments c)) ≤ 23 * len
 unfolding rendered
 clause-le c = cond-has (λ (ss : List Segment). length (rendered ss) ≤ 23 * length c) (all isAscii c) (raw c ∷ []) [] (λ a. rw append-nil (omega arith)) (λ a. omega arith)
 
-rule-short : RuleShort ReceivedRule
+rule-short : RuleShort ReceivedRule 23
 rule-short = record { part-short = λ r. go r }
   where
     go : {at after : Place} {part more : List ℕ} {p : List Segment} → ReceivedRule at part more p after → length (rendered p) ≤ 23 * length part

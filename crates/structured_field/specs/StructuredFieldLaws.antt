@@ -40,7 +40,7 @@ part-sound part h =
 pub comment-sound : (comment : List ℕ) → T (utf8 comment) → T (all sound (joined (map partSegments (parts comment))))
 comment-sound comment h = mapped-sound partSegments utf8 part-sound (parts comment) (parts-utf8 comment h)
 
-token-sound : (what : Kind) (token : List ℕ) → T (clear what token) → T (utf8 token) → T (all sound (becomes what token))
+pub token-sound : (what : Kind) (token : List ℕ) → T (clear what token) → T (utf8 token) → T (all sound (becomes what token))
 unfolding clear becomes
 token-sound what token c u =
     cond-has (λ (ss : List Segment). T (all sound ss)) (commentKind what) (joined (map partSegments (parts token))) (raw token ∷ [])
@@ -71,14 +71,14 @@ pub comment-le : (comment : List ℕ) → length (rendered (joined (map partSegm
 unfolding parts
 comment-le comment = rw (parts-joined comment) at (mapped-le partSegments 23 part-le (parts comment) (cut-some partLen comment))
 
-token-le : (what : Kind) (token : List ℕ) → length (rendered (becomes what token)) ≤ 23 * length token
+pub token-le : (what : Kind) (token : List ℕ) → length (rendered (becomes what token)) ≤ 23 * length token
 unfolding becomes rendered
 token-le what token =
     cond-has (λ (ss : List Segment). length (rendered ss) ≤ 23 * length token) (commentKind what) (joined (map partSegments (parts token))) (raw token ∷ [])
     (λ t. comment-le token)
     (λ t. rw append-nil (omega arith))
 
-pub rule-short : RuleShort StructuredRule
+pub rule-short : RuleShort StructuredRule 23
 rule-short = record { part-short = λ r. go (from-rule r) }
   where
     go : {comments on : Bool} {t more : List ℕ} {p : List Segment} → TokenRule clear becomes comments t more p on → length (rendered p) ≤ 23 * length t

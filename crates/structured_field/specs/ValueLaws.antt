@@ -1,6 +1,7 @@
 -- Laws of every grammar of values: what it makes is sound, and how long it can be. Assumes nothing.
 use mathlib.Core.List.{List, _++_}
-use Prim.Native.Nat.{ℕ, _*_, _≤_}
+use Prim.Native.Nat.{ℕ, _*_, _≤_, zero-le}
+use native.Mathlib.Nat.{mul-add}
 use native.Mathlib.Omega.{arith}
 use lib.Dec.{T}
 use lib.ListN.{length, length-append}
@@ -20,11 +21,14 @@ module _ {S : Type 0} (Rule : S → List ℕ → List ℕ → List Segment → S
   value-sound f Value.end u = tt
   value-sound f (Value.next {p = p} {q = q} r v) u = let both = f .part-sound r u in all-append sound p q (both .0) (value-sound f v (both .1))
 
-  pub record RuleShort : Type 0 where
-    pub part-short : {state after : S} {part more : List ℕ} {p : List Segment} → Rule state part more p after → length (rendered p) ≤ 23 * length part
+  -- each part becomes at most k bytes for each of its own
+  pub record RuleShort (k : ℕ) : Type 0 where
+    pub part-short : {state after : S} {part more : List ℕ} {p : List Segment} → Rule state part more p after → length (rendered p) ≤ k * length part
 
-  pub value-le : RuleShort → {state : S} {text : List ℕ} {p : List Segment} → Value Rule state text p → length (rendered p) ≤ 23 * length text
+  pub value-le : {k : ℕ} → RuleShort k → {state : S} {text : List ℕ} {p : List Segment} → Value Rule state text p → length (rendered p) ≤ k * length text
   unfolding rendered
-  value-le f Value.end = omega arith
-  value-le f (Value.next {part = part} {more = more} {p = p} {q = q} r v) =
-      rw (rendered-append p q, length-append (rendered p) (rendered q)) (omega (arith, f .part-short r, value-le f v, length-append part more))
+  value-le f Value.end = zero-le
+  value-le {k} f (Value.next {part = part} {more = more} {p = p} {q = q} r v) =
+      let one = f .part-short r in
+      let rest = value-le f v in
+      rw (rendered-append p q, length-append (rendered p) (rendered q), length-append part more, mul-add k (length part) (length more)) (omega arith)

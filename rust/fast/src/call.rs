@@ -120,7 +120,7 @@ fn is_held(field: &Field, header: &[u8]) -> bool {
         Kind::Held => true,
         Kind::HeldOutsideComments => comment::non_ascii_outside(field.value(header)),
         Kind::Received => received::is_held(field.name(header).len(), field.value(header)),
-        Kind::Parameters => !cfg!(feature = "parameters") || parameter::is_held(field.value(header)),
+        Kind::Parameters => parameter::is_held(field.value(header)),
         Kind::Address | Kind::Plain | Kind::Other => false,
     }
 }

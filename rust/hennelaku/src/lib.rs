@@ -25,12 +25,12 @@ pub const MAX_HEADER: usize = 32_768;
 
 /// Buffers that suffice for every message. A call with such a header buffer is also the fastest.
 pub const ENVELOPE_ROOM_MAX: usize = MAX_ENVELOPE;
-pub const HEADER_ROOM_MAX: usize = 1_048_576;
+pub const HEADER_ROOM_MAX: usize = 2_642_040;
 
 /// A header buffer that suffices for a header of so many bytes.
 pub const fn header_room_for(header_len: usize) -> usize {
     if header_len < MAX_HEADER {
-        30 * header_len + 20_600
+        80 * header_len + 20_600
     } else {
         HEADER_ROOM_MAX
     }

@@ -100,7 +100,7 @@ fn empty_header() {
 fn rooms() {
     assert_eq!(header_room_for(0), 20_600);
     assert!(header_room_for(MAX_HEADER - 1) <= HEADER_ROOM_MAX);
-    assert_eq!(HEADER_ROOM_MAX, 1_048_576);
+    assert_eq!(HEADER_ROOM_MAX, 80 * MAX_HEADER + 20_600);
     assert_eq!(header_room_for(usize::MAX), HEADER_ROOM_MAX);
 }
 

@@ -1,11 +1,12 @@
 use Rattle.call.specs.OutputLaws.{refused-observed, content-refused}
+use Rattle.call.specs.OutcomeLaws.{with-passes, with-fails}
 use mathlib.Core.Path.{sym, _∙_}
 use borrow.Author.Needs.{needs}
 use Rattle.call.proofs.downgrade_checked.Statement.{statement}
 use Rattle.call.proofs.downgrade_checked.Tie as tie
 
 of-content-requires : tie.Need-of-content-requires
-of-content-requires c κs = search needs
+of-content-requires c κs = c .before .before .before .before .pre .short₂
 
 enum-known-refusal : tie.Need-enum-known-refusal
 enum-known-refusal c = search needs
@@ -13,14 +14,14 @@ enum-known-refusal c = search needs
 refused-requires : tie.Need-refused-requires
 refused-requires c κs = search needs
 
-enum-told : tie.Need-enum-told
-enum-told c = search needs
+enum-known-most : tie.Need-enum-known-most
+enum-known-most c = search needs
 
 fill-requires : tie.Need-fill-requires
-fill-requires c κs = (c .before .before .before .before .before .before .before .before .before .pre, record { content = sym (c .before .before .before .before .of-content .ensures) ∙ c .before .before .enum-told .given .1 })
+fill-requires c κs = let both = with-passes _ _ (sym (c .before .before .before .before .before .of-content .ensures) ∙ c .before .before .before .most .given .1) in (c .before .before .before .before .before .before .before .before .before .before .pre, record { content = both .0; greatest = both .1 })
 
 returns : tie.Need-returns
-returns c = refused-observed _ _ _ _ _ (content-refused (c .before .before .before .before .before .before .before .before .before .pre) _ _ (sym (c .before .before .before .before .of-content .ensures) ∙ c .before .before .refusal .given .1)) (c .refused .ensures)
+returns c = refused-observed _ _ _ _ _ (content-refused (c .before .before .before .before .before .before .before .before .before .pre) _ _ (with-fails _ _ (sym (c .before .before .before .before .of-content .ensures) ∙ c .before .before .refusal .given .1))) (c .refused .ensures)
 
 same-length : tie.Need-same-length
 same-length c = search needs
@@ -38,7 +39,7 @@ downgrade-checked-spec =
     of-content-requires
     enum-known-refusal
     refused-requires
-    enum-told
+    enum-known-most
     fill-requires
     returns
     same-length

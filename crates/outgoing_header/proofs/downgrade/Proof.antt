@@ -1,4 +1,4 @@
-use Rattle.outgoing_header.specs.HeaderOutcomeLaws.{content, content-refused, refused-observed}
+use Rattle.outgoing_header.specs.HeaderOutcomeLaws.{content-passes, with-fails, content-refused, refused-observed}
 use mathlib.Core.Path.{sym, _∙_}
 use borrow.Author.Needs.{needs}
 use Rattle.outgoing_header.proofs.downgrade.Statement.{statement}
@@ -22,16 +22,16 @@ refused-requires : tie.Need-refused-requires
 refused-requires c κs = search needs
 
 -- src/lib.rt:102:54
-enum-told : tie.Need-enum-told
-enum-told c = search needs
+enum-known-most : tie.Need-enum-known-most
+enum-known-most c = search needs
 
 -- src/lib.rt:102:34
 fill-requires : tie.Need-fill-requires
-fill-requires c κs = let ok = content _ _ (sym (c .before .before .before .of-content .ensures) ∙ c .before .enum-told .given .1) in (ok .passed, ok .unheld)
+fill-requires c κs = content-passes _ _ (sym (c .before .before .before .before .of-content .ensures) ∙ c .before .before .most .given .1)
 
 -- src/lib.rt:97:1
 returns : tie.Need-returns
-returns c = refused-observed _ _ _ (content-refused _ _ _ (sym (c .before .before .before .before .of-content .ensures) ∙ c .before .before .refusal .given .1)) (c .refused .ensures)
+returns c = refused-observed _ _ _ (content-refused _ _ _ (with-fails _ _ (sym (c .before .before .before .before .of-content .ensures) ∙ c .before .before .refusal .given .1))) (c .refused .ensures)
 
 -- src/lib.rt:97:1
 same-length : tie.Need-same-length
@@ -48,7 +48,7 @@ downgrade-spec =
     of-content-requires
     enum-known-refusal
     refused-requires
-    enum-told
+    enum-known-most
     fill-requires
     returns
     same-length

@@ -11,7 +11,7 @@ use Rattle.outgoing_header.proofs.refusals.refused.Reads as refused-rea
 
 -- src/lib.rt:84:9
 needs-requires : tie.Need-needs-requires
-needs-requires c κs = c .before .before .pre .0
+needs-requires c κs = c .before .before .pre
 
 -- src/lib.rt:86:9
 refused-requires : tie.Need-refused-requires
@@ -19,7 +19,7 @@ refused-requires c κs = search needs
 
 -- src/lib.rt:86:9
 returns : tie.Need-returns
-returns c = too-long (c .before .before .before .before .before .pre .0) (c .before .before .before .before .before .pre .1) _ (c .before .before .needs .ensures) (c .before .if1 .taken) (c .refused .ensures)
+returns c = too-long (c .before .before .before .before .before .pre .0) _ (c .before .before .needs .ensures) (c .before .if1 .taken) (c .refused .ensures)
 
 -- src/lib.rt:92:17
 put-requires : tie.Need-put-requires
@@ -31,7 +31,7 @@ same-length c = search needs
 
 -- src/lib.rt:80:1
 returns-2 : tie.Need-returns-2
-returns-2 c = written-out (c .before .before .before .before .before .before .before .before .pre .0) (c .before .before .before .before .before .before .before .before .pre .1) _ (c .before .before .before .before .before .needs .ensures) (c .before .before .before .before .if1 .left) refl refl refl (c .before .before .put .ensures)
+returns-2 c = written-out (c .before .before .before .before .before .before .before .before .pre .0) _ (c .before .before .before .before .before .needs .ensures) (c .before .before .before .before .if1 .left) refl refl refl (c .before .before .put .ensures)
 
 pub fill-spec : {M : Type 1} → statement M
 fill-spec =

@@ -16,7 +16,7 @@ same-length c = search needs
 
 -- src/lib.rt:53:1
 returns : tie.Need-returns
-returns c = out-wrote _ (c .before .before .before .before .before .before .pre) (c .before .before .add-fields .ensures)
+returns c = out-wrote (c .before .before .before .before .before .before .pre) (c .before .before .add-fields .ensures)
 
 pub put-spec : {M : Type 1} → statement M
 put-spec = tie.close (tie.spec add-fields-requires same-length returns)

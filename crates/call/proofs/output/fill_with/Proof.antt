@@ -1,4 +1,4 @@
-use Rattle.call.specs.OutputLaws.{envelope-needs, header-needs, downgraded, starts-written, ready-starts, ready-short, accepted-lines}
+use Rattle.call.specs.OutputLaws.{envelope-needs, header-needs, downgraded, starts-written, ready-starts, ready-short, ready-passed}
 use mathlib.Core.Path.{refl}
 use borrow.Author.Needs.{needs}
 use Rattle.call.proofs.output.fill_with.Statement.{statement}
@@ -14,7 +14,7 @@ returns : tie.Need-returns
 returns c = envelope-needs (c .before .before .before .before .before .before .before .before .before .pre .0) (c .before .before .before .before .before .before .before .before .before .pre .1) _ _ (c .before .before .envelope-len .ensures) (c .before .if1 .taken) (c .refused .ensures)
 
 header-needs-requires : tie.Need-header-needs-requires
-header-needs-requires c κs = (ready-short (c .before .before .before .before .before .before .before .before .pre .0) (c .before .before .before .before .before .before .before .before .pre .2), accepted-lines (c .before .before .before .before .before .before .before .before .pre .1))
+header-needs-requires c κs = (ready-short (c .before .before .before .before .before .before .before .before .pre .0) (c .before .before .before .before .before .before .before .before .pre .2), ready-passed (c .before .before .before .before .before .before .before .before .pre .0) (c .before .before .before .before .before .before .before .before .pre .1), c .before .before .before .before .before .before .before .before .pre .1 .greatest)
 
 refused-requires-2 : tie.Need-refused-requires-2
 refused-requires-2 c κs = search needs
@@ -26,7 +26,7 @@ put-requires : tie.Need-put-requires
 put-requires c κs = search needs
 
 put-header-requires : tie.Need-put-header-requires
-put-header-requires c κs = (ready-short (c .before .before .before .before .before .before .before .before .before .before .before .before .before .before .before .pre .0) (c .before .before .before .before .before .before .before .before .before .before .before .before .before .before .before .pre .2), accepted-lines (c .before .before .before .before .before .before .before .before .before .before .before .before .before .before .before .pre .1))
+put-header-requires c κs = (ready-short (c .before .before .before .before .before .before .before .before .before .before .before .before .before .before .before .pre .0) (c .before .before .before .before .before .before .before .before .before .before .before .before .before .before .before .pre .2), ready-passed (c .before .before .before .before .before .before .before .before .before .before .before .before .before .before .before .pre .0) (c .before .before .before .before .before .before .before .before .before .before .before .before .before .before .before .pre .1))
 
 same-length : tie.Need-same-length
 same-length c = search needs

@@ -1,6 +1,5 @@
-use Rattle.call.specs.OutcomeLaws.{past-orcpt}
-use Rattle.call.specs.Outcome.{firstOf, ofOrcpt, ofHeader}
-use mathlib.Core.Path.{ap, _∙_}
+use Rattle.call.specs.OutcomeLaws.{withMost, held-content, past-orcpt}
+use Rattle.call.specs.Outcome.{firstOf, ofOrcpt}
 use borrow.Author.Needs.{needs}
 use Rattle.call.proofs.refusals.non_ascii.Statement.{statement}
 use Rattle.call.proofs.refusals.non_ascii.Tie as tie
@@ -37,11 +36,11 @@ of-orcpt-requires c κs = search needs
 
 -- src/refusals.rt:105:1
 returns : tie.Need-returns
-returns c = past-orcpt _ (c .before .before .before .before .orcpt-line .ensures) (c .before .before .enum-told .given .1) (c .of-header .ensures ∙ ap ofHeader (c .before .of-held .ensures))
+returns c = past-orcpt _ _ _ (c .before .before .before .before .orcpt-line .ensures) (c .before .before .enum-told .given .1) (held-content _ _ (c .before .before .before .before .before .before .before .pre) (c .before .of-held .ensures) (c .of-header .ensures))
 
 -- src/refusals.rt:105:1
 returns-2 : tie.Need-returns-2
-unfolding firstOf ofOrcpt
+unfolding firstOf ofOrcpt withMost
 returns-2 c = rw (← (c .before .before .before .before .orcpt-line .ensures), c .before .before .line .given .1, c .of-orcpt .ensures)
 
 pub non-ascii-spec : {M : Type 1} → statement M

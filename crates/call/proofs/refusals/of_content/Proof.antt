@@ -1,4 +1,5 @@
 use Rattle.call.specs.Outcome.{firstOf, ofHeader}
+use Rattle.call.specs.OutcomeLaws.{withMost}
 use mathlib.Core.Path.{_∙_}
 use borrow.Author.Needs.{needs}
 use Rattle.call.proofs.refusals.of_content.Statement.{statement}
@@ -31,7 +32,7 @@ returns c = c .non-ascii .ensures ∙ rw (← (c .before .before .before .of-lin
 
 -- src/refusals.rt:117:1
 returns-2 : tie.Need-returns-2
-unfolding firstOf ofHeader
+unfolding firstOf ofHeader withMost
 returns-2 c = rw (← (c .before .before .before .of-lines .ensures), c .before .refusal .given .1)
 
 pub of-content-spec : {M : Type 1} → statement M

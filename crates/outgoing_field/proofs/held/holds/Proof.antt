@@ -1,5 +1,6 @@
 use Rattle.header.specs.FieldLaws.{name-size}
-use Rattle.outgoing_field.specs.FateLaws.{holds, holds-commented, holds-received}
+use Rattle.outgoing_field.specs.Fate.{holds}
+use Rattle.outgoing_field.specs.FateLaws.{holds-commented, holds-received, holds-parameters}
 use borrow.Author.Needs.{needs}
 use Rattle.outgoing_field.proofs.held.holds.Statement.{statement}
 use Rattle.outgoing_field.proofs.held.holds.Tie as tie
@@ -43,6 +44,12 @@ enum-told-6 c = search needs
 enum-told-7 : tie.Need-enum-told-7
 enum-told-7 c = search needs
 
+value-requires-3 : tie.Need-value-requires-3
+value-requires-3 c κs = search needs
+
+passes-requires-2 : tie.Need-passes-requires-2
+passes-requires-2 c κs = search needs
+
 enum-told-8 : tie.Need-enum-told-8
 enum-told-8 c = search needs
 
@@ -69,8 +76,7 @@ unfolding holds
 returns-6 c = rw (c .enum-told6 .given .1)
 
 returns-7 : tie.Need-returns-7
-unfolding holds
-returns-7 c = rw (c .enum-told7 .given .1)
+returns-7 c = holds-parameters _ _ (c .before .before .enum-told7 .given .1) (c .before .before .before .before .before .pre) (c .before .value3 .ensures) (c .passes2 .ensures)
 
 returns-8 : tie.Need-returns-8
 unfolding holds
@@ -93,6 +99,8 @@ holds-spec =
     ascii-outside-comments-requires
     enum-told-6
     enum-told-7
+    value-requires-3
+    passes-requires-2
     enum-told-8
     returns
     returns-2

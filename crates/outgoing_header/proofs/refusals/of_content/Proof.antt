@@ -9,7 +9,7 @@ use Rattle.outgoing_header.proofs.refusals.of_lines.Reads as of-lines-r
 
 -- src/refusals.rt:93:9
 returns : tie.Need-returns
-returns c = over-content _ _ (c .if1 .taken)
+returns c = over-content _ _ _ (c .if1 .taken)
 
 -- src/refusals.rt:95:11
 of-lines-requires : tie.Need-of-lines-requires
@@ -29,11 +29,11 @@ of-held-requires c κs = search needs
 
 -- src/refusals.rt:89:1
 returns-2 : tie.Need-returns-2
-returns-2 c = line-content _ _ (c .before .before .before .before .if1 .left) (c .before .before .before .of-lines .ensures) (c .before .refusal .given .1)
+returns-2 c = line-content _ _ (c .before .before .before .before .if1 .left) (c .before .before .before .of-lines .ensures) _ (c .before .refusal .given .1)
 
 -- src/refusals.rt:89:1
 returns-3 : tie.Need-returns-3
-returns-3 c = held-content _ _ (c .before .before .before .before .if1 .left) (c .before .before .before .of-lines .ensures) (c .before .enum-told .given .1) (c .of-held .ensures)
+returns-3 c = held-content _ _ (c .before .before .before .before .if1 .left) (c .before .before .before .of-lines .ensures) _ (c .before .enum-told .given .1) (c .of-held .ensures)
 
 pub of-content-spec : {M : Type 1} → statement M
 of-content-spec =

@@ -1,4 +1,4 @@
-use Rattle.outgoing_header.specs.HeaderOutcome.{ofHeld}
+use Rattle.outgoing_header.specs.HeaderOutcomeLaws.{held-absent, held-found}
 use borrow.Author.Needs.{needs}
 use Rattle.outgoing_header.proofs.refusals.of_held.Statement.{statement}
 use Rattle.outgoing_header.proofs.refusals.of_held.Tie as tie
@@ -16,8 +16,8 @@ enum-told : tie.Need-enum-told
 enum-told c = search needs
 
 -- src/refusals.rt:82:23
-enum-known-line : tie.Need-enum-known-line
-enum-known-line c = search needs
+enum-known-held : tie.Need-enum-known-held
+enum-known-held c = search needs
 
 -- src/refusals.rt:83:61
 of-field-requires : tie.Need-of-field-requires
@@ -25,15 +25,13 @@ of-field-requires c κs = search needs
 
 -- src/refusals.rt:77:1
 returns : tie.Need-returns
-unfolding ofHeld
-returns c = rw (← (c .before .before .first-held .ensures), c .enum-told .given .1)
+returns c = held-absent _ (c .before .before .first-held .ensures) (c .enum-told .given .1)
 
 -- src/refusals.rt:77:1
 returns-2 : tie.Need-returns-2
-unfolding ofHeld
-returns-2 c = rw (← (c .before .before .before .before .first-held .ensures), c .before .before .line .given .1, c .of-field .ensures)
+returns-2 c = held-found _ (c .before .before .before .before .first-held .ensures) (c .before .before .held .given .1) (c .of-field .ensures)
 
 pub of-held-spec : {M : Type 1} → statement M
 of-held-spec =
     tie.close
-    (tie.spec first-held-requires enum-told enum-known-line of-field-requires returns returns-2)
+    (tie.spec first-held-requires enum-told enum-known-held of-field-requires returns returns-2)

@@ -1,4 +1,5 @@
-use Rattle.parameterized_field.specs.NamesLaws.{marked, marked-step, marked-none, marked-grows}
+use Rattle.parameter_names.specs.Names.{marked}
+use Rattle.parameterized_field.specs.NamesLaws.{marked-step, marked-none, marked-grows}
 use Rattle.parameterized_field.specs.Value.{start, namesFrom}
 use Rattle.buffer.specs.BufferLaws.{capped-start, capped-turn, capped-end, length-capped}
 use Rattle.buffer.specs.Buffer.{ReachedCapped}

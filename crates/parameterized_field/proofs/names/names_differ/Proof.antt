@@ -6,20 +6,20 @@ use Rattle.parameterized_field.proofs.names.names_differ.Tie as tie
 add-names-requires : tie.Need-add-names-requires
 add-names-requires c κs = search needs
 
-slice-reshare-prefix-all-differ : tie.Need-slice-reshare-prefix-all-differ
-slice-reshare-prefix-all-differ c = names-made _ _ (c .before .before .add-names .ensures .0) (c .before .before .add-names .ensures .1) (c .before .before .before .before .before .before .pre .0) (c .before .before .before .before .before .before .pre .1) .within
+slice-reshare-prefix-names-differ : tie.Need-slice-reshare-prefix-names-differ
+slice-reshare-prefix-names-differ c = names-made _ _ (c .before .before .add-names .ensures .0) (c .before .before .add-names .ensures .1) (c .before .before .before .before .before .before .pre .0) (c .before .before .before .before .before .before .pre .1) .within
 
-slice-aggregate-all-differ : tie.Need-slice-aggregate-all-differ
-slice-aggregate-all-differ c = names-made _ _ (c .before .before .before .add-names .ensures .0) (c .before .before .before .add-names .ensures .1) (c .before .before .before .before .before .before .before .pre .0) (c .before .before .before .before .before .before .before .pre .1) .size
+slice-aggregate-names-differ : tie.Need-slice-aggregate-names-differ
+slice-aggregate-names-differ c = names-made _ _ (c .before .before .before .add-names .ensures .0) (c .before .before .before .add-names .ensures .1) (c .before .before .before .before .before .before .before .pre .0) (c .before .before .before .before .before .before .before .pre .1) .size
 
-all-differ-requires : tie.Need-all-differ-requires
-all-differ-requires c κs = search needs
+names-differ-requires : tie.Need-names-differ-requires
+names-differ-requires c κs = search needs
 
 same-length : tie.Need-same-length
 same-length c = search needs
 
 returns : tie.Need-returns
-returns c = names-by _ _ (names-made _ _ (c .before .before .before .before .add-names .ensures .0) (c .before .before .before .before .add-names .ensures .1) (c .before .before .before .before .before .before .before .before .pre .0) (c .before .before .before .before .before .before .before .before .pre .1)) (c .all-differ .ensures)
+returns c = names-by _ _ (names-made _ _ (c .before .before .before .before .add-names .ensures .0) (c .before .before .before .before .add-names .ensures .1) (c .before .before .before .before .before .before .before .before .pre .0) (c .before .before .before .before .before .before .before .before .pre .1)) (c .names-differ .ensures)
 
 pub names-differ-spec : {M : Type 1} → statement M
-names-differ-spec = tie.close (tie.spec add-names-requires slice-reshare-prefix-all-differ slice-aggregate-all-differ all-differ-requires same-length returns)
+names-differ-spec = tie.close (tie.spec add-names-requires slice-reshare-prefix-names-differ slice-aggregate-names-differ names-differ-requires same-length returns)

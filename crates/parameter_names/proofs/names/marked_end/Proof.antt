@@ -1,9 +1,9 @@
-use Rattle.parameterized_field.specs.NamesLaws.{marked-last, marked-more}
+use Rattle.parameter_names.specs.NamesLaws.{marked-last, marked-more}
 use borrow.Author.Needs.{needs}
-use Rattle.parameterized_field.proofs.names.marked_end.Statement.{statement}
-use Rattle.parameterized_field.proofs.names.marked_end.Tie as tie
-use Rattle.parameterized_field.proofs.names.marked_end.Reads as reads
-use Rattle.parameterized_field.proofs.names.marked_end.Lts as lts
+use Rattle.parameter_names.proofs.names.marked_end.Statement.{statement}
+use Rattle.parameter_names.proofs.names.marked_end.Tie as tie
+use Rattle.parameter_names.proofs.names.marked_end.Reads as reads
+use Rattle.parameter_names.proofs.names.marked_end.Lts as lts
 use Rattle.field_parameter.proofs.token_end.Reads as token-end-reads
 
 -- src/names.rt:53:9

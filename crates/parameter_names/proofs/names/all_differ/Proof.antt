@@ -1,5 +1,5 @@
-use Rattle.parameterized_field.specs.NamesLaws.{markedLen, marked-ahead, marked-inside, differ-step, differ-end}
-use Rattle.parameterized_field.specs.Value.{distinct}
+use Rattle.parameter_names.specs.Names.{markedLen, distinct}
+use Rattle.parameter_names.specs.NamesLaws.{marked-ahead, marked-inside, differ-step, differ-end}
 use Rattle.lists.specs.CutBy.{cutBy}
 use borrow.Author.Tests.{not-true, not-false}
 use borrow.Author.Needs.{needs}
@@ -7,12 +7,12 @@ use native.Mathlib.Omega.{arith}
 use lib.ListN.{length, drop}
 use mathlib.Core.Path.{_≡_, refl, sym, _∙_}
 use Prim.Native.Nat.{_-_}
-use Rattle.parameterized_field.proofs.names.all_differ.Statement.{statement}
-use Rattle.parameterized_field.proofs.names.all_differ.Tie as tie
-use Rattle.parameterized_field.proofs.names.all_differ.Reads as reads
-use Rattle.parameterized_field.proofs.names.all_differ.Lts as lts
-use Rattle.parameterized_field.proofs.names.is_new.Reads as is-new-reads
-use Rattle.parameterized_field.proofs.names.marked_end.Reads as marked-end-reads
+use Rattle.parameter_names.proofs.names.all_differ.Statement.{statement}
+use Rattle.parameter_names.proofs.names.all_differ.Tie as tie
+use Rattle.parameter_names.proofs.names.all_differ.Reads as reads
+use Rattle.parameter_names.proofs.names.all_differ.Lts as lts
+use Rattle.parameter_names.proofs.names.is_new.Reads as is-new-reads
+use Rattle.parameter_names.proofs.names.marked_end.Reads as marked-end-reads
 
 abbrev Inv-loop : tie.InvT-loop
 Inv-loop s i₀ i = distinct (cutBy markedLen s) ≡ distinct (cutBy markedLen (drop i s))

@@ -1,4 +1,5 @@
-use Rattle.parameterized_field.specs.NamesLaws.{markedLen, marked-ahead, marked-inside, new-step, new-end}
+use Rattle.parameter_names.specs.Names.{markedLen}
+use Rattle.parameter_names.specs.NamesLaws.{marked-ahead, marked-inside, new-step, new-end}
 use Rattle.letter_case.specs.LetterCase.{sameAnyCase}
 use Rattle.lists.specs.Lists.{all}
 use Rattle.lists.specs.CutBy.{cutBy}
@@ -8,12 +9,12 @@ use lib.ListN.{length, drop}
 use mathlib.Core.Bool.{not}
 use mathlib.Core.Path.{_≡_, refl, sym, _∙_}
 use Prim.Native.Nat.{_-_}
-use Rattle.parameterized_field.proofs.names.is_new.Statement.{statement}
-use Rattle.parameterized_field.proofs.names.is_new.Tie as tie
-use Rattle.parameterized_field.proofs.names.is_new.Reads as reads
-use Rattle.parameterized_field.proofs.names.is_new.Lts as lts
+use Rattle.parameter_names.proofs.names.is_new.Statement.{statement}
+use Rattle.parameter_names.proofs.names.is_new.Tie as tie
+use Rattle.parameter_names.proofs.names.is_new.Reads as reads
+use Rattle.parameter_names.proofs.names.is_new.Lts as lts
 use Rattle.letter_case.proofs.same_any_case.Reads as same-any-case-reads
-use Rattle.parameterized_field.proofs.names.marked_end.Reads as marked-end-reads
+use Rattle.parameter_names.proofs.names.marked_end.Reads as marked-end-reads
 
 abbrev Inv-loop : tie.InvT-loop
 Inv-loop name s at i₀ i = all (λ other. not (sameAnyCase name other)) (cutBy markedLen (drop at s)) ≡ all (λ other. not (sameAnyCase name other)) (cutBy markedLen (drop i s))

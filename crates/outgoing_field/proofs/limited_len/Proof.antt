@@ -1,7 +1,7 @@
 use Rattle.outgoing_field.specs.FateLaws.{limitedLen}
 use borrow.Author.Tests.{le-leb, lt-leb}
-use Rattle.outgoing_field.proofs.writer.limited_len.Statement.{statement}
-use Rattle.outgoing_field.proofs.writer.limited_len.Tie as tie
+use Rattle.outgoing_field.proofs.limited_len.Statement.{statement}
+use Rattle.outgoing_field.proofs.limited_len.Tie as tie
 
 returns : tie.Need-returns
 unfolding limitedLen

@@ -1,0 +1,5 @@
+// The names of parameters: whether none is shared.
+mod keys;
+mod names;
+
+pub use names::names_differ;
