@@ -1,4 +1,6 @@
 // Addresses and their parts, by position in a text.
+#![tactic(auto)]
+
 pub mod atom;
 pub mod domain;
 pub mod quoted;
@@ -10,7 +12,7 @@ use line::byte_at;
 
 // How far a scan goes. To(n): what it looks for ends at n. Stop(n): there is none, and the byte at n, or the end of the text, is
 // where none can go on.
-#[derive(Drop)]
+#[derive(Clone, Copy)]
 pub enum Scan {
     To(usize),
     Stop(usize),

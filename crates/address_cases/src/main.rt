@@ -1,6 +1,8 @@
 // Prints what becomes of address fields: for each a label, the field with its CRs, LFs and TABs spelt out, whether its text fits and
 // every address is kept, the length of what is written for it, whether buffers of every size up to 1,024 bytes get as much of it as
 // they hold, and what is written. The cases stand in `stdin`, most with no column for the setting, which then is 0.
+#![tactic(auto)]
+
 use address_list::Examined;
 use libc::{STDIN_FILENO, STDOUT_FILENO};
 use rules::Rules;

@@ -1,4 +1,6 @@
 // Address fields: the parts of a text, and whether it is a comma list of mailboxes or groups.
+#![tactic(auto)]
+
 mod list;
 mod part;
 
@@ -6,7 +8,7 @@ pub use list::examine;
 pub use part::part_from;
 
 // A part of an address field's text.
-#[derive(Drop)]
+#[derive(Clone, Copy)]
 pub enum PartKind {
     Blank,
     Comment,
@@ -24,14 +26,14 @@ pub enum PartKind {
 }
 
 // The part at the front of a text, with its length.
-#[derive(Drop)]
+#[derive(Clone, Copy)]
 pub struct Front {
     pub kind: PartKind,
     pub size: usize,
 }
 
 // The state of a walk over the parts: what is due, or what stands before.
-#[derive(Drop)]
+#[derive(Clone, Copy)]
 pub enum State {
     ItemDue,
     ItemNamed,
@@ -44,7 +46,7 @@ pub enum State {
 }
 
 // Whether a text fits; and then whether each address is kept, or any is replaced or removed.
-#[derive(Drop)]
+#[derive(Clone, Copy)]
 pub enum Examined {
     DoesNotFit,
     Kept,

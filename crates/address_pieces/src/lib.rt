@@ -1,4 +1,6 @@
 // Address fields, rewritten piece by piece.
+#![tactic(auto)]
+
 mod address_piece;
 mod part;
 mod phrase_pieces;

@@ -1,4 +1,6 @@
 // Base64 with its padding (RFC 4648, section 4), written.
+#![tactic(auto)]
+
 ghost use Rattle.std.specs.Prelude.{◌≡◌, [], ◌∷◌, ◌+◌, ◌%◌, ◌≤◌, length};
 ghost use Rattle.buffer.specs.Buffer.{Appended, AppendedCapped};
 ghost use Rattle.base64_text.specs.Base64.{digit64, in_base64, base64_length};

@@ -1,5 +1,7 @@
 // A batch: envelopes and headers that lie in one input buffer, downgraded one after another by the single call. Nine numbers make a
 // record: start and length of its envelope, start and length of its header; then number, place, offset, and the lengths of both outputs.
+#![tactic(auto)]
+
 ghost use Rattle.std.specs.Prelude.{◌≡◌, ◌≤◌, length};
 ghost use Rattle.call.specs.Outcome.{observed};
 ghost use Rattle.batch.specs.Batch.{past_end, range, range_outcome, batch, afterwards};

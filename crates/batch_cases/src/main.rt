@@ -1,5 +1,7 @@
 // Prints what the batch call leaves: for each case a label and all numbers afterwards, whether the bytes past both buffers are as they were,
 // and both buffers, which were full of #. The cases stand in `stdin`.
+#![tactic(auto)]
+
 ghost use Rattle.std.specs.Prelude.{◌≤◌, length};
 
 use libc::{STDIN_FILENO, STDOUT_FILENO};

@@ -1,5 +1,7 @@
 // Writers into the rest of an output buffer. A text that does not fit is clipped, and its whole length is answered, so that
 // measuring is writing into an empty buffer.
+#![tactic(auto)]
+
 ghost use Rattle.std.specs.Prelude.{◌≡◌, [], ◌∷◌, min, ◌+◌};
 ghost use Rattle.buffer.specs.Buffer.{Wrote, AppendedCapped, greatest};
 

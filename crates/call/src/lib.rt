@@ -1,4 +1,6 @@
 // The downgrade call: an envelope and a header section to ASCII, or a refusal.
+#![tactic(auto)]
+
 mod new_fields;
 mod output;
 mod refusals;
@@ -15,7 +17,7 @@ use rules::Rules;
 
 // Why a call is refused, with the paper's place: of the envelope a line, and the byte that tells why, or the length needed; of the header
 // a refusal of its own.
-#[derive(Drop)]
+#[derive(Clone, Copy)]
 pub enum Refusal {
     EnvelopeOver,
     EnvelopeLine(Fault, usize, usize),
@@ -24,7 +26,7 @@ pub enum Refusal {
     Header(HeaderRefusal),
 }
 
-#[derive(Drop)]
+#[derive(Clone, Copy)]
 pub enum Verdict {
     Accept,
     Refuse(Refusal),
@@ -32,7 +34,7 @@ pub enum Verdict {
 
 // A verdict on what stands in an envelope that is well formed and in a header; where both pass, with the most bytes that are written for the
 // header.
-#[derive(Drop)]
+#[derive(Clone, Copy)]
 pub(crate) enum Content {
     Passes(usize),
     Fails(Refusal),
@@ -41,7 +43,7 @@ pub(crate) enum Content {
 // What a call answers: the paper's number, which input it is about (1 the envelope, 2 the header, 0 neither), the paper's place and
 // offset, and the lengths of what was written.
 #[repr(C)]
-#[derive(Drop)]
+#[derive(Clone, Copy)]
 pub struct Answer {
     pub number: u32,
     pub input: u32,

@@ -2,7 +2,7 @@
 ghost use Rattle.std.specs.Prelude.{◌<◌};
 
 // A byte, and how many bytes of the text say it.
-#[derive(Drop)]
+#[derive(Clone, Copy)]
 struct Said {
     byte: u8,
     size: usize,

@@ -4,6 +4,8 @@
 //   \r \n \t \\     CR, LF, TAB and the backslash
 //   \xC3            the byte with these two hex digits: a control byte, a byte that is not UTF-8, one of `|`, `{` and `}`
 //   {76*a text}     a text 76 times; in it \d is the last digit of the turn's number, from 0 on, and \D the digit before it
+#![tactic(auto)]
+
 mod escape;
 
 ghost use Rattle.std.specs.Prelude.{◌≡◌, true, ◌+◌, min, length, drop};

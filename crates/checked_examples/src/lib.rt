@@ -1,1 +1,3 @@
 // The checked examples that the paper marks P: specs/Cases.antt.
+#![tactic(auto)]
+

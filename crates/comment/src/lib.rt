@@ -1,4 +1,6 @@
 // Comments in parentheses, by position in a text.
+#![tactic(auto)]
+
 mod parts;
 
 ghost use Rattle.std.specs.Prelude.{◌≡◌, ◌+◌, drop};

@@ -1,5 +1,7 @@
 // Reads an envelope, an empty line and a header from standard input, and prints what becomes of them: number and lengths, then the
 // envelope, an empty line and the header; or the number and the place of a refusal. Lines end in CRLF. The message is one from the spool.
+#![tactic(auto)]
+
 use libc::{STDIN_FILENO, STDOUT_FILENO};
 
 fn say(words: &[u8]) {

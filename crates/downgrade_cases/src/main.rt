@@ -1,5 +1,7 @@
 // Prints what the downgrade call answers: for each case a label, number, place and both lengths, whether the buffers are as they
 // were (after a refusal) or are so past the lengths (after 0), and what was written. The cases stand in `stdin`.
+#![tactic(auto)]
+
 use libc::{STDIN_FILENO, STDOUT_FILENO};
 
 fn say(words: &[u8]) {

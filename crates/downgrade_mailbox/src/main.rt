@@ -1,5 +1,7 @@
 // Reads the header of a stored message from standard input and prints what becomes of it for a program that knows only ASCII: 0 and the
 // length, then the header; or the number and the place of a refusal. Lines end in CRLF.
+#![tactic(auto)]
+
 use libc::{STDIN_FILENO, STDOUT_FILENO};
 
 fn say(words: &[u8]) {

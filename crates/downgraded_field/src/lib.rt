@@ -1,4 +1,6 @@
 // A Downgraded field read: whether its lines are well formed, whether its words can be read, and the text that it is shown as.
+#![tactic(auto)]
+
 mod refusal;
 mod text;
 mod turn;
@@ -8,7 +10,7 @@ ghost use Rattle.buffer.specs.Buffer.{Wrote};
 ghost use Rattle.downgraded_field.specs.Shown.{is_formed, of_number, field_read, field_text};
 
 // What a field reads as: a text of this length, or why there is none.
-#[derive(Drop)]
+#[derive(Clone, Copy)]
 pub enum FieldRead {
     Text(usize),
     Malformed,

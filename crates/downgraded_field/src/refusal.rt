@@ -8,7 +8,7 @@ ghost use Rattle.downgraded_field.specs.ShownLaws.{turn_of, ShortRuns};
 use crate::{text, turn};
 
 // The lowest number of a refusal, 5 where there is none, and the length of the text.
-#[derive(Drop)]
+#[derive(Clone, Copy)]
 pub(crate) struct Checked {
     pub number: usize,
     pub length: usize,

@@ -1,4 +1,6 @@
 // The reader of Downgraded fields: the first field of a header from a place on, as its text or a reason.
+#![tactic(auto)]
+
 ghost use Rattle.std.specs.Prelude.{◌≡◌, ◌<◌, length, drop};
 ghost use Rattle.downgraded_field.specs.Shown.{field_read, field_text};
 ghost use Rattle.downgraded_reader.specs.ReaderLaws.{NumberedBy};
@@ -7,7 +9,7 @@ ghost use Rattle.downgraded_reader.specs.Reader.{is_downgraded, first_line, fiel
 use downgraded_field::FieldRead;
 
 // What a call finds: the field's start, the place after it, and the length of its text, written or needed; or why it has none; or no field.
-#[derive(Drop)]
+#[derive(Clone, Copy)]
 pub enum Found {
     Text(usize, usize, usize),
     Malformed(usize, usize),
@@ -20,7 +22,7 @@ pub enum Found {
 
 // The answer of the exported call.
 #[repr(C)]
-#[derive(Drop)]
+#[derive(Clone, Copy)]
 pub struct ReadAnswer {
     pub number: u32,
     pub start: usize,

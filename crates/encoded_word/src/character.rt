@@ -9,7 +9,7 @@ use crate::spelling::{put_byte, put_char, put_escape, put_escapes};
 use word_spelling::{byte_cost, char_cost, first_char, high_size};
 
 // A place in the text, the room that is left in the word, and a place in the output.
-#[derive(Drop)]
+#[derive(Clone, Copy)]
 struct Spot {
     i: usize,
     left: usize,
@@ -17,7 +17,7 @@ struct Spot {
 }
 
 // A place in the text, and one in the output.
-#[derive(Drop)]
+#[derive(Clone, Copy)]
 pub(crate) struct Put {
     pub end: usize,
     pub at: usize,

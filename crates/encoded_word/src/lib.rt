@@ -1,4 +1,6 @@
 // Rows of encoded words (RFC 2047, charset UTF-8, encodings Q and B): the row of a text is written, and measured.
+#![tactic(auto)]
+
 mod character;
 mod lines;
 mod spelling;

@@ -1,6 +1,8 @@
 // Prints what becomes of envelopes: for each case a label, and the number of its refusal with the line; or 0 and the number of
 // RCPT lines, the line of an ORCPT that carries non-ASCII, the envelope as it is written, and the texts for the header. The cases stand in
 // `stdin`, most with no column for the setting, which then is 0.
+#![tactic(auto)]
+
 use envelope::{Checked, Orcpt};
 use envelope_line::Fault;
 use libc::{STDIN_FILENO, STDOUT_FILENO};

@@ -1,4 +1,6 @@
 // One line of an envelope, without its CRLF.
+#![tactic(auto)]
+
 mod faults;
 mod orcpt;
 mod output;
@@ -10,7 +12,7 @@ pub use output::{add_line, add_replacement};
 pub use path::{path_start, tail_start};
 
 // The fault of a line. Fine: none. Malformed: refusal 2. NoAlternative: 3. BadAlternative: 4. RetiredAlternative: 10.
-#[derive(Drop)]
+#[derive(Clone, Copy)]
 pub enum Fault {
     Fine,
     Malformed,

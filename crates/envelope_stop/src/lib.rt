@@ -1,4 +1,6 @@
 // The first byte at which an envelope line stops being a beginning of any well-formed line.
+#![tactic(auto)]
+
 ghost use Rattle.std.specs.Prelude.{◌≡◌, ◌+◌, ◌-◌, ◌≤◌, drop};
 ghost use Rattle.line_stop.specs.Scanner.{alive, stop_from};
 ghost use Rattle.line_stop.specs.Word.{is_next};
@@ -10,7 +12,7 @@ use parameter_stop::Tail;
 use path_stop::PathForm;
 
 // Where an envelope line stands.
-#[derive(Drop)]
+#[derive(Clone, Copy)]
 pub enum Form {
     // In its verb: whether it is the MAIL line's, and how many bytes of it have come.
     Verb(bool, usize),

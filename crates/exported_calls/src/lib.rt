@@ -1,4 +1,6 @@
 // The exported calls, checked against the demands: crates/demands/specs/Demands.antt, BatchDemands.antt and MailboxDemands.antt state them.
+#![tactic(auto)]
+
 ghost use Rattle.rules.specs.Rules.{setting_rules};
 ghost use Rattle.demands.specs.Demands.{Demands};
 ghost use Rattle.demands.specs.BatchDemands.{BatchDemands};

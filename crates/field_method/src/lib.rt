@@ -1,4 +1,6 @@
 // How a field whose value is not ASCII is downgraded: by the rules and the kind of its name.
+#![tactic(auto)]
+
 ghost use Rattle.std.specs.Prelude.{◌≡◌};
 ghost use Rattle.field_method.specs.FieldMethod.{by_profile, method_of};
 
@@ -8,7 +10,7 @@ use rules::Rules;
 // What is written for such a field: the pieces of an address list; encoded words of its text under its own name, or under `Downgraded-`
 // and its name; a Received field; its comments encoded, and held or encapsulated where non-ASCII stands outside them; its parameters
 // converted; or it is held.
-#[derive(Drop)]
+#[derive(Clone, Copy)]
 pub enum Method {
     Pieces,
     PlainText,

@@ -1,4 +1,6 @@
 // Parameters of a field's value, by position.
+#![tactic(auto)]
+
 ghost use Rattle.std.specs.Prelude.{◌≡◌, false, ◌+◌, ◌≤◌, length, take, drop};
 ghost use Rattle.lists.specs.Run.{run};
 ghost use Rattle.comment.specs.Comment.{run_to};

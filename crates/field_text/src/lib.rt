@@ -1,4 +1,6 @@
 // The text of a field: its value with each CRLF before a continuation removed, then without leading spaces and TABs.
+#![tactic(auto)]
+
 ghost use Rattle.std.specs.Prelude.{◌≡◌, ◌≤◌, ◌<◌, length, drop};
 ghost use Rattle.buffer.specs.Buffer.{Wrote};
 ghost use Rattle.header.specs.Fields.{fold, unfolded_after, trimmed, text_of};
@@ -9,7 +11,7 @@ use line::is_blank;
 
 // Where the text of a field stands: from a place in the field up to another; or nowhere in one part, where the value has a CR, as
 // a fold does.
-#[derive(Drop)]
+#[derive(Clone, Copy)]
 pub enum TextPlace {
     InPlace(usize, usize),
     Folded,

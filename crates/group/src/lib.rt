@@ -1,5 +1,7 @@
 // Groups of an address field: where one ends, and whether it loses a member. A field is written by turns: a part, or a whole group that
 // loses one.
+#![tactic(auto)]
+
 mod mark;
 mod member;
 mod text;
@@ -14,7 +16,7 @@ use rules::Rules;
 pub use text::trimmed;
 
 // A group: whether it loses a member, where its semicolon stands, and the place after it.
-#[derive(Drop)]
+#[derive(Clone, Copy)]
 struct Group {
     pub lost: bool,
     pub end: usize,
@@ -23,7 +25,7 @@ struct Group {
 
 // What is written at a turn: a group that loses a member, with the place of what stands between its colon and its semicolon; or else
 // a part of this kind, with its place. Then the place after it.
-#[derive(Drop)]
+#[derive(Clone, Copy)]
 pub struct Next {
     pub lost: bool,
     pub kind: PartKind,

@@ -1,6 +1,8 @@
 // Prints what becomes of some headers: for each a label, and the number and line of its refusal, or each of its fields with its
 // kind, whether its value is ASCII, and what is written for it, with the length. Of an address field only the words are shown. The
 // cases stand in `stdin`.
+#![tactic(auto)]
+
 use header_line::LineCheck;
 use header_name::Kind;
 use libc::{STDIN_FILENO, STDOUT_FILENO};

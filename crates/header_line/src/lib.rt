@@ -1,4 +1,6 @@
 // The lines of a header section.
+#![tactic(auto)]
+
 mod clean;
 mod text;
 
@@ -13,7 +15,7 @@ ghost use Rattle.header_line.specs.NameLaws.{Weighed};
 use line::is_blank;
 
 // Whether every line of a header is well formed; else the number of the first malformed line, and the byte where it starts.
-#[derive(Drop)]
+#[derive(Clone, Copy)]
 pub enum LineCheck {
     WellFormed,
     Malformed(usize, usize),

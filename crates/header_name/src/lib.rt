@@ -1,12 +1,14 @@
 // The names of fields: a constant table of the 32 named fields with their kinds, in which names are looked up without regard to
 // letter case, and three names besides.
+#![tactic(auto)]
+
 ghost use Rattle.std.specs.Prelude.{◌≡◌};
 ghost use Rattle.header_name.specs.Names.{other_kind, kind_of};
 ghost use Rattle.header_name.specs.NameTable.{lettered as kind_lettered, starts as starts_list, names as names_list, kinds as kinds_list};
 
 // The grammar of a field's value, by its name: an address list; plain text; a Received field; one with comments; identifiers with comments; one
 // with parameters; one that is always held. `OtherCommented`: comments too, under a name that is not in the table.
-#[derive(Drop)]
+#[derive(Clone, Copy)]
 pub enum Kind {
     Address,
     PlainText,

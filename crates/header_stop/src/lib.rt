@@ -1,4 +1,6 @@
 // The first byte at which a header line stops being a beginning of any well-formed line.
+#![tactic(auto)]
+
 ghost use Rattle.std.specs.Prelude.{◌≡◌, ◌+◌, ◌≤◌, drop};
 ghost use Rattle.line_stop.specs.Scanner.{alive};
 ghost use Rattle.header_line.specs.Lines.{line_byte};
@@ -8,7 +10,7 @@ use header_line::is_name_byte;
 use line_stop::Begun;
 
 // Where a header line stands.
-#[derive(Drop)]
+#[derive(Clone, Copy)]
 pub enum Form {
     // Nothing has come; whether it is the header's first line.
     Start(bool),

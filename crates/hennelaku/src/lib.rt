@@ -1,4 +1,6 @@
 // The library's exported calls, for C and for Rust.
+#![tactic(auto)]
+
 ghost use Rattle.std.specs.Prelude.{◌≡◌};
 ghost use Rattle.call.specs.Outcome.{observed, outcome};
 ghost use Rattle.rules.specs.declared.Rules.TheVariants.{Mailbox};

@@ -1,4 +1,6 @@
 // Hex digits in upper case.
+#![tactic(auto)]
+
 ghost use Rattle.std.specs.Prelude.{◌≡◌, ◌≤◌, ◌%◌};
 ghost use Rattle.hex_digit.specs.Hex.{hex_digit, hex_value};
 

@@ -1,4 +1,6 @@
 // Texts compared without regard to letter case.
+#![tactic(auto)]
+
 ghost use Rattle.std.specs.Prelude.{◌≡◌};
 ghost use Rattle.letter_case.specs.LetterCase.{lower as lowered, same_any_case};
 

@@ -1,4 +1,6 @@
 // Texts by places in them: a byte, a part, the end of a line.
+#![tactic(auto)]
+
 ghost use Rattle.std.specs.Prelude.{◌≡◌, cond, ◌+◌, ◌-◌, ◌≤◌, ◌%◌, length, take, drop, get_or};
 ghost use Rattle.lists.specs.Lists.{all};
 ghost use Rattle.lists.specs.Run.{run};
@@ -99,7 +101,7 @@ pub fn next_cr(s: &[u8], at: usize) -> usize
 }
 
 // How many CRs stand among 64 bytes, and the place of the only one.
-#[derive(Drop)]
+#[derive(Clone, Copy)]
 struct Crs {
     count: u8,
     place: u8,
@@ -141,7 +143,7 @@ fn crs64(s: &[u8], at: usize) -> Crs
 }
 
 // A step of a search for CRs: whether one was found, its place, and where to search on.
-#[derive(Drop)]
+#[derive(Clone, Copy)]
 pub struct CrFound {
     pub found: bool,
     pub end: usize,

@@ -1,5 +1,7 @@
 // The first byte at which a line stops being a beginning of any well-formed line: what the scans of header lines and of envelope lines
 // share.
+#![tactic(auto)]
+
 ghost use Rattle.std.specs.Prelude.{◌≡◌, ◌+◌, ◌<◌, drop};
 ghost use Rattle.line_stop.specs.Scanner.{stop_lf};
 ghost use Rattle.line_stop.specs.Word.{is_next, matched as matched_bytes};
@@ -8,7 +10,7 @@ ghost use Rattle.line_stop.specs.CharScan.{between, is_zero, lead, tail_count, c
 use letter_case::lower;
 
 // What the character that has begun lacks: how many bytes, and from where to where the next of them lies.
-#[derive(Drop)]
+#[derive(Clone, Copy)]
 pub struct Begun {
     pub lack: u8,
     pub low: u8,

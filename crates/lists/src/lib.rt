@@ -1,1 +1,3 @@
 // Lists of bytes: definitions and laws only (specs/).
+#![tactic(auto)]
+

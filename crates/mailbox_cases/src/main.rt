@@ -1,5 +1,7 @@
 // Prints what the call for a mailbox answers: for each case a label, number, place, offset and length, whether the buffer is as it was
 // (after a refusal) or is so past the length (after 0), and what was written. The cases stand in `stdin`.
+#![tactic(auto)]
+
 use libc::{STDIN_FILENO, STDOUT_FILENO};
 
 fn say(words: &[u8]) {

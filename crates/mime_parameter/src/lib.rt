@@ -1,4 +1,6 @@
 // The pieces that a non-ASCII parameter value becomes, by RFC 2231.
+#![tactic(auto)]
+
 mod bytes;
 mod label;
 mod pieces;

@@ -1,4 +1,6 @@
 // The byte that a refusal points to.
+#![tactic(auto)]
+
 ghost use Rattle.std.specs.Prelude.{◌≡◌, drop};
 ghost use Rattle.envelope.specs.Envelope.{line_text};
 ghost use Rattle.offset.specs.Offset.{front_line, line_start, path_byte, alt_value_byte, orcpt_byte, line_at, fault_byte, fault_offset, orcpt_offset, header_line_offset, field_offset};

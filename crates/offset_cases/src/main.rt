@@ -1,5 +1,7 @@
 // Prints what the downgrade call answers to refused inputs: for each case a label, the number, which input it is about (1 the envelope,
 // 2 the header), the place and the offset. The cases stand in `stdin`, most with no column for the setting, which then is 0.
+#![tactic(auto)]
+
 use libc::{STDIN_FILENO, STDOUT_FILENO};
 
 fn say(words: &[u8]) {

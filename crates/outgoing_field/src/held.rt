@@ -44,7 +44,7 @@ fn method_most(method: Method, n: usize) -> usize
     }
 }
 
-#[derive(Drop)]
+#[derive(Clone, Copy)]
 struct FieldLook {
     held: bool,
     most: usize,

@@ -1,4 +1,6 @@
 // What becomes of the fields of a header: the first that is held, and what is written for the others.
+#![tactic(auto)]
+
 mod held;
 mod writer;
 
@@ -12,14 +14,14 @@ pub use writer::{add_field, add_fields};
 const LIMIT: usize = 32768;
 
 // The first held field: the number of its first line, and the byte where it starts.
-#[derive(Drop)]
+#[derive(Clone, Copy)]
 pub enum HeldField {
     Absent,
     At(usize, usize),
 }
 
 // What was found in a header: the first held field; where none is, the most bytes that are written for it.
-#[derive(Drop)]
+#[derive(Clone, Copy)]
 pub struct Looked {
     pub held: HeldField,
     pub most: usize,

@@ -1,4 +1,6 @@
 // A header on its own: its refusals, and what is written for it.
+#![tactic(auto)]
+
 mod refusals;
 
 ghost use Rattle.std.specs.Prelude.{◌≡◌, length};
@@ -12,7 +14,7 @@ use refusals::{of_content, refused};
 use rules::Rules;
 
 // Why a header is refused, with the paper's place: a line, and the byte in the header that tells why, or the length needed.
-#[derive(Drop)]
+#[derive(Clone, Copy)]
 pub enum HeaderRefusal {
     Over,
     Line(usize, usize),
@@ -20,14 +22,14 @@ pub enum HeaderRefusal {
     Needs(usize),
 }
 
-#[derive(Drop)]
+#[derive(Clone, Copy)]
 pub enum HeaderVerdict {
     Accept,
     Refuse(HeaderRefusal),
 }
 
 // A verdict on what stands in a header; where it passes, with the most bytes that are written for it.
-#[derive(Drop)]
+#[derive(Clone, Copy)]
 pub enum HeaderContent {
     Passes(usize),
     Fails(HeaderRefusal),
@@ -35,7 +37,7 @@ pub enum HeaderContent {
 
 // What a call with a header is answered: the paper's number, place and offset, and the length of what was written.
 #[repr(C)]
-#[derive(Drop)]
+#[derive(Clone, Copy)]
 pub struct HeaderAnswer {
     pub number: u32,
     pub place: usize,

@@ -1,4 +1,6 @@
 // A parameter of a line of an envelope: a keyword, and maybe `=` with a value.
+#![tactic(auto)]
+
 mod tail;
 
 ghost use Rattle.std.specs.Prelude.{◌≡◌, ◌+◌, min, drop};

@@ -1,5 +1,7 @@
 // Prints what becomes of values with parameters: for each a label, and `held`, or what is written for a field of that value, with its length.
 // The cases stand in `stdin`.
+#![tactic(auto)]
+
 use libc::{STDIN_FILENO, STDOUT_FILENO};
 
 fn say(words: &[u8]) {

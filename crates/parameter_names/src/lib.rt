@@ -1,4 +1,6 @@
 // The names of parameters: whether none is shared.
+#![tactic(auto)]
+
 mod keys;
 mod names;
 

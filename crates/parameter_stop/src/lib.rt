@@ -1,11 +1,13 @@
 // The tail of an envelope line, the parameters after its path, by one byte at a time.
+#![tactic(auto)]
+
 ghost use Rattle.std.specs.Prelude.{◌≡◌, cond, ◌≤◌, eqb};
 ghost use Rattle.parameter_stop.specs.ParameterStop.{key_more, start_step, due_step, key_end, key_step, equals_step, value_step, tail_step, tail_done, tail_live, tail_need};
 
 use parameter::{is_keyword_byte, is_value_byte};
 
 // Where a tail stands. `seen`: whether an ALT-ADDRESS with its `=` has come.
-#[derive(Drop)]
+#[derive(Clone, Copy)]
 pub enum Tail {
     // Straight after the path.
     Start,

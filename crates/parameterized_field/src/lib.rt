@@ -1,4 +1,6 @@
 // Fields whose values have parameters: Content-Type and Content-Disposition.
+#![tactic(auto)]
+
 mod held;
 mod names;
 mod part;
@@ -8,7 +10,7 @@ pub use held::passes;
 pub use writer::add_field;
 
 // Where a walk through a value stands.
-#[derive(Drop)]
+#[derive(Clone, Copy)]
 pub struct State {
     // Whether a comment may start.
     pub comments: bool,

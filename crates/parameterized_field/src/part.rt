@@ -9,7 +9,7 @@ ghost use Rattle.parameterized_field.specs.StepLaws.{TookToken, TookPart, part_n
 use crate::State;
 use structured_token::Kind;
 
-#[derive(Drop)]
+#[derive(Clone, Copy)]
 pub(crate) struct Part {
     pub parameter: bool,
     pub converted: bool,

@@ -1,9 +1,11 @@
 // The path of an envelope line and its `>` by one byte at a time.
+#![tactic(auto)]
+
 ghost use Rattle.std.specs.Prelude.{◌≡◌, cond, ◌≤◌};
 ghost use Rattle.path_stop.specs.PathStop.{end_step, atoms_step, quoted_step, literal_step, domain_step, local_step, word_step, start_step, path_step, is_closed, path_live, word_need, atoms_need, path_need};
 
 // Where a path stands.
-#[derive(Drop)]
+#[derive(Clone, Copy)]
 pub enum PathForm {
     // Nothing has come; whether it is the MAIL line's.
     Start(bool),

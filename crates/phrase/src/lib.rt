@@ -1,4 +1,6 @@
 // Words, phrases and addresses of an address field, by position in its text; the text of a phrase.
+#![tactic(auto)]
+
 mod text;
 mod word;
 

@@ -1,4 +1,6 @@
 // Pieces of an address field: CRLF, space, piece; and the pieces of a comment.
+#![tactic(auto)]
+
 mod comment_pieces;
 
 ghost use Rattle.std.specs.Prelude.{◌≡◌, cond, ◌&&◌, ◌*◌, leb};

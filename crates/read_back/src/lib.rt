@@ -1,5 +1,7 @@
 // What the reader shows: reader_grammar has the rules for any header, and specs/ReadBack.antt states of a header that a call of ours wrote that
 // the reader shows what we encoded. Here the exported calls are checked against both.
+#![tactic(auto)]
+
 ghost use Rattle.rules.specs.Rules.{setting_rules};
 ghost use Rattle.demands.specs.Demands.{Demands};
 ghost use Rattle.demands.specs.MailboxDemands.{MailboxDemands};
@@ -22,13 +24,13 @@ pub fn read_downgraded(header: &[u8], place: usize, text: &mut [u8]) -> ReadAnsw
 }
 
 // What the call and the reader answer.
-#[derive(Drop)]
+#[derive(Clone, Copy)]
 pub struct Answers {
     pub downgraded: Answer,
     pub read: ReadAnswer,
 }
 
-#[derive(Drop)]
+#[derive(Clone, Copy)]
 pub struct MailboxAnswers {
     pub downgraded: HeaderAnswer,
     pub read: ReadAnswer,

@@ -1,4 +1,6 @@
 // Reads a header from standard input, and prints a line for each of its Downgraded fields: 0, a space and its text, or the number of its refusal. Lines end in CRLF.
+#![tactic(auto)]
+
 use libc::{STDERR_FILENO, STDIN_FILENO, STDOUT_FILENO};
 
 fn say(words: &[u8]) {

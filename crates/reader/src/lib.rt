@@ -1,4 +1,6 @@
 // The exported call of the reader, for C and for Rust.
+#![tactic(auto)]
+
 ghost use Rattle.std.specs.Prelude.{◌≡◌};
 ghost use Rattle.downgraded_reader.specs.Reader.{observed, outcome};
 

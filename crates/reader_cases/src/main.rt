@@ -1,5 +1,7 @@
 // Prints what the reader answers: for each case a label, the number, where the field begins, the place after it and a length, the text where there is one, and a mark
 // where a byte past the text was changed. The cases stand in `stdin`: a label, the room of the buffer, a header, and a place, which is 0 where it is left out.
+#![tactic(auto)]
+
 use libc::{STDIN_FILENO, STDOUT_FILENO};
 
 fn say(words: &[u8]) {

@@ -1,4 +1,6 @@
 // Received fields: FOR clauses with non-ASCII addresses are removed.
+#![tactic(auto)]
+
 mod held;
 mod lines;
 mod writer;

@@ -1,4 +1,6 @@
 // The tokens of a Received field's value: those of other structured fields, and each for with the white space before it.
+#![tactic(auto)]
+
 mod clause;
 
 ghost use Rattle.std.specs.Prelude.{cond, ◌≡◌};
@@ -8,7 +10,7 @@ use crate::clause::{clause_len, is_for};
 use structured_token::Kind;
 
 // A for is a clause where an address follows it.
-#[derive(Drop)]
+#[derive(Clone, Copy)]
 pub enum ReceivedKind {
     Comment,
     Clause,
@@ -17,7 +19,7 @@ pub enum ReceivedKind {
     Other,
 }
 
-#[derive(Drop)]
+#[derive(Clone, Copy)]
 pub struct ReceivedToken {
     pub kind: ReceivedKind,
     pub end: usize,

@@ -6,7 +6,7 @@ ghost use Rattle.word_choice.specs.EndInQLaws.{Stepped};
 use word_spelling::{byte_cost, char_cost, high_size};
 
 // Where they end, and how many characters of a word they take.
-#[derive(Drop)]
+#[derive(Clone, Copy)]
 pub(crate) struct Step {
     pub end: usize,
     pub cost: usize,

@@ -1,4 +1,6 @@
 // The length of the row of encoded words of a text (RFC 2047, charset UTF-8, encodings Q and B).
+#![tactic(auto)]
+
 mod character;
 
 ghost use Rattle.std.specs.Prelude.{◌≡◌, ◌-◌, ◌≤◌, length};
@@ -14,7 +16,7 @@ use word_choice::Choice;
 const LIMIT: usize = 4294967296;
 
 // The word at the front of a text: where it ends, and how many characters stand between its opening and closing.
-#[derive(Drop)]
+#[derive(Clone, Copy)]
 struct Word {
     end: usize,
     size: usize,

@@ -1,8 +1,10 @@
 // The rules by which a message is downgraded: from the spool, current, or for a mailbox.
+#![tactic(auto)]
+
 ghost use Rattle.std.specs.Prelude.{◌≡◌};
 ghost use Rattle.rules.specs.Rules.{setting_rules, allows_alternative};
 
-#[derive(Drop)]
+#[derive(Clone, Copy)]
 pub enum Rules {
     Spool,
     Current,

@@ -1,4 +1,6 @@
 // Structured fields: whether one is held, and what comments with non-ASCII become.
+#![tactic(auto)]
+
 mod held;
 mod writer;
 

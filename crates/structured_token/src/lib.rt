@@ -1,5 +1,7 @@
 // The tokens of a structured field's value: comments, quoted strings, white space, semicolons, parentheses that nothing closes, and
 // the runs of other bytes between them.
+#![tactic(auto)]
+
 mod ends;
 
 ghost use Rattle.std.specs.Prelude.{◌≡◌, ◌<◌, length, get_or};
@@ -8,7 +10,7 @@ ghost use Rattle.structured_token.specs.Tokens.{Took, comment_kind, open_kind, w
 use crate::ends::{is_plain, is_white, plain_end, string_end, white_end};
 pub use ends::calm_end;
 
-#[derive(Drop)]
+#[derive(Clone, Copy)]
 pub enum Kind {
     Comment,
     Quoted,
@@ -20,7 +22,7 @@ pub enum Kind {
 }
 
 // What stands at a place of a value, and where it ends.
-#[derive(Drop)]
+#[derive(Clone, Copy)]
 pub struct Token {
     pub kind: Kind,
     pub end: usize,

@@ -1,5 +1,7 @@
 // That no recipient learns of another: specs/UndisclosedRecipients.antt states it of what meets the demands, and here the exported calls are
 // checked against both.
+#![tactic(auto)]
+
 ghost use Rattle.rules.specs.Rules.{setting_rules};
 ghost use Rattle.demands.specs.Demands.{Demands};
 ghost use Rattle.demands.specs.BatchDemands.{BatchDemands};
@@ -10,7 +12,7 @@ use call::Answer;
 use hennelaku::hennelaku_downgrade_slices as downgrade;
 
 // What two calls answer.
-#[derive(Drop)]
+#[derive(Clone, Copy)]
 pub struct Answers {
     pub first: Answer,
     pub second: Answer,

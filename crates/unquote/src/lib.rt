@@ -1,4 +1,6 @@
 // Text without quoting and escapes.
+#![tactic(auto)]
+
 ghost use Rattle.std.specs.Prelude.{◌≡◌, cond, [], ◌∷◌};
 ghost use Rattle.buffer.specs.Buffer.{AppendedCapped};
 ghost use Rattle.unquote.specs.Unquote.{escapes, unquoted};

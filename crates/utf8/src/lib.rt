@@ -1,3 +1,5 @@
+#![tactic(auto)]
+
 ghost use Rattle.std.specs.Prelude.{◌≡◌, ◌+◌, ◌-◌, ◌≤◌, length, take, drop, get_or};
 ghost use Rattle.lists.specs.Lists.{all};
 ghost use Rattle.lists.specs.Byte.{is_ascii};

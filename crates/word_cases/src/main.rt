@@ -1,5 +1,7 @@
 // Prints rows of encoded words: for each case a label, the row as it is written, and the length that is answered for it; and texts in
 // base64. The cases stand in `stdin`.
+#![tactic(auto)]
+
 use libc::{STDIN_FILENO, STDOUT_FILENO};
 
 fn say(words: &[u8]) {

@@ -1,5 +1,7 @@
 // Which encoding the word at the front of a text takes (RFC 2047, Q or B): the one that holds more whole characters in its room, Q when
 // equal.
+#![tactic(auto)]
+
 mod block;
 
 ghost use Rattle.std.specs.Prelude.{◌≡◌, true, ◌≤◌, min, length};
@@ -12,7 +14,7 @@ ghost use Rattle.word_choice.specs.ChoiceLaws.{bytes_in_b, FullInB};
 use block::{escaped, highs, others, regular, step_back};
 
 // The encoding of a word, and in B the place where it ends. In Q it ends where the next character does not fit.
-#[derive(Drop)]
+#[derive(Clone, Copy)]
 pub enum Choice {
     InQ,
     InB(usize),

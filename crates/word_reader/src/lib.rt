@@ -1,4 +1,6 @@
 // An encoded word read: its charset, its encoding and the bytes that it adds.
+#![tactic(auto)]
+
 mod base64_text;
 mod q_text;
 
@@ -7,14 +9,14 @@ ghost use Rattle.buffer.specs.Buffer.{AppendedCapped};
 ghost use Rattle.word_reader.specs.Word.{is_word, charset_len, is_utf8_charset, text_ok, text_of, added, form_number};
 
 // What reading a text finds: whether it has no fault, and the place after the bytes that it adds.
-#[derive(Drop)]
+#[derive(Clone, Copy)]
 pub(crate) struct Added {
     ok: bool,
     next: usize,
 }
 
 // What reading a word finds: 2 where it is malformed, 3 where it has another charset, else 0; and the place after the bytes that it adds.
-#[derive(Drop)]
+#[derive(Clone, Copy)]
 pub struct WordRead {
     pub number: u8,
     pub next: usize,

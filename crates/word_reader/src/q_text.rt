@@ -29,7 +29,7 @@ fn any_hex(b: u8) -> u8
 }
 
 // A unit: the byte that it adds, whether it is no fault, and its size.
-#[derive(Drop)]
+#[derive(Clone, Copy)]
 struct Unit {
     byte: u8,
     ok: bool,

@@ -1,4 +1,6 @@
 // Bytes in the spelling of a word: how many characters they take, and the characters of a text that are not ASCII.
+#![tactic(auto)]
+
 ghost use Rattle.std.specs.Prelude.{◌≡◌, ◌+◌, ◌-◌, ◌≤◌, min, length, take, drop, get_or};
 ghost use Rattle.utf8.specs.Utf8.{char_len};
 ghost use Rattle.word_spelling.specs.FirstChars.{first_chars, cost_in, costs_in};
@@ -57,7 +59,7 @@ pub fn char_end(s: &[u8], i: usize) -> usize
 }
 
 // Where the character at a place ends, and how many characters of a word it takes.
-#[derive(Drop)]
+#[derive(Clone, Copy)]
 pub struct Taken {
     pub end: usize,
     pub cost: usize,

@@ -1,4 +1,6 @@
 // xtext, and the address that an ALT-ADDRESS value stands for.
+#![tactic(auto)]
+
 ghost use Rattle.std.specs.Prelude.{◌≡◌, ◌<◌, length};
 ghost use Rattle.buffer.specs.Buffer.{Wrote};
 ghost use Rattle.xtext.specs.Xtext.{is_xchar, is_xtext, decoded, is_alt_address};
@@ -17,7 +19,7 @@ fn is_xchar(b: u8) -> bool
 }
 
 // An xchar or a hexchar: its length, 0 where there is none, and the byte that it stands for.
-#[derive(Drop)]
+#[derive(Clone, Copy)]
 struct Unit {
     pub size: usize,
     pub byte: u8,
@@ -46,7 +48,7 @@ fn unit_at(s: &[u8], at: usize) -> Unit
 }
 
 // How many bytes a value decodes to, up to its fault, and whether it has none.
-#[derive(Drop)]
+#[derive(Clone, Copy)]
 struct Decoded {
     pub size: usize,
     pub whole: bool,
