@@ -1,3 +1,2 @@
 // The checked examples that the paper marks P: specs/Cases.antt.
 #![tactic(auto)]
-

@@ -1,3 +1,2 @@
 // The Downgraded fields that we write, as the reader reads them: laws only (specs/).
 #![tactic(auto)]
-

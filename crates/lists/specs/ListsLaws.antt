@@ -93,7 +93,7 @@ module _ {A : Type 0} where
   all_at_lem f (x ∷ xs) (suc i) d h k = all_at_lem f xs i d (and_yes (f x) (all f xs) h).1 (le_of_suc-le-suc k)
 
 -- what holds of all holds of a member
-pub all_mem : {A : Type 0} (f : A → Bool) {xs : List A} {x : A} → T (all f xs) → Memᴰ x xs → T (f x)
+pub all_mem : {A : Type 0} (f : A → Bool) {x : A} {xs : List A} → T (all f xs) → Memᴰ x xs → T (f x)
 all_mem f h (Memᴰ.head {x} {xs} e) = rw e (and_yes (f x) (all f xs) h).0
 all_mem f h (Memᴰ.tail {x} {xs} m) = all_mem f (and_yes (f x) (all f xs) h).1 m
 

@@ -1,3 +1,2 @@
 // Lists of bytes: definitions and laws only (specs/).
 #![tactic(auto)]
-

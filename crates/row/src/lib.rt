@@ -2,7 +2,6 @@
 // laws (specs/), and the enum of the encodings.
 #![tactic(auto)]
 
-
 // The encoding of a word. RFC 2047, section 4: "Legal values for "encoding" are "Q" and "B"."
 #[derive(Clone, Copy)]
 pub enum Encoding {

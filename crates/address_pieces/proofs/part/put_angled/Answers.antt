@@ -1,0 +1,12 @@
+use Rattle.piece.specs.PieceLaws.{wrote_same}
+use Rattle.address_pieces.specs.Pieces.{in_angles}
+use Rattle.address_pieces.specs.PiecesLaws.{address_ascii, address_high}
+use mathlib.Core.Path.{sym, ◌∙◌}
+use borrow.Author.Rules.{rules}
+use Rattle.address_pieces.proofs.part.put_angled.Goals as goal
+
+pub returns-then-is_ascii : goal.returns-then-is_ascii
+returns-then-is_ascii c = wrote_same (address_ascii _ _ in_angles (sym c.is_ascii.ensures ∙ c.if-is_ascii.true)) c.put_in_angles.ensures
+
+pub returns : goal.returns
+returns c = wrote_same (address_high _ _ in_angles (sym c.is_ascii.ensures ∙ c.if-is_ascii.false)) c.put_removed.ensures

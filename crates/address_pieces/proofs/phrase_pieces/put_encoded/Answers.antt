@@ -1,0 +1,12 @@
+use Rattle.address_pieces.specs.WritingLaws.{phrase_made}
+use borrow.Author.Rules.{rules}
+use Rattle.address_pieces.proofs.phrase_pieces.put_encoded.Goals as goal
+
+pub slice_bounds-write-end : goal.slice_bounds-write-end
+slice_bounds-write-end c = (phrase_made _ c.add_text-n.ensures c.requires.0 c.requires.1).within
+
+pub slice_bounds-write-end-2 : goal.slice_bounds-write-end-2
+slice_bounds-write-end-2 c = (phrase_made _ c.add_text-n.ensures c.requires.0 c.requires.1).size
+
+pub returns : goal.returns
+returns c = (phrase_made _ c.add_text-n.ensures c.requires.0 c.requires.1).encoded c.write.ensures

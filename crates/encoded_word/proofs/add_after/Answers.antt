@@ -1,0 +1,6 @@
+use Rattle.buffer.specs.BufferLaws.{added_by}
+use borrow.Author.Rules.{rules}
+use Rattle.encoded_word.proofs.add_after.Goals as goal
+
+pub returns : goal.returns
+returns c = added_by _ _ _ _ _ c.clip-start.ensures c.write_after.ensures c.place_after.ensures

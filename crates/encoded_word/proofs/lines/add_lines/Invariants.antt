@@ -1,0 +1,17 @@
+use Rattle.encoded_word.specs.WritingLaws.{line_length, line_some, copied_on}
+use Rattle.row.specs.WordEndLaws.{row_end}
+use Rattle.row.specs.Row.{row}
+use Rattle.buffer.specs.BufferLaws.{length_appended, capped_none, capped_start, capped_end, length_capped}
+use Rattle.buffer.specs.Buffer.{ReachedCapped}
+use borrow.Author.Rules.{rules}
+use native.Mathlib.Omega.{arith}
+use lib.ListN.{length, drop, length-take}
+use Prim.Native.Nat.{◌+◌, ◌-◌, ◌≤◌}
+use mathlib.Core.Path.{◌≡◌, refl, sym, ◌∙◌}
+use Rattle.encoded_word.proofs.lines.add_lines.Given as goal
+
+abbrev pub invariant-loop-i : goal.invariant-loop-i
+invariant-loop-i l = (l.i ≤ length l.text) × (length l.piece ≡ 78) × ReachedCapped (row (drop l.begin l.text)) (row (drop l.i l.text)) l.start l.initial.out l.out l.at
+
+abbrev pub decreases-loop-i : goal.decreases-loop-i
+decreases-loop-i l = length l.text - l.i

@@ -1,0 +1,24 @@
+use Rattle.word_spelling.specs.Spelling.{spell}
+use Rattle.word_spelling.specs.SpellingLaws.{spell_at, spell_end, spell_byte_some, cost_at}
+use Rattle.buffer.specs.Buffer.{Reached}
+use Rattle.buffer.specs.BufferLaws.{reached_start, reached_then, reached_end, reached_within, length_reached}
+use native.Mathlib.Omega.{arith}
+use Prim.Native.Nat.{◌+◌, ◌-◌, ◌≤◌}
+use lib.ListN.{length, drop, get_or}
+use mathlib.Core.Path.{◌≡◌, refl, ◌∙◌}
+use Rattle.encoded_word.proofs.spelling.put_char.Goals as goal
+
+pub loop-i-init : goal.loop-i-init
+loop-i-init c = (omega arith, reached_start _ _ _)
+
+pub put_byte-next-requires : goal.put_byte-next-requires
+put_byte-next-requires c = (c.requires.0, omega (arith, reached_within c.loop-i.invariant.1, length_reached c.loop-i.invariant.1, cost_at c.args.c.now c.loop-i.i c.loop-i-test.true, spell_byte_some (get_or c.args.c.now c.loop-i.i 0), c.requires.1))
+
+pub loop-i-preserved : goal.loop-i-preserved
+loop-i-preserved c = (omega arith, reached_then _ _ c.loop-i.invariant.1 (spell_at _ _ c.loop-i-test.true) c.put_byte-next.ensures)
+
+pub shape_of-out : goal.shape_of-out
+shape_of-out c = length_reached c.loop-i.invariant.1
+
+pub returns : goal.returns
+returns c = reached_end c.loop-i.invariant.1 (spell_end _ _ c.loop-i-test.false)

@@ -1,0 +1,6 @@
+use Rattle.buffer.specs.BufferLaws.{appended_then}
+use borrow.Author.Rules.{rules}
+use Rattle.encoded_word.proofs.spelling.put_escapes.Goals as goal
+
+pub returns : goal.returns
+returns c = appended_then c.put_escape-next.ensures c.put_escape.ensures

@@ -1,0 +1,14 @@
+use Rattle.envelope.specs.OrcptLaws.{orcpt_end, orcpt_found, orcpt_next}
+use Rattle.envelope.specs.Envelope.{texts, orcpt_from, orcpt_line}
+use native.Mathlib.Omega.{arith}
+use borrow.Author.Rules.{rules}
+use mathlib.Core.Path.{◌≡◌, refl, sym, ◌∙◌}
+use Prim.Native.Nat.{◌-◌, ◌≤◌}
+use lib.ListN.{length, drop}
+use Rattle.envelope.proofs.orcpts.orcpt_line.Given as goal
+
+abbrev pub invariant-loop-i : goal.invariant-loop-i
+invariant-loop-i l = (l.n ≤ l.i) × (orcpt_line l.envelope ≡ orcpt_from l.n (texts (drop l.i l.envelope)))
+
+abbrev pub decreases-loop-i : goal.decreases-loop-i
+decreases-loop-i l = length l.envelope - l.i

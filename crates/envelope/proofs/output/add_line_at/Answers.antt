@@ -1,0 +1,7 @@
+use Rattle.envelope.specs.LinesLaws.{text_part}
+use Rattle.envelope.specs.WrittenLaws.{added_line}
+use borrow.Author.Rules.{rules}
+use Rattle.envelope.proofs.output.add_line_at.Goals as goal
+
+pub returns : goal.returns
+returns c = added_line c.args.mail (text_part _ _ _ c.line_end-end.ensures c.part.ensures) c.add_line.ensures

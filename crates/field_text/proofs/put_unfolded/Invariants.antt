@@ -1,0 +1,12 @@
+use Rattle.field_text.specs.TextLaws.{Unfolding, unfolding_start, unfolding_next, unfolding_end, length_unfolding}
+use lib.ListN.{length}
+use borrow.Author.Rules.{rules}
+use native.Mathlib.Omega.{arith}
+use Prim.Native.Nat.{◌-◌}
+use Rattle.field_text.proofs.put_unfolded.Given as goal
+
+abbrev pub invariant-loop-i : goal.invariant-loop-i
+invariant-loop-i l = Unfolding l.s l.i l.initial.out l.out l.at
+
+abbrev pub decreases-loop-i : goal.decreases-loop-i
+decreases-loop-i l = length l.s - l.i

@@ -1,0 +1,16 @@
+use Rattle.header_stop.specs.HeaderStop.{scanner, start, line_stop}
+use Rattle.line_stop.specs.ProductLaws.{both_same}
+use Rattle.line_stop.specs.PlaceLaws.{Scanned, scan_none, scan_end_lem, scan_cr_bad, scan_cr, scan_bad, scan_next}
+use mathlib.Core.Path.{sym, ◌∙◌}
+use Prim.Native.Nat.{◌-◌}
+use native.Mathlib.Omega.{arith}
+use borrow.Author.Rules.{rules}
+use lib.ListN.{length}
+use borrow.Author.Tests.{not-true, not-false}
+use Rattle.header_stop.proofs.stop.Given as goal
+
+abbrev pub invariant-loop-i : goal.invariant-loop-i
+invariant-loop-i l = Scanned scanner 998 (start l.first) l.s l.at l.i l.n (l.u, l.f)
+
+abbrev pub decreases-loop-i : goal.decreases-loop-i
+decreases-loop-i l = length l.s - l.i

@@ -1,0 +1,6 @@
+use Rattle.outgoing_header.specs.HeaderOutcomeLaws.{out_wrote}
+use borrow.Author.Rules.{rules}
+use Rattle.outgoing_header.proofs.put.Goals as goal
+
+pub returns : goal.returns
+returns c = out_wrote c.requires c.add_fields.ensures

@@ -1,0 +1,20 @@
+use Rattle.outgoing_header.specs.HeaderOutcome.{number_of}
+use mathlib.Core.Path.{sym, ap}
+use borrow.Author.Rules.{rules}
+use Rattle.outgoing_header.proofs.refusals.number_of.Goals as goal
+
+pub returns-in-Over : goal.returns-in-Over
+unfolding number_of
+returns-in-Over c = ap number_of (sym c.in-Over.is)
+
+pub returns-in-Line : goal.returns-in-Line
+unfolding number_of
+returns-in-Line c = ap number_of (sym c.in-Line.is)
+
+pub returns-in-Held : goal.returns-in-Held
+unfolding number_of
+returns-in-Held c = ap number_of (sym c.in-Held.is)
+
+pub returns-in-Needs : goal.returns-in-Needs
+unfolding number_of
+returns-in-Needs c = ap number_of (sym c.in-Needs.is)

@@ -1,0 +1,37 @@
+use Prim.Native.Nat.{◌-◌}
+use lib.Dec.{eqb}
+use lib.ListN.{length, drop}
+use native.Mathlib.Omega.{arith}
+use borrow.Author.Tests.{not-true, not-false}
+use mathlib.Core.Path.{◌≡◌, refl, sym, ◌∙◌}
+use Rattle.structured_token.specs.Walk.{clear_all}
+use Rattle.received.specs.Received.{received_front, value_clear}
+use Rattle.received.specs.Received.Place.{place}
+use Rattle.received.specs.TokenLaws.{clear_step, clear_none}
+use borrow.Author.Rules.{rules}
+use Rattle.received.proofs.held.value_clear.Goals as goal
+
+pub loop-i-init : goal.loop-i-init
+unfolding value_clear
+loop-i-init c = refl
+
+pub slice_bounds-is_clear-count : goal.slice_bounds-is_clear-count
+slice_bounds-is_clear-count c = omega (arith, c.token_at-token.ensures.some c.loop-i-test.true)
+
+pub slice_bounds-is_clear-start : goal.slice_bounds-is_clear-start
+slice_bounds-is_clear-start c = omega (arith, c.token_at-token.ensures.some c.loop-i-test.true)
+
+pub slice_bounds-is_clear-end : goal.slice_bounds-is_clear-end
+slice_bounds-is_clear-end c = c.token_at-token.ensures.within c.loop-i-test.true
+
+pub returns-then-not-is_clear : goal.returns-then-not-is_clear
+returns-then-not-is_clear c = sym (c.loop-i.invariant ∙ clear_step c.loop-i-test.true c.token_at-token.ensures refl _ refl (sym (not-true _ c.if-not-is_clear.true-raw) ∙ c.is_clear.ensures))
+
+pub loop-i-smaller : goal.loop-i-smaller
+loop-i-smaller c = omega (arith, c.token_at-token.ensures.some c.loop-i-test.true, c.calm_end-i.ensures)
+
+pub loop-i-preserved : goal.loop-i-preserved
+loop-i-preserved c = c.loop-i.invariant ∙ clear_step c.loop-i-test.true c.token_at-token.ensures c.goes_on-comments.ensures _ c.calm_end-i.ensures (sym (not-false _ c.if-not-is_clear.false-raw) ∙ c.is_clear.ensures)
+
+pub returns : goal.returns
+returns c = sym (c.loop-i.invariant ∙ clear_none _ _ _ c.loop-i-test.false)

@@ -1,0 +1,9 @@
+use mathlib.Core.Path.{ap, ◌∙◌}
+use lib.ListN.{length}
+use lib.Dec.{lit≤}
+use Rattle.row.specs.RowLaws.{row_after_none}
+use borrow.Author.Rules.{rules}
+use Rattle.row_length.proofs.len.Goals as goal
+
+pub returns : goal.returns
+returns c = c.len_after.ensures ∙ ap length (row_after_none 63 _ (lit≤ tt))

@@ -1,0 +1,13 @@
+use Rattle.word_reader.specs.WordLaws.{unit_hex, unit_space, unit_one}
+use mathlib.Core.Path.{refl}
+use borrow.Author.Rules.{rules}
+use Rattle.word_reader.proofs.q_text.unit_at.Goals as goal
+
+pub returns-then-b-eq61 : goal.returns-then-b-eq61
+returns-then-b-eq61 c = unit_hex _ _ _ refl _ _ _ _ _ _ c.if-b-eq61.true c.byte_at-first.ensures c.byte_at-second.ensures c.any_hex.ensures.0 c.any_hex-then-b-eq61.ensures.0 c.is_any_hex.ensures c.is_any_hex-then-b-eq61.ensures
+
+pub returns-then-b-eq95 : goal.returns-then-b-eq95
+returns-then-b-eq95 c = unit_space _ _ _ refl c.if-b-eq95.true
+
+pub returns : goal.returns
+returns c = unit_one _ _ _ refl c.if-b-eq61.false c.if-b-eq95.false
