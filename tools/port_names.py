@@ -7,7 +7,7 @@ What turns: each name that a file of specs/ declares (definitions, lemmas, field
 has a capital inside or a dash, wherever it stands as a whole word in specs/, proofs/, in a clause of src/ and in must-fail/; and in
 the code spans of the documents. A name of a type or a module keeps its capital. Two names that would fall together: the one with a
 dash, a lemma, gets `_lem`. Functions of src/, strings, inputs and outputs stay.
-The crates hex and base64 have the names of libraries of today's kit, and get the names hex_digit and base64_text.
+The crates hex and base64 have the names of libraries of today's kit, and get the names hex_digit and base64_digits.
 --list prints the table, old and new, and writes nothing.
 """
 
@@ -24,7 +24,7 @@ DECLARED = re.compile(
 )
 INLINE = re.compile(r"(?<![\w-])let (" + WORD + r")(?: :|\s*=)")
 BINDERS = re.compile(r"[({]([^(){}:;]+) : ")
-CRATES = {"hex": "hex_digit", "base64": "base64_text"}
+CRATES = {"hex": "hex_digit", "base64": "base64_digits"}
 DOCS = ["README.md", "CONTRIBUTING.md", "docs"]
 
 

@@ -10,7 +10,7 @@ use Rattle.lists.specs.CutBy.{cut_after, cut_by}
 use Rattle.letter_case.specs.LetterCase.{bytes, lower, same_any_case}
 use Rattle.cut.specs.Cut.{cut}
 use Rattle.word_spelling.specs.Spelling.{bare, spell_byte, spell}
-use Rattle.base64_text.specs.Base64.{digit64, in_base64}
+use Rattle.base64_digits.specs.Base64.{digit64, in_base64}
 use Rattle.row.specs.declared.Encoding.TheVariants.{Q}
 use Rattle.row.specs.Word.{word}
 use Rattle.row.specs.Row.{runs, chosen, lines, row_in, row, runs_after, lines_after, row_after_in}

@@ -13,8 +13,8 @@ use Rattle.lists.specs.Run.{run}
 use Rattle.letter_case.specs.LetterCase.{bytes, lower, same_any_case}
 use Rattle.line.specs.Line.{blank}
 use Rattle.utf8.specs.Utf8.{utf8}
-use Rattle.base64_text.specs.Base64.{digit64}
-use Rattle.base64_text.specs.Grammar.{FromBase64}
+use Rattle.base64_digits.specs.Base64.{digit64}
+use Rattle.base64_digits.specs.Grammar.{FromBase64}
 use Rattle.word_spelling.specs.Spelling.{closing}
 use Rattle.row.specs.declared.Encoding.{Encoding}
 use Rattle.row.specs.declared.Encoding.TheVariants.{Q, B}

@@ -11,9 +11,9 @@ use Rattle.utf8.specs.Utf8.{chars, utf8}
 use Rattle.utf8.specs.Utf8Laws.{chars_joined, utf8_bytes}
 use Rattle.hex_digit.specs.Hex.{hex_digit}
 use Rattle.word_spelling.specs.Spelling.{closing, bare, spell_byte, spell}
-use Rattle.base64_text.specs.Base64.{digit64, in_base64}
-use Rattle.base64_text.specs.Reading.{is_digit64, value64}
-use Rattle.base64_text.specs.Base64Laws.{is_base64, reads_only, all_base64}
+use Rattle.base64_digits.specs.Base64.{digit64, in_base64}
+use Rattle.base64_digits.specs.Reading.{is_digit64, value64}
+use Rattle.base64_digits.specs.Base64Laws.{is_base64, reads_only, all_base64}
 use Rattle.row.specs.declared.Encoding.{Encoding}
 use Rattle.row.specs.declared.Encoding.TheVariants.{Q, B}
 use Rattle.row.specs.Word.{opening_in, spell_in, word}

@@ -9,7 +9,7 @@ use Rattle.utf8.specs.Utf8.{char_len, chars}
 use Rattle.utf8.specs.Utf8Laws.{chars_at, char_len_le}
 use Rattle.buffer.specs.Buffer.{Appended, AppendedCapped, Reached, ReachedCapped, Wrote, greatest}
 use Rattle.buffer.specs.BufferLaws.{overlay_front, wrote_from, wrote_of, appended_none, appended_then, appended_of, length_appended, reached_start, reached_then, reached_last, reached_join, reached_within, capped_then, capped_turn}
-use Rattle.base64_text.specs.Base64.{in_base64}
+use Rattle.base64_digits.specs.Base64.{in_base64}
 use Rattle.word_spelling.specs.Spelling.{opening, closing, escape, spell_byte, spell}
 use Rattle.word_spelling.specs.Cost.{byte_cost, cost}
 use Rattle.word_spelling.specs.SpellingLaws.{length_spell, spell_append, spell_high, spell_one, escapes, alone_ascii}

@@ -67,7 +67,7 @@ fn put_word_in_b(out: &mut [u8], at: usize, bytes: &[u8]) -> usize
     ensures { Appended (word B bytes.now) at out.old out.new result }
 {
     let started = put_opening(out, at, 66);
-    let after = base64_text::add(out, started, bytes);
+    let after = base64_digits::add(out, started, bytes);
     put_closing(out, after)
 }
 

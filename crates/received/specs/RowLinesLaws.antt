@@ -10,9 +10,9 @@ use Rattle.utf8.specs.Utf8Laws.{char_len_le}
 use Rattle.cut.specs.CutLaws.{AllFit, cut_fits}
 use Rattle.hex_digit.specs.Hex.{hex_digit}
 use Rattle.word_spelling.specs.Spelling.{closing, bare, escape, spell_byte, spell}
-use Rattle.base64_text.specs.Base64.{in_base64}
-use Rattle.base64_text.specs.Reading.{is_digit64}
-use Rattle.base64_text.specs.Base64Laws.{is_base64, all_base64}
+use Rattle.base64_digits.specs.Base64.{in_base64}
+use Rattle.base64_digits.specs.Reading.{is_digit64}
+use Rattle.base64_digits.specs.Base64Laws.{is_base64, all_base64}
 use Rattle.row.specs.declared.Encoding.{Encoding}
 use Rattle.row.specs.declared.Encoding.TheVariants.{Q, B}
 use Rattle.row.specs.Word.{opening_in, spell_in, word}

@@ -13,8 +13,8 @@ use Rattle.lists.specs.Lists.{all, joined}
 use Rattle.utf8.specs.Utf8.{char_len, second_low, second_high, is_char, chars, utf8}
 use Rattle.cut.specs.Cut.{cut}
 use Rattle.hex_digit.specs.Hex.{hex_digit}
-use Rattle.base64_text.specs.Base64.{digit64, in_base64}
-use Rattle.base64_text.specs.Reading.{is_digit64, value64, from_two, from_last, from_base64}
+use Rattle.base64_digits.specs.Base64.{digit64, in_base64}
+use Rattle.base64_digits.specs.Reading.{is_digit64, value64, from_two, from_last, from_base64}
 use Rattle.word_spelling.specs.Spelling.{closing, bare, spell_byte, spell}
 use Rattle.row.specs.declared.Encoding.{Encoding}
 use Rattle.row.specs.declared.Encoding.TheVariants.{Q, B}

@@ -9,7 +9,7 @@ use Rattle.lists.specs.CutBy.{cut_after, cut_by}
 use Rattle.lists.specs.Byte.{is_byte}
 use Rattle.lists.specs.Lists.{all}
 use Rattle.utf8.specs.Utf8.{char_len, second_low, second_high, is_char, chars, utf8}
-use Rattle.base64_text.specs.Base64.{in_base64}
+use Rattle.base64_digits.specs.Base64.{in_base64}
 use Rattle.word_spelling.specs.Spelling.{closing, bare, spell_byte, spell}
 use Rattle.row.specs.declared.Encoding.{Encoding}
 use Rattle.row.specs.declared.Encoding.TheVariants.{Q, B}

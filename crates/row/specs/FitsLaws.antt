@@ -7,8 +7,8 @@ use Rattle.lists.specs.Lists.{nonempty, joined}
 use Rattle.lists.specs.ListsLaws.{by_test, cond_yes, cond_no, joined_append}
 use Rattle.utf8.specs.Utf8.{is_char}
 use Rattle.utf8.specs.Utf8Laws.{char_length}
-use Rattle.base64_text.specs.Base64.{in_base64}
-use Rattle.base64_text.specs.Base64Laws.{length_base64}
+use Rattle.base64_digits.specs.Base64.{in_base64}
+use Rattle.base64_digits.specs.Base64Laws.{length_base64}
 use Rattle.word_spelling.specs.Spelling.{closing, spell}
 use Rattle.word_spelling.specs.SpellingLaws.{length_spell, length_spell_append, cost_some}
 use Rattle.row.specs.declared.Encoding.{Encoding}

@@ -5,7 +5,7 @@ use Rattle.std.specs.Prelude.{◌≡◌, ◌≢◌, Bool, true, false, cond, Lis
 use Rattle.std.proofs.Math.Option.{Option, none, some}
 use Rattle.lists.specs.Byte.{within}
 use Rattle.lists.specs.Lists.{joined}
-use Rattle.base64_text.specs.Grammar.{FromBase64}
+use Rattle.base64_digits.specs.Grammar.{FromBase64}
 use Rattle.word_spelling.specs.Spelling.{closing}
 use Rattle.row.specs.declared.Encoding.{Encoding}
 use Rattle.row.specs.declared.Encoding.TheVariants.{Q, B}

@@ -12,7 +12,7 @@ use Rattle.lists.specs.ByteLaws.{below, implies, within_low, within_high}
 use Rattle.hex_digit.specs.Hex.{hex_digit}
 use Rattle.word_spelling.specs.Spelling.{bare, escape, spell_byte, spell}
 use Rattle.word_spelling.specs.SpellingLaws.{spell_bare, spell_space, spell_hex}
-use Rattle.base64_text.specs.GrammarLaws.{base64_reads, base64_only}
+use Rattle.base64_digits.specs.GrammarLaws.{base64_reads, base64_only}
 use Rattle.row.specs.declared.Encoding.{Encoding}
 use Rattle.row.specs.declared.Encoding.TheVariants.{Q, B}
 use Rattle.row.specs.Word.{spell_in, word}

@@ -7,8 +7,8 @@ use Rattle.utf8.specs.Utf8.{char_len, chars}
 use Rattle.lists.specs.CutBy.{cut_after, cut_by}
 use Rattle.cut.specs.Cut.{cut}
 use Rattle.hex_digit.specs.Hex.{hex_digit}
-use Rattle.base64_text.specs.Base64.{digit64, in_base64}
-use Rattle.base64_text.specs.Reading.{is_digit64, value64, from_quad, from_three, from_two, from_last, from_base64}
+use Rattle.base64_digits.specs.Base64.{digit64, in_base64}
+use Rattle.base64_digits.specs.Reading.{is_digit64, value64, from_quad, from_three, from_two, from_last, from_base64}
 use Rattle.word_spelling.specs.Spelling.{opening, closing, bare, spell_byte, spell}
 use Rattle.row.specs.declared.Encoding.TheVariants.{B}
 use Rattle.row.specs.Word.{opening_in, word}

@@ -11,10 +11,10 @@ use Rattle.lists.specs.Lists.{all}
 use Rattle.lists.specs.ListsLaws.{by_test, cond_yes, cond_no}
 use Rattle.lists.specs.Byte.{within}
 use Rattle.lists.specs.ByteLaws.{within_low, within_high, to_within}
-use Rattle.base64_text.specs.Base64Laws.{is_base64, all_base64}
-use Rattle.base64_text.specs.Grammar.{FromBase64}
-use Rattle.base64_text.specs.Reading.{is_digit64, from_base64}
-use Rattle.base64_text.specs.GrammarLaws.{base64_only, grammar_read, read_grammar}
+use Rattle.base64_digits.specs.Base64Laws.{is_base64, all_base64}
+use Rattle.base64_digits.specs.Grammar.{FromBase64}
+use Rattle.base64_digits.specs.Reading.{is_digit64, from_base64}
+use Rattle.base64_digits.specs.GrammarLaws.{base64_only, grammar_read, read_grammar}
 use Rattle.word_spelling.specs.Spelling.{closing}
 use Rattle.row.specs.declared.Encoding.{Encoding}
 use Rattle.row.specs.declared.Encoding.TheVariants.{Q, B}

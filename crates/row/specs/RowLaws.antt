@@ -9,7 +9,7 @@ use Rattle.utf8.specs.Utf8.{chars}
 use Rattle.utf8.specs.Utf8Laws.{chars_nil, chars_joined, chars_short, chars_some}
 use Rattle.cut.specs.Cut.{cut}
 use Rattle.cut.specs.CutLaws.{cut_more, cut_next}
-use Rattle.base64_text.specs.Base64Laws.{length_base64}
+use Rattle.base64_digits.specs.Base64Laws.{length_base64}
 use Rattle.word_spelling.specs.Spelling.{spell}
 use Rattle.word_spelling.specs.Cost.{cost}
 use Rattle.word_spelling.specs.SpellingLaws.{length_spell, cost_some}

@@ -1,6 +1,6 @@
 -- An encoded word in Q or in B: "A word is `=?UTF-8?Q?`, 1 to 63 characters, `?=`.", and "RFC 2047's B encoding beside Q".
 use Rattle.std.specs.Prelude.{List, [], ◌∷◌, ◌++◌, ℕ}
-use Rattle.base64_text.specs.Base64.{in_base64}
+use Rattle.base64_digits.specs.Base64.{in_base64}
 use Rattle.word_spelling.specs.Spelling.{opening, closing, spell}
 use Rattle.row.specs.declared.Encoding.{Encoding}
 use Rattle.row.specs.declared.Encoding.TheVariants.{Q, B}

@@ -13,7 +13,7 @@ use Rattle.utf8.specs.Utf8.{char_len, chars}
 use Rattle.utf8.specs.Utf8Laws.{chars_short, chars_some, chars_at, chars_end, char_len_some}
 use Rattle.cut.specs.Cut.{cut}
 use Rattle.cut.specs.CutLaws.{cut_run, lines_below, Full, cut_full}
-use Rattle.base64_text.specs.Base64Laws.{length_base64}
+use Rattle.base64_digits.specs.Base64Laws.{length_base64}
 use Rattle.word_spelling.specs.Cost.{cost}
 use Rattle.word_spelling.specs.SpellingLaws.{length_spell_joined}
 use Rattle.word_spelling.specs.HighCharLaws.{char_cut}

@@ -81,7 +81,7 @@ fn show_buffer(out: &mut [u8], text: &[u8], size: usize) {
 // A text in base64.
 fn show_digits(label: &[u8], text: &[u8]) {
     let mut out = [0u8; 2048];
-    let n = base64_text::add(&mut out, 0, text);
+    let n = base64_digits::add(&mut out, 0, text);
     say(label);
     say(b": ");
     say(line::part(&out, 0, n));

@@ -10,7 +10,7 @@ use Rattle.lists.specs.Lists.{joined}
 use Rattle.lists.specs.ListsLaws.{by_test, yes_true, no_false}
 use Rattle.utf8.specs.Utf8.{char_len, chars}
 use Rattle.utf8.specs.Utf8Laws.{chars_at, chars_end, chars_joined, char_len_some}
-use Rattle.base64_text.specs.Base64Laws.{length_base64}
+use Rattle.base64_digits.specs.Base64Laws.{length_base64}
 use Rattle.word_spelling.specs.Cost.{cost}
 use Rattle.word_spelling.specs.SpellingLaws.{length_spell}
 use Rattle.row.specs.declared.Encoding.TheVariants.{Q, B}

@@ -6,7 +6,7 @@ use Rattle.std.proofs.Math.Facts.{leb_no}
 use Rattle.lists.specs.ListsLaws.{by_test}
 use Rattle.utf8.specs.Utf8.{char_len, chars}
 use Rattle.utf8.specs.Utf8Laws.{chars_at, chars_end, char_len_some}
-use Rattle.base64_text.specs.Base64Laws.{length_base64}
+use Rattle.base64_digits.specs.Base64Laws.{length_base64}
 use Rattle.word_spelling.specs.Spelling.{spell}
 use Rattle.word_spelling.specs.Cost.{cost}
 use Rattle.word_spelling.specs.SpellingLaws.{length_spell_append}

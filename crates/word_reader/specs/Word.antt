@@ -4,7 +4,7 @@ use Rattle.lists.specs.Byte.{within}
 use Rattle.lists.specs.Lists.{all}
 use Rattle.lists.specs.Run.{run}
 use Rattle.letter_case.specs.LetterCase.{bytes, lower, same_any_case}
-use Rattle.base64_text.specs.Reading.{is_digit64, value64}
+use Rattle.base64_digits.specs.Reading.{is_digit64, value64}
 use Rattle.word_reader.specs.Each.{each}
 
 -- ---- Q: `=` (61) begins a unit of three bytes, any other byte is one

@@ -19,7 +19,7 @@ use Rattle.letter_case.specs.LetterCase.{bytes, lower, same_any_case}
 use Rattle.std.proofs.Math.Facts.{leb_no, no_leb}
 use Rattle.buffer.specs.Buffer.{AppendedCapped, ReachedCapped, greatest}
 use Rattle.buffer.specs.BufferLaws.{capped_none, capped_then, capped_start, capped_turn, capped_end, length_capped, capped_same}
-use Rattle.base64_text.specs.Reading.{is_digit64, value64}
+use Rattle.base64_digits.specs.Reading.{is_digit64, value64}
 use Rattle.word_reader.specs.Each.{each}
 use Rattle.word_reader.specs.EachLaws.{each_nil, each_front, each_few}
 use Rattle.word_reader.specs.Word.{unit_size, is_any_hex, any_hex, unit_byte, unit_ok, q_text, q_ok, first_of, second_of, third_of, quad_ok, last_ok, last_text, b_text, b_ok, is_word, inner, not_question, charset_len, is_parted, letter, standing, text_ok, text_of, is_utf8_charset, added, form_number}

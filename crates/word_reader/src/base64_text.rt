@@ -1,7 +1,7 @@
 // A text in base64, read strictly: groups of four digits, `=` only as padding at the end, spare bits zero.
 ghost use Rattle.std.specs.Prelude.{◌≡◌, [], ◌∷◌, ◌+◌, ◌≤◌, ◌<◌, length};
 ghost use Rattle.buffer.specs.Buffer.{AppendedCapped};
-ghost use Rattle.base64_text.specs.Reading.{is_digit64, value64};
+ghost use Rattle.base64_digits.specs.Reading.{is_digit64, value64};
 ghost use Rattle.word_reader.specs.Word.{first_of, second_of, third_of, quad_ok, last_ok, last_text, b_text, b_ok};
 
 use crate::Added;

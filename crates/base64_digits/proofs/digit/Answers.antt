@@ -1,0 +1,7 @@
+use Rattle.base64_digits.specs.WritingLaws.{digits_at}
+use native.Mathlib.Omega.{arith}
+use borrow.Author.Rules.{rules}
+use Rattle.base64_digits.proofs.digit.Goals as goal
+
+pub returns : goal.returns
+returns c = rw c.requires (digits_at _ (omega arith))

@@ -1,7 +1,0 @@
-use Rattle.base64_text.specs.WritingLaws.{digits_at}
-use native.Mathlib.Omega.{arith}
-use borrow.Author.Rules.{rules}
-use Rattle.base64_text.proofs.digit.Goals as goal
-
-pub returns : goal.returns
-returns c = rw c.requires (digits_at _ (omega arith))
