@@ -52,7 +52,7 @@ const STARTS: [usize; 33] = [
 
 // The kind that a letter of the table stands for.
 fn lettered(k: u8) -> Kind
-    ensures { result ≡ kindLettered k }
+    ensures { result ≡ kind_lettered k }
 {
     if k == b'A' {
         return Kind::Address;
@@ -83,7 +83,7 @@ fn lettered(k: u8) -> Kind
 
 // The kind of a name that is not in the table.
 fn other_kind(name: &[u8]) -> Kind
-    ensures { result ≡ otherKind name.now }
+    ensures { result ≡ other_kind name.now }
 {
     if letter_case::same_any_case(b"Content-Language", name) {
         return Kind::OtherCommented;
