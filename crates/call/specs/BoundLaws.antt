@@ -5,7 +5,7 @@ use Rattle.std.proofs.Common.{ap, length-append, length-take, length-drop}
 use mathlib.Core.List.{List, [], ◌∷◌}
 use native.Mathlib.Omega.{arith}
 use Rattle.std.proofs.Math.ListN.{length}
-use Rattle.std.proofs.lemmas.List.{length_map}
+use Rattle.std.proofs.lemmas.List.{length-map}
 use Rattle.std.proofs.Math.Facts.{ltb_yes, ltb_no}
 use Rattle.lists.specs.Byte.{is_ascii}
 use Rattle.lists.specs.Lists.{joined}
@@ -90,7 +90,7 @@ orcpt_line_lem (at_line k) = k
 orcpt_line_le : (e : List ℕ) (line : ℕ) → orcpt_line e ≡ At line → line ≤ length e
 unfolding orcpt_line texts lines
 orcpt_line_le e line q =
-    orcpt_line_lem (rw q at (orcpt_within 0 (length e) (texts e) (omega (arith, length_map (lines e) line_text, cut_few (λ rest. line_len rest + 2) e))))
+    orcpt_line_lem (rw q at (orcpt_within 0 (length e) (texts e) (omega (arith, length-map (lines e) line_text, cut_few (λ rest. line_len rest + 2) e))))
 
 orcpt_offset_le : (e : List ℕ) (n : ℕ) → orcpt_offset e n ≤ length e
 unfolding orcpt_offset line_at

@@ -7,7 +7,7 @@ use mathlib.Core.List.Memᴰ
 use mathlib.Core.List.{List, [], ◌∷◌, ◌++◌, append-nil, map, Memᴰ}
 use Rattle.std.proofs.Math.Dec.{T}
 use Rattle.std.proofs.Math.ListN.{length}
-use Rattle.std.proofs.lemmas.List.{length_map}
+use Rattle.std.proofs.lemmas.List.{length-map}
 use Rattle.std.proofs.Math.Facts.{and_yes, yes_and}
 use Rattle.lists.specs.Lists.{all, joined, nonempty}
 use Rattle.lists.specs.ListsLaws.{by_test, all_append, all_joined, all_mem, joined_append, some_nonempty}
@@ -79,7 +79,7 @@ abbrev runs_of : List Part → List (List (List ℕ))
 runs_of ps = map (λ (p : Part). chars p.bytes) ps
 
 length_runs_of : (ps : List Part) → length (runs_of ps) ≡ length ps
-length_runs_of ps = length_map ps (λ (p : Part). chars p.bytes)
+length_runs_of ps = length-map ps (λ (p : Part). chars p.bytes)
 
 runs_of_chars : (ps : List Part) → AllProper ps → T (all is_char (joined (runs_of ps)))
 unfolding utf8

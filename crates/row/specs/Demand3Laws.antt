@@ -3,7 +3,7 @@ use Rattle.std.specs.Prelude.{◌≡◌, ℕ, suc, ◌+◌, ◌≤◌, ◌<◌, 
 use Rattle.std.proofs.Math.Path.{refl, sym, ap}
 use Rattle.std.proofs.Common.{◌∙◌, arith, length-append, le→leb, lit≤}
 use mathlib.Core.List.{List, [], ◌∷◌, ◌++◌, map, nil≢cons, Memᴰ}
-use Rattle.std.proofs.Math.ListN.{length_map}
+use Rattle.std.proofs.Math.ListN.{length-map}
 use Rattle.std.proofs.Math.Dec.{T}
 use Rattle.std.proofs.Math.Facts.{and_yes}
 use Rattle.lists.specs.Lists.{all, nonempty, joined}
@@ -122,7 +122,7 @@ module _ (es : List Encoding) (room : ℕ) where
 
   length_words : (text : List ℕ) → length (row_words text) ≡ length (runs es room (chars text))
   unfolding row_words
-  length_words text = rw (length_map (map joined (runs es room (chars text))) (ours_in es room), length_map (runs es room (chars text)) joined)
+  length_words text = rw (length-map (map joined (runs es room (chars text))) (ours_in es room), length-map (runs es room (chars text)) joined)
 
   -- Demand 3, over the encodings and the room. A room of 12 holds every character; the other 12 are the opening and the closing of a word.
   pub demand_3_in : (text : List ℕ) → T (nonempty es) → 12 ≤ room → T (utf8 text) → Demand3In es (room + 12) LaidWords text (row_in es room text)

@@ -4,7 +4,7 @@ use Rattle.std.specs.Prelude.{◌≡◌, Bool, ℕ, suc, ◌+◌, ◌-◌, ◌�
 use Rattle.std.proofs.Math.Path.{refl, ap}
 use Rattle.std.proofs.Common.{◌∙◌, arith, lit≤}
 use mathlib.Core.List.{List, [], ◌∷◌, ◌++◌, map}
-use Rattle.std.proofs.Math.ListN.{length, length_map}
+use Rattle.std.proofs.Math.ListN.{length, length-map}
 use Rattle.std.proofs.Math.Dec.{T}
 use Rattle.std.proofs.Math.Facts.{and_yes}
 use Rattle.lists.specs.Lists.{all, nonempty, joined}
@@ -70,12 +70,12 @@ module _ (es : List Encoding) (room column : ℕ) where
     where
       go : (l : List ℕ) → T (all (all is_byte) (l ∷ ls)) → length (ours_in es (room - column) l).standing ≤ room - column
           → SetAfter (room + 12) column (lines_after es room column (l ∷ ls)) (after_words (l ∷ ls)) (suc (length ls))
-      go [] h small = rw (← length_map ls (ours_in es room)) (below (own_ours ls h))
+      go [] h small = rw (← length-map ls (ours_in es room)) (below (own_ours ls h))
       go (b ∷ bytes) h small =
           let both = and_yes (all is_byte (b ∷ bytes)) (all (all is_byte) ls) h in
           let kind = chosen es (room - column) (b ∷ bytes) in
           let w = ours_in es (room - column) (b ∷ bytes) in
-          rw (← length_map ls (ours_in es room))
+          rw (← length-map ls (ours_in es room))
           (here {w = w} (ours_reads kind (b ∷ bytes) both.0) (omega (arith, small, length_word w, spell_in_some kind (b ∷ bytes) (omega arith))) (own_ours ls both.1))
 
   after_text : (ls : List (List ℕ)) → added_text (after_words ls) ≡ joined ls
@@ -116,7 +116,7 @@ module _ (es : List Encoding) (room column : ℕ) where
   field_row text (r ∷ rs) u e f n =
       let bytes = all_joined is_byte (map joined (r ∷ rs)) (rw (joined_map (r ∷ rs), e, chars_joined text) (utf8_bytes text u)) in record {
         words = after_words (map joined (r ∷ rs));
-        laid = rw (← length_map rs joined) (set_ours 0 r (map joined rs) bytes f.0);
+        laid = rw (← length-map rs joined) (set_ours 0 r (map joined rs) bytes f.0);
         reads = after_text (map joined (r ∷ rs)) ∙ joined_map (r ∷ rs) ∙ ap joined e ∙ chars_joined text;
         proper = after_proper r rs f (all_joined is_char (r ∷ rs) (rw e u));
       }

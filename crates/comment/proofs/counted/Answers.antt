@@ -6,6 +6,7 @@ use native.Mathlib.Omega.{arith}
 use borrow.Author.Rules.{rules}
 use Rattle.comment.specs.CommentLaws.{close_at, close_end, run_unclosed, run_opens, run_closes, run_closes_last}
 use Rattle.comment.proofs.counted.Goals as goal
+use Rattle.comment.proofs.counted.Goals.{then-s-p-eq41+else-deeper-eq0, else-s-p-eq41}
 
 pub loop-i-init : goal.loop-i-init
 loop-i-init c = (refl, omega arith)
@@ -17,10 +18,10 @@ pub returns-then-deeper-eq0 : goal.returns-then-deeper-eq0
 returns-then-deeper-eq0 c = sym (c.loop-i.invariant.0 ∙ run_closes_last _ _ _ _ c.run_end-p.ensures c.if-s-p.false c.if-s-p-eq41.true c.if-deeper-eq0.true)
 
 pub loop-i-preserved : goal.loop-i-preserved
-loop-i-preserved c = ⊎_elim
-    (λ w. (rw w.2 (c.loop-i.invariant.0 ∙ run_closes _ _ _ _ c.run_end-p.ensures c.if-s-p.false w.0.taken w.1.left), omega (arith, w.2)))
-    (λ w. (rw w.1 (c.loop-i.invariant.0 ∙ run_opens _ _ _ _ c.run_end-p.ensures c.if-s-p.false w.0.left), omega (arith, w.1)))
-    c.if-s-p-eq41.branch
+loop-i-preserved c = elim c.if-s-p-eq41.branch [
+  | then-s-p-eq41+else-deeper-eq0 w ↦ (rw w.deeper-is (c.loop-i.invariant.0 ∙ run_closes _ _ _ _ c.run_end-p.ensures c.if-s-p.false w.if-s-p-eq41.true w.if-deeper-eq0.false), omega (arith, w.deeper-is))
+  | else-s-p-eq41 w ↦ (rw w.deeper-is (c.loop-i.invariant.0 ∙ run_opens _ _ _ _ c.run_end-p.ensures c.if-s-p.false w.if-s-p-eq41.false), omega (arith, w.deeper-is))
+]
 
 pub returns : goal.returns
 returns c = sym (c.loop-i.invariant.0 ∙ close_end _ _ _ c.loop-i-test.false)

@@ -17,7 +17,7 @@ pub slice_bounds-bytes-end : goal.slice_bounds-bytes-end
 slice_bounds-bytes-end c = omega (arith, c.decode-d.ensures.0.size, decoded_le c.args.value.now, length_wrote c.decode-d.ensures.0, c.if-value-gt-LIMIT.false)
 
 pub slice_bounds-is_ascii_address-end : goal.slice_bounds-is_ascii_address-end
-slice_bounds-is_ascii_address-end c = sym (length-take-le _ c.decode-d.new.0 (omega (arith, c.decode-d.ensures.0.size, decoded_le c.args.value.now, length_wrote c.decode-d.ensures.0, c.if-value-gt-LIMIT.false)))
+slice_bounds-is_ascii_address-end c = sym (length-take-le _ c.decode-d.new.out (omega (arith, c.decode-d.ensures.0.size, decoded_le c.args.value.now, length_wrote c.decode-d.ensures.0, c.if-value-gt-LIMIT.false)))
 
 pub returns : goal.returns
 returns c = c.is_ascii_address.ensures ∙ alt_tested _ c.if-value-gt-LIMIT.false (sym (not-false _ c.if-not-d.false) ∙ c.decode-d.ensures.1) c.decode-d.ensures.0 refl
