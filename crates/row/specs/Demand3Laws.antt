@@ -142,10 +142,10 @@ demand_3_q text u = demand_3_in (Q ∷ []) 63 text tt (lit≤ tt) u
 
 -- ---- the length of a word, and of its line
 
-fit_mem : (es : List Encoding) (room k : ℕ) {rs : List (List (List ℕ))} {run : List (List ℕ)} → AllFit (fits_room es room) k rs → Memᴰ run rs
+fit_mem : (es : List Encoding) (room : ℕ) {run : List (List ℕ)} (k : ℕ) {rs : List (List (List ℕ))} → AllFit (fits_room es room) k rs → Memᴰ run rs
     → T (fits_room es room k run)
 fit_mem es room k f (Memᴰ.head {x} {xs} e) = rw e f.0
-fit_mem es room k {run = run} f (Memᴰ.tail {x} {xs} m) = rw (fits_any_line es room k (suc k) run) (fit_mem es room (suc k) f.1 m)
+fit_mem es room {run = run} k f (Memᴰ.tail {x} {xs} m) = rw (fits_any_line es room k (suc k) run) (fit_mem es room (suc k) f.1 m)
 
 run_some : (run : List (List ℕ)) → T (nonempty run) → T (all is_char run) → 1 ≤ length (joined run)
 run_some [] n t = absurd n

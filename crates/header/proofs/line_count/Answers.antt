@@ -1,11 +1,11 @@
 use mathlib.Core.Path.{sym, ◌∙◌}
-use mathlib.Core.Logic.{⊎_elim}
 use borrow.Author.Rules.{rules}
 use Prim.Native.Nat.{◌-◌}
 use native.Mathlib.Omega.{arith}
 use lib.ListN.{length}
 use Rattle.header.specs.FieldLaws.{Counted, counted_none, counted_yes, counted_no, counted_end}
 use Rattle.header.proofs.line_count.Goals as goal
+use Rattle.header.proofs.line_count.Goals.{then-crlf_at, else-crlf_at}
 
 pub loop-i-init : goal.loop-i-init
 loop-i-init c = counted_none _
@@ -14,10 +14,10 @@ pub overflow_add-n : goal.overflow_add-n
 overflow_add-n c = omega (arith, c.loop-i.invariant.few)
 
 pub loop-i-preserved : goal.loop-i-preserved
-loop-i-preserved c = ⊎_elim
-    (λ w. rw w.1 (counted_yes c.loop-i.invariant c.loop-i-test.true (sym c.crlf_at.ensures ∙ w.0.taken)))
-    (λ w. rw w.1 (counted_no c.loop-i.invariant c.loop-i-test.true (sym c.crlf_at.ensures ∙ w.0.left)))
-    c.if-crlf_at.branch
+loop-i-preserved c = elim c.if-crlf_at.branch [
+  | then-crlf_at w ↦ rw w.n-is (counted_yes c.loop-i.invariant c.loop-i-test.true (sym c.crlf_at.ensures ∙ w.if-crlf_at.true))
+  | else-crlf_at w ↦ rw w.n-is (counted_no c.loop-i.invariant c.loop-i-test.true (sym c.crlf_at.ensures ∙ w.if-crlf_at.false))
+]
 
 pub returns : goal.returns
 returns c = counted_end c.loop-i.invariant c.loop-i-test.false
