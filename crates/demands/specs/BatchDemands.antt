@@ -14,7 +14,7 @@ pub data BatchDemands (rules : Rules) (input : List ℕ) : List ℕ → List ℕ
   last_part : {records b c : List ℕ} → length records < 9 → BatchDemands rules input records b c records b c
   -- "Refusals: 9 (demand 1 gains it), a start plus its length past the end of the input buffer, before all others, place, offset and lengths 0."
   -- "a refused record takes no room and does not stop those after it": its room is that of those after it
-  past_end_lem : {start₁ len₁ start₂ len₂ v w x y z : ℕ} {more b c more' b' c' : List ℕ} → (length input < start₁ + len₁) ⊎ (length input < start₂ + len₂)
+  past_end : {start₁ len₁ start₂ len₂ v w x y z : ℕ} {more b c more' b' c' : List ℕ} → (length input < start₁ + len₁) ⊎ (length input < start₂ + len₂)
       → BatchDemands rules input more b c more' b' c'
       → BatchDemands rules input (start₁ ∷ len₁ ∷ start₂ ∷ len₂ ∷ v ∷ w ∷ x ∷ y ∷ z ∷ more) b c (start₁ ∷ len₁ ∷ start₂ ∷ len₂ ∷ 9 ∷ 0 ∷ 0 ∷ 0 ∷ 0 ∷ more') b' c'
   -- "Each record's answer and bytes equal those of a single call given the room that is left", which answers r and leaves b₁ and c₁. "Outputs go one

@@ -9,7 +9,7 @@ use Rattle.batch.specs.BatchLaws.{by_range, after, fronted, batch_step, batch_en
 use Rattle.demands.specs.DemandsLaws.{demands}
 use Rattle.demands.specs.DeterminedLaws.{determined}
 use Rattle.demands.specs.BatchDemands.{BatchDemands}
-use Rattle.demands.specs.BatchDemands.BatchDemands.{last_part, past_end_lem, single}
+use Rattle.demands.specs.BatchDemands.BatchDemands.{last_part, past_end, single}
 
 -- a batch by its first record
 by_first_record : (rules : Rules) (input : List ℕ) (start₁ len₁ start₂ len₂ v w x y z : ℕ) (more b c : List ℕ)
@@ -38,8 +38,8 @@ batch_demands rules input (s ∷ l ∷ t ∷ m ∷ v ∷ w ∷ x ∷ y ∷ []) b
 batch_demands rules input (s ∷ l ∷ t ∷ m ∷ v ∷ w ∷ x ∷ y ∷ z ∷ more) b c =
     let first = by_first_record rules input s l t m v w x y z more b c in
     by_range rules input s l t m b c
-    (λ k q. rw (first, q) (past_end_lem {start₁ = s} {len₁ = l} {start₂ = t} {len₂ = m} (inl (omega arith)) (batch_demands rules input more b c)))
-    (λ k q. rw (first, q) (past_end_lem {start₁ = s} {len₁ = l} {start₂ = t} {len₂ = m} (inr (omega arith)) (batch_demands rules input more b c)))
+    (λ k q. rw (first, q) (past_end {start₁ = s} {len₁ = l} {start₂ = t} {len₂ = m} (inl (omega arith)) (batch_demands rules input more b c)))
+    (λ k q. rw (first, q) (past_end {start₁ = s} {len₁ = l} {start₂ = t} {len₂ = m} (inr (omega arith)) (batch_demands rules input more b c)))
     (λ k n q.
     let o = outcome rules (take l (drop s input)) (take m (drop t input)) b c in
     rw (first, q)
@@ -61,7 +61,7 @@ pub batch_determined : (rules : Rules) (input : List ℕ) {records b c records' 
     → afterwards records' b' c' ≡ batch rules input records b c
 unfolding after fronted answers range_refused
 batch_determined rules input (last_part {records} {b} {c} k) = sym (batch_end rules input records b c (omega arith))
-batch_determined rules input (past_end_lem {start₁} {len₁} {start₂} {len₂} {v} {w} {x} {y} {z} {more} {b} {c} past d) =
+batch_determined rules input (past_end {start₁} {len₁} {start₂} {len₂} {v} {w} {x} {y} {z} {more} {b} {c} past d) =
     let not_both : start₁ + len₁ ≤ length input → start₂ + len₂ ≤ length input → ⊥ = λ k l. ⊎_elim (λ m. omega arith) (λ m. omega arith) past in
     sym (rw (by_first_record rules input start₁ len₁ start₂ len₂ v w x y z more b c, outside rules input start₁ len₁ start₂ len₂ b c not_both, ← batch_determined rules input d))
 batch_determined rules input (single {start₁} {len₁} {start₂} {len₂} {v} {w} {x} {y} {z} {more} {b} {c} {b₁} {c₁} {more'} {b'} {c'} {r} k l one d) =

@@ -93,7 +93,7 @@ module _ (rules : Rules) (ascii : Bool) (p : List ℕ) where
 pub record AltTaken (rules : Rules) (ascii : Bool) (v : List ℕ) : Type 0 where
   pub allowed : T (allows_alternative rules)
   pub not_ascii : T (not ascii)
-  pub is_address_lem : T (is_alt_address v)
+  pub is_address : T (is_alt_address v)
 
 pub alt_taken : (rules : Rules) (ascii : Bool) (v : List ℕ) → value_fault rules ascii v ≡ Fine → AltTaken rules ascii v
 unfolding value_fault
@@ -101,7 +101,7 @@ alt_taken rules ascii v f =
     by_test (allows_alternative rules)
     (λ t. let g = rw (yes_true (allows_alternative rules) t) at f in
     by_test (not ascii && is_alt_address v)
-    (λ u. let b = and_yes (not ascii) (is_alt_address v) u in record { allowed = t; not_ascii = b.0; is_address_lem = b.1 })
+    (λ u. let b = and_yes (not ascii) (is_alt_address v) u in record { allowed = t; not_ascii = b.0; is_address = b.1 })
     (λ u. absurd (let q = rw (no_false (not ascii && is_alt_address v) u) at g in let z : ◌≡◌ {A = ℕ} 0 1 = cc in omega arith)))
     (λ t. absurd (let q = rw (no_false (allows_alternative rules) t) at f in let z : ◌≡◌ {A = ℕ} 0 1 = cc in omega arith))
 
