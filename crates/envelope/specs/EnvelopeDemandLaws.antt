@@ -292,8 +292,8 @@ passed_from rules (line ∷ more) n m k t a p =
 module _ (rules : Rules) (e : List ℕ) (m : ℕ) (p : checked rules e ≡ Passed m) where
   passed_whole : {Asked : List ℕ → Type 0} → EachAsked Asked 0 (lines e) → (1 ≤ m) × EnvelopeLines rules Asked (suc m) e (written e) (replacements e)
   unfolding checked
-  passed_whole a =
-      let w = rw (lines_joined e) at (passed_from rules (lines e) 0 m EnvelopeLines.none (each_end e) a p) in
+  passed_whole {Asked} a =
+      let w = rw (lines_joined e) at (passed_from rules {Asked = Asked} (lines e) 0 m EnvelopeLines.none (each_end e) a p) in
       let same = lines_passed w.1.2 (omega (arith, w.0)) in
       (w.0, rw (same.1, same.2) at w.1.2)
 
