@@ -254,7 +254,7 @@ def main(argv):
             o.write("\n".join((it.head if len(gone) == len(it.chunks) or f.endswith("Laws") else [f"-- Theorems on {f}.antt of specs/."]) + turn_uses(it.uses, c, "proofs") + extra) + "\n" + "\n".join("\n".join(it.chunks[k]) for k in gone) + "\n")
         if stay:
             with open(it.path, "w", encoding="utf-8") as o:
-                o.write("\n".join(it.head + turn_uses(it.uses, c, "specs")) + "\n" + "\n".join("\n".join(it.chunks[k]) for k in stay) + "\n")
+                o.write("\n".join(it.head + [u for u in turn_uses(it.uses, c, "specs") if not u.startswith(f"use Rattle.{c}.proofs.")]) + "\n" + "\n".join("\n".join(it.chunks[k]) for k in stay) + "\n")
         else:
             os.remove(it.path)
             lib = f"crates/{c}/specs/Lib.antt"

@@ -1,13 +1,3 @@
 pub mod PartTexts
 pub mod PartGrammar
 pub mod AddressField
-pub mod GrammarLaws
-pub mod PartGrammarLaws
-pub mod FoundLaws
-pub mod FittingLaws
-pub mod PartListLaws
-pub mod PhraseWordsLaws
-pub mod FormPartsLaws
-pub mod PartsFormLaws
-pub mod AddressFieldLaws
-pub mod ListCases

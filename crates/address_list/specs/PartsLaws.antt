@@ -11,7 +11,7 @@ use Rattle.line.specs.Line.{blank}
 use Rattle.address.specs.Address.{address_scan, scan_then, local_scan, dot_atom_scan, dot_atom_from}
 use Rattle.comment.specs.Comment.{comment_len}
 use Rattle.comment.specs.Parts.{parts, fits}
-use Rattle.comment.specs.CommentLaws.{comment_within}
+use Rattle.comment.proofs.CommentLaws.{comment_within}
 use Rattle.phrase.specs.Words.{capped, address_len, word_len, phrase_len}
 use Rattle.rules.specs.Rules.{allows_alternative}
 use Rattle.rules.specs.declared.Rules.{Rules}

@@ -11,7 +11,8 @@ use Rattle.lists.specs.ListsLaws.{by_test, cond_has, yes_true, no_false}
 use Rattle.rules.specs.declared.Rules.{Rules}
 use Rattle.call.specs.declared.Answer.{Answer}
 use Rattle.call.specs.Outcome.{Outcome, outcome, observed}
-use Rattle.call.specs.BoundLaws.{greatest32, Bounded, outcome_bounded, refused_bounded}
+use Rattle.call.specs.BoundLaws.{greatest32}
+use Rattle.call.proofs.BoundLaws.{Bounded, outcome_bounded, refused_bounded}
 use Rattle.batch.specs.Batch.{past_end, range, range_refused, range_outcome, record_outcome, answers, Batch, batch_of, batch, afterwards}
 
 -- ---- a record

@@ -6,7 +6,7 @@ use Prim.Native.Nat.{ℕ, zero, suc, ◌+◌, ◌*◌, ◌/◌, ◌≤◌, ◌<�
 use Rattle.std.proofs.Math.Seq.{take_at, drop-append-add}
 use Rattle.rules.specs.declared.Rules.{Rules}
 use Rattle.call.specs.Outcome.{Outcome}
-use Rattle.call.specs.BoundLaws.{Bounded}
+use Rattle.call.proofs.BoundLaws.{Bounded}
 use Rattle.batch.specs.Batch.{record_outcome, answers, Batch, batch_of, batch}
 use Rattle.batch.specs.BatchLaws.{record_bounded}
 use Rattle.batch.specs.BatchRecords.{from_record, total, used₁, used₂}

@@ -1,5 +1,4 @@
 pub mod BoundLaws
-pub mod NewFieldLaws
 pub mod Outcome
 pub mod OutcomeLaws
 pub mod OutgoingHeader

@@ -3,7 +3,7 @@ use Rattle.std.specs.Prelude.{◌≡◌, refl, List, [], ◌∷◌, ℕ, ◌≤�
 use Rattle.std.proofs.Common.{sym, ap, ◌∙◌, arith}
 use Rattle.rules.specs.declared.Rules.{Rules}
 use Rattle.outgoing_field.specs.Fate.{limited, held_of}
-use Rattle.outgoing_field.specs.FateLaws.{limited_short}
+use Rattle.outgoing_field.proofs.FateLaws.{limited_short}
 use Rattle.outgoing_field.specs.Most.{most_of}
 use Rattle.outgoing_header.specs.declared.HeaderVerdict.{HeaderVerdict}
 use Rattle.outgoing_header.specs.declared.HeaderVerdict.TheVariants.{Accept as HeaderAccept, Refuse as HeaderRefuse}
@@ -32,11 +32,6 @@ pub record RefusedBy (refusal : Refusal) (answer : Answer) : Type 0 where
   pub none₁ : answer.envelope_len ≡ 0
   pub none₂ : answer.header_len ≡ 0
 
-first_one : (v : Verdict) → first_of (v ∷ []) ≡ v
-unfolding first_of
-first_one Accept = refl
-first_one (Refuse refusal) = refl
-
 -- ---- a verdict with the most of a header, as code finds both
 
 unfoldable pub with_most : Verdict → ℕ → Content
@@ -46,29 +41,3 @@ with_most (Refuse refusal) most = Fails refusal
 unfoldable pub of_content : HeaderContent → Content
 of_content (HeaderPasses most) = Passes most
 of_content (HeaderFails refusal) = Fails (Header refusal)
-
-header_content : (v : HeaderVerdict) (n : ℕ) → of_content (header_with_most v n) ≡ with_most (of_header v) n
-unfolding of_content header_with_most with_most of_header
-header_content HeaderAccept n = refl
-header_content (HeaderRefuse refusal) n = refl
-
-pub with_passes : (v : Verdict) (n : ℕ) {m : ℕ} → with_most v n ≡ Passes m → (v ≡ Accept) × (m ≡ n)
-unfolding with_most
-with_passes Accept n {m} e = (refl, let k : m ≡ n = cc in k)
-with_passes (Refuse refusal) n e = absurd (let z : ◌≡◌ {A = ℕ} 0 1 = cc in omega arith)
-
-pub with_fails : (v : Verdict) (n : ℕ) {refusal : Refusal} → with_most v n ≡ Fails refusal → v ≡ Refuse refusal
-unfolding with_most
-with_fails Accept n e = absurd (let z : ◌≡◌ {A = ℕ} 0 1 = cc in omega arith)
-with_fails (Refuse r) n {refusal} e = let k : r ≡ refusal = cc in ap Refuse k
-
--- held fields of a header within its limit
-pub held_content : (rules : Rules) (h : List ℕ) {c : HeaderContent} {r : Content} → length h ≤ 32768
-    → c ≡ header_with_most (of_held h (held_of rules (limited h))) (most_of rules (limited h)) → r ≡ of_content c → r ≡ with_most (of_header (of_held h (held_of rules h))) (most_of rules h)
-held_content rules h s p q = q ∙ rw (p, limited_short h s) (header_content (of_held h (held_of rules h)) (most_of rules h))
-
--- where no ORCPT is refused the next verdict decides
-pub past_orcpt : (e : List ℕ) (n : ℕ) (next : Verdict) {o : Orcpt} {c : Content} → o ≡ orcpt_line e → o ≡ Clean → c ≡ with_most next n
-    → c ≡ with_most (first_of (of_orcpt e (orcpt_line e) ∷ next ∷ [])) n
-unfolding first_of of_orcpt
-past_orcpt e n next p k q = q ∙ rw (← p, k) (ap (λ v. with_most v n) (sym (first_one next)))

@@ -2,16 +2,5 @@ pub mod Downgraded
 pub mod HeaderGiven
 pub mod Demands
 pub mod ReadsBack
-pub mod KeptLaws
-pub mod RowsLaws
-pub mod HeaderLaws
-pub mod BecomesLaws
-pub mod DemandsLaws
-pub mod DeterminedLaws
-pub mod RoomLaws
-pub mod EnvelopeRoomLaws
 pub mod BatchDemands
-pub mod BatchDemandsLaws
 pub mod MailboxDemands
-pub mod MailboxDemandsLaws
-pub mod RowsThereLaws

@@ -11,7 +11,7 @@ use Rattle.line.specs.Line.{blank}
 use Rattle.utf8.specs.Utf8.{utf8}
 use Rattle.row.specs.Row.{row_after}
 use Rattle.row.specs.FieldRow.{FieldDemand3}
-use Rattle.row.specs.FieldRowLaws.{field_demand_3}
+use Rattle.row.proofs.FieldRowLaws.{field_demand_3}
 use Rattle.header_line.specs.Lines.{name_len}
 use Rattle.header.specs.Fields.{field_len, value_of}
 use Rattle.downgraded_field.specs.declared.FieldRead.TheVariants.{Text as FieldText}

@@ -15,7 +15,7 @@ use Rattle.utf8.specs.Utf8Laws.{utf8_ascii}
 use Rattle.row.specs.Row.{encodings}
 use Rattle.row.specs.Layout.{Word, word_bytes, Reads}
 use Rattle.row.specs.FieldRow.{OwnLines, SetAfter}
-use Rattle.row.specs.RoomsLaws.{AllProper, first_proper, rest_proper}
+use Rattle.row.proofs.RoomsLaws.{AllProper, first_proper, rest_proper}
 use Rattle.header_line.specs.Lines.{line_byte, name_byte, name_len, named_to, continuation, line_ok_to, lines_of}
 use Rattle.header.specs.Fields.{fold, field_len}
 use Rattle.header.specs.FieldLaws.{ends, len_cons, len_past}

@@ -23,7 +23,7 @@ use Rattle.row.specs.Row.{encodings}
 use Rattle.row.specs.Layout.{any_case_value, Adds, AddsIn, Word, word_bytes, Reads, added_text}
 use Rattle.row.specs.FieldRow.{OwnLines, SetAfter}
 use Rattle.row.specs.Demand3.{Proper}
-use Rattle.row.specs.RoomsLaws.{AllProper, first_proper, rest_proper}
+use Rattle.row.proofs.RoomsLaws.{AllProper, first_proper, rest_proper}
 use Rattle.header.specs.FieldShape.{without_breaks}
 use Rattle.word_reader.specs.Word.{is_word, added}
 use Rattle.word_grammar.specs.WordGrammar.{Decodes}

@@ -13,15 +13,15 @@ use Rattle.hex_digit.specs.Hex.{hex_digit}
 use Rattle.word_spelling.specs.Spelling.{closing, bare, spell_byte, spell}
 use Rattle.base64_digits.specs.Base64.{digit64, in_base64}
 use Rattle.base64_digits.specs.Reading.{is_digit64, value64}
-use Rattle.base64_digits.specs.Base64Laws.{is_base64, reads_only, all_base64}
+use Rattle.base64_digits.proofs.Base64Laws.{is_base64, reads_only, all_base64}
 use Rattle.row.specs.declared.Encoding.{Encoding}
 use Rattle.row.specs.declared.Encoding.TheVariants.{Q, B}
 use Rattle.row.specs.Word.{opening_in, spell_in, word}
 use Rattle.row.specs.Row.{encodings, runs, chosen, word_in, lines, row_in, row, runs_after, lines_after, row_after_in, row_after}
 use Rattle.row.specs.Demand3.{Demand3}
-use Rattle.row.specs.Demand3Laws.{runs_joined, demand_3}
+use Rattle.row.proofs.Demand3Laws.{runs_joined, demand_3}
 use Rattle.row.specs.FieldRow.{FieldDemand3}
-use Rattle.row.specs.FieldRowLaws.{runs_after_joined, field_demand_3}
+use Rattle.row.proofs.FieldRowLaws.{runs_after_joined, field_demand_3}
 use Rattle.mime_parameter.specs.Pieces.{pieces, has_room}
 use Rattle.mime_parameter.specs.LinesLaws as parameters
 use Rattle.mime_parameter.specs.Parameter2231.{ParameterDemand}

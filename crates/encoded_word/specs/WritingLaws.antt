@@ -21,10 +21,11 @@ use Rattle.row.specs.declared.Encoding.{Encoding}
 use Rattle.row.specs.declared.Encoding.TheVariants.{Q, B}
 use Rattle.row.specs.Word.{opening_in, spell_in, word}
 use Rattle.row.specs.Row.{encodings, holds, fits_room, row, row_after}
-use Rattle.row.specs.FitsLaws.{or_left, length_word_in}
+use Rattle.row.proofs.FitsLaws.{or_left, length_word_in}
 use Rattle.row.specs.WordEnd.{Span, WordEnd}
-use Rattle.row.specs.WordEndLaws.{span_none, span_join, between, word_small, row_end, first_step, first_none}
-use Rattle.row.specs.RowLaws.{row_after_none, length_row_after_le}
+use Rattle.row.specs.WordEndLaws.{between}
+use Rattle.row.proofs.WordEndLaws.{span_none, span_join, word_small, row_end, first_step, first_none}
+use Rattle.row.proofs.RowLaws.{row_after_none, length_row_after_le}
 use Rattle.word_choice.specs.Choice.{AlsoInQ}
 use Rattle.word_choice.specs.EndInQLaws.{Stepped, SoFarInQ, EndInQ, between_join, cost_join, q_start, word_in_q, rest_step, rest_more, rest_within}
 use Rattle.row_length.specs.LengthLaws.{stepped_ascii, stepped_join, stepped_high}

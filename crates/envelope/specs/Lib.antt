@@ -1,13 +1,4 @@
 pub mod Envelope
 pub mod LineStarts
-pub mod LinesLaws
 pub mod CheckLaws
-pub mod OrcptLaws
-pub mod PassedLaws
-pub mod WrittenLaws
-pub mod LengthLaws
-pub mod AsciiLaws
-pub mod ReplacementLaws
 pub mod EnvelopeDemand
-pub mod EnvelopeDemandLaws
-pub mod EnvelopeCases

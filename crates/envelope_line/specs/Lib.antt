@@ -1,11 +1,3 @@
 pub mod EnvelopeLine
 pub mod LineGrammar
-pub mod TailGrammarLaws
-pub mod LineGrammarLaws
-pub mod LineBytesLaws
-pub mod PathLaws
 pub mod FaultLaws
-pub mod WriteLaws
-pub mod AsciiLaws
-pub mod LengthLaws
-pub mod ReplacementLaws

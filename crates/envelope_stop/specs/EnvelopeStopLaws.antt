@@ -14,11 +14,11 @@ use Rattle.address.specs.declared.Scan.TheVariants.{To, Stop}
 use Rattle.parameter.specs.Parameter.{params, spaced, is_param, alts, alts_ok}
 use Rattle.envelope_line.specs.EnvelopeLine.{verb, verb_len, has_verb, path_scan, scan_end, is_to, path_len, has_path, tail, well_formed}
 use Rattle.line_stop.specs.FirstBad.{WithCrlf}
-use Rattle.line_stop.specs.FirstBadLaws.{first_none}
+use Rattle.line_stop.proofs.FirstBadLaws.{first_none}
 use Rattle.line_stop.specs.Scanner.{stop_from}
-use Rattle.line_stop.specs.ProductLaws.{Tells, Completes, line_stops, line_inside, line_alone}
+use Rattle.line_stop.proofs.ProductLaws.{Tells, Completes, line_stops, line_inside, line_alone}
 use Rattle.line_stop.specs.Word.{is_next}
-use Rattle.line_stop.specs.WordLaws.{begins, begins_is, begins_short, begins_more, begins_other, next_within, next_never, next_high}
+use Rattle.line_stop.proofs.WordLaws.{begins, begins_is, begins_short, begins_more, begins_other, next_within, next_never, next_high}
 use Rattle.path_stop.specs.declared.PathForm.{PathForm}
 use Rattle.path_stop.specs.declared.PathForm.TheVariants.{Start, Word, Atoms, Quoted, End, Domain, Literal, Closed, Off}
 use Rattle.path_stop.specs.PathStop.{path_step, is_closed, path_live, path_need}
@@ -27,7 +27,7 @@ use Rattle.path_stop.specs.PathNeedLaws.{path_tells}
 use Rattle.parameter_stop.specs.declared.Tail.{Tail}
 use Rattle.parameter_stop.specs.declared.Tail.TheVariants.{Start as TailStart}
 use Rattle.parameter_stop.specs.ParameterStop.{start_step, tail_step}
-use Rattle.parameter_stop.specs.ParameterStopLaws.{tail_rest, tail_is, tail_completes, tail_tells}
+use Rattle.parameter_stop.proofs.ParameterStopLaws.{tail_rest, tail_is, tail_completes, tail_tells}
 use Rattle.envelope_stop.specs.declared.Form.{Form}
 use Rattle.envelope_stop.specs.declared.Form.TheVariants.{Verb, Path, Params, Bad}
 use Rattle.envelope_stop.specs.EnvelopeStop.{well_formed_at, LineStop, verb_step, after_path, form_step, form_done, form_live, verb_need, form_need, form, scanner, start, line_stop}

@@ -20,8 +20,8 @@ use Rattle.structured_token.specs.declared.Kind.{Kind}
 use Rattle.structured_token.specs.declared.Kind.TheVariants as kind
 use Rattle.structured_token.specs.Tokens.{is_white, is_quote, is_plain, kind_of}
 use Rattle.structured_token.specs.Grammar.{Token}
-use Rattle.structured_token.specs.GrammarLaws.{token_taken, found}
-use Rattle.structured_token.specs.TokensLaws.{neither_first, neither_second}
+use Rattle.structured_token.proofs.GrammarLaws.{token_taken, found}
+use Rattle.structured_token.proofs.TokensLaws.{neither_first, neither_second}
 use Rattle.mime_parameter.specs.Extended.{is_token_byte}
 use Rattle.field_parameter.specs.Parameter.{is_value_byte, closed_len, value_len, ends_value, parameter_len, name_of, value_of, is_converted, converted_next}
 use Rattle.field_parameter.specs.Grammar.{Closed, ParameterValue, Ends, Parameter, standing, NoParameter}

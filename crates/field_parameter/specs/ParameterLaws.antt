@@ -13,7 +13,7 @@ use Rattle.lists.specs.ListsLaws.{by_test, cond_yes, cond_no, cond_has, yes_true
 use Rattle.lists.specs.Run.{run}
 use Rattle.lists.specs.RunLaws.{run_le}
 use Rattle.comment.specs.Comment.{run_to}
-use Rattle.comment.specs.CommentLaws.{run_within}
+use Rattle.comment.proofs.CommentLaws.{run_within}
 use Rattle.structured_token.specs.declared.Kind.{Kind}
 use Rattle.structured_token.specs.Tokens.{is_quote, kind_of}
 use Rattle.mime_parameter.specs.Extended.{is_token_byte}

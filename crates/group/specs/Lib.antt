@@ -1,5 +1,3 @@
 pub mod Trimmed
 pub mod Group
-pub mod GroupLaws
-pub mod TrimmedLaws
 pub mod NestingLaws

@@ -12,7 +12,7 @@ use Rattle.lists.specs.Run.{run}
 use Rattle.utf8.specs.Utf8.{utf8}
 use Rattle.line.specs.Line.{blank}
 use Rattle.header_line.specs.Lines.{line_byte, name_byte, name_len, named, continuation, well_formed}
-use Rattle.line_stop.specs.ProductLaws.{Tells, Completes, line_stops, line_inside, line_alone}
+use Rattle.line_stop.proofs.ProductLaws.{Tells, Completes, line_stops, line_inside, line_alone}
 use Rattle.header_stop.specs.declared.Form.{Form}
 use Rattle.header_stop.specs.declared.Form.TheVariants.{Start, Name, Body, Bad}
 use Rattle.header_stop.specs.HeaderStop.{LineStop, name_more, start_step, name_step, body_step, form_step, is_body, not_bad, form_need, form, line_stop}

@@ -1,11 +1,5 @@
 pub mod FirstBad
-pub mod FirstBadLaws
 pub mod Scanner
-pub mod ScannerLaws
-pub mod PlaceLaws
 pub mod CharScan
-pub mod CharScanLaws
 pub mod Product
-pub mod ProductLaws
 pub mod Word
-pub mod WordLaws

@@ -10,10 +10,6 @@ pub record Scanner (S : Type 0) : Type 0 where
   pub live : S → Bool
   pub need : S → ℕ
 
-abbrev pub after : {S : Type 0} → Scanner S → S → List ℕ → S
-after a s [] = s
-after a s (b ∷ l) = after a (a.step s b) l
-
 -- the last byte of a line: LF, after its CR
 unfoldable pub stop_lf : List ℕ → ℕ
 stop_lf [] = 0

@@ -13,7 +13,7 @@ use Rattle.lists.specs.Lists.{all, joined, nonempty}
 use Rattle.lists.specs.ListsLaws.{by_test, all_append, all_joined, all_mem, joined_append, some_nonempty}
 use Rattle.utf8.specs.Utf8.{is_char, chars, utf8}
 use Rattle.utf8.specs.Utf8Laws.{chars_joined, chars_of, utf8_of, utf8_bytes, char_some}
-use Rattle.cut.specs.CutLaws as cuts
+use Rattle.cut.proofs.CutLaws as cuts
 use Rattle.mime_parameter.specs.Extended.{extended}
 use Rattle.mime_parameter.specs.ExtendedLaws.{extended_reads}
 use Rattle.mime_parameter.specs.Pieces.{alone_label, part_label, line_fits, alone_piece, part_piece, fits, runs_from, numbered, parts, pieces, has_room}

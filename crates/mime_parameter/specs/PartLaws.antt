@@ -12,7 +12,7 @@ use Rattle.utf8.specs.Utf8.{char_len, chars}
 use Rattle.utf8.specs.Utf8Laws.{chars_at, chars_end, char_len_some}
 use Rattle.word_spelling.specs.HighCharLaws.{char_cut}
 use Rattle.cut.specs.Cut.{cut}
-use Rattle.cut.specs.CutLaws.{cut_more, cut_next}
+use Rattle.cut.proofs.CutLaws.{cut_more, cut_next}
 use Rattle.mime_parameter.specs.Extended.{extended}
 use Rattle.mime_parameter.specs.ExtendedLaws.{length_extended_append, length_extended}
 use Rattle.mime_parameter.specs.Pieces.{part_label, line_fits, part_piece, fits, runs_from, numbered, laid}

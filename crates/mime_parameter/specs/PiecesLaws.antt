@@ -6,7 +6,7 @@ use Rattle.lists.specs.Lists.{all, joined, nonempty}
 use Rattle.lists.specs.ListsLaws.{by_test, cond_yes, cond_no, joined_append}
 use Rattle.utf8.specs.Utf8.{chars}
 use Rattle.cut.specs.Cut.{cut}
-use Rattle.cut.specs.CutLaws.{AllFit, cut_joined, cut_some}
+use Rattle.cut.proofs.CutLaws.{AllFit, cut_joined, cut_some}
 use Rattle.mime_parameter.specs.Extended.{charset, extended}
 use Rattle.mime_parameter.specs.ExtendedLaws.{length_extended_append}
 use Rattle.mime_parameter.specs.Number.{decimal}

@@ -12,7 +12,7 @@ use Rattle.lists.specs.ListsLaws.{by_test, cond_has, true_yes, yes_true, no_fals
 use Rattle.buffer.specs.Buffer.{AppendedCapped, greatest}
 use Rattle.buffer.specs.BufferLaws.{capped_then, capped_same, length_added}
 use Rattle.hex_digit.specs.Hex.{hex_digit}
-use Rattle.hex_digit.specs.HexLaws.{upper_half, lower_half}
+use Rattle.hex_digit.proofs.HexLaws.{upper_half, lower_half}
 use Rattle.mime_parameter.specs.Extended.{is_attribute_char, extended_byte, extended, charset}
 use Rattle.mime_parameter.specs.ExtendedLaws.{byte_bare, byte_octet, extended_at, length_extended}
 use Rattle.mime_parameter.specs.Number.{decimal}

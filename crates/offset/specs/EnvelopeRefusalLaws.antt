@@ -16,24 +16,24 @@ use Rattle.lists.specs.RunLaws.{run_le}
 use Rattle.line.specs.Line.{crlf, line_len, not_cr}
 use Rattle.rules.specs.declared.Rules.{Rules}
 use Rattle.line_stop.specs.FirstBad.{FirstBad, WithCrlf, MalformedAt}
-use Rattle.line_stop.specs.FirstBadLaws.{first_once, first_formed}
+use Rattle.line_stop.proofs.FirstBadLaws.{first_once, first_formed}
 use Rattle.envelope_line.specs.declared.Fault.{Fault}
 use Rattle.envelope_line.specs.declared.Fault.TheVariants.{Fine, Malformed, NoAlternative, BadAlternative, RetiredAlternative}
 use Rattle.parameter.specs.Parameter.{params, keyword_len, alt, alt_place}
 use Rattle.envelope_line.specs.EnvelopeLine.{verb_len, well_formed, line_fault, orcpt_fault}
 use Rattle.envelope_line.specs.LineGrammar.{Line, value_byte, LineRefused}
-use Rattle.envelope_line.specs.FaultLaws.{well_formed_lem}
-use Rattle.envelope_line.specs.TailGrammarLaws.{value_place_lem, value_within}
-use Rattle.envelope_line.specs.LineGrammarLaws.{line_verb, line_tail, read_formed, formed_read, LineAnswer, unformed, line_answer, refused_fault, refused_exact as line_refused}
-use Rattle.envelope_line.specs.LineBytesLaws.{line_no_cr, written_no_cr, refused_no_cr, orcpt_exact as line_orcpt}
+use Rattle.envelope_line.proofs.FaultLaws.{well_formed_lem}
+use Rattle.envelope_line.proofs.TailGrammarLaws.{value_place_lem, value_within}
+use Rattle.envelope_line.proofs.LineGrammarLaws.{line_verb, line_tail, read_formed, formed_read, LineAnswer, unformed, line_answer, refused_fault, refused_exact as line_refused}
+use Rattle.envelope_line.proofs.LineBytesLaws.{line_no_cr, written_no_cr, refused_no_cr, orcpt_exact as line_orcpt}
 use Rattle.envelope.specs.declared.Checked.TheVariants.{Passed, Refused}
 use Rattle.envelope.specs.declared.Orcpt.TheVariants.{At}
 use Rattle.envelope.specs.Envelope.{lines, line_text, ended_fault, fault_of, fault_number, is_fine, counted, checked_from, checked, texts, orcpt_from, orcpt_line}
 use Rattle.envelope.specs.EnvelopeDemand.{WellFormedAt, Any, Ascii, EnvelopeLines}
-use Rattle.envelope.specs.LinesLaws.{text_front, text_ended, front_ended, line_whole, texts_end, texts_at_lem}
-use Rattle.envelope.specs.CheckLaws.{fine_is, checked_step, checked_stop}
-use Rattle.envelope.specs.PassedLaws.{checked_not_fine}
-use Rattle.envelope.specs.EnvelopeDemandLaws.{LinesFront, line_between, line_len_lem, text_found, texts_found, fault_found, no_lines, checked_past, orcpt_past, refused_front, orcpt_front}
+use Rattle.envelope.proofs.LinesLaws.{text_front, text_ended, front_ended, line_whole, texts_end, texts_at_lem}
+use Rattle.envelope.proofs.CheckLaws.{fine_is, checked_step, checked_stop}
+use Rattle.envelope.proofs.PassedLaws.{checked_not_fine}
+use Rattle.envelope.proofs.EnvelopeDemandLaws.{LinesFront, line_between, line_len_lem, text_found, texts_found, fault_found, no_lines, checked_past, orcpt_past, refused_front, orcpt_front}
 use Rattle.envelope_stop.specs.EnvelopeStop.{well_formed_at, line_stop}
 use Rattle.envelope_stop.specs.EnvelopeStopLaws.{line_stop_lem, line_stop_alone}
 use Rattle.offset.specs.Offset.{front_line, line_start, path_byte, alt_value_byte, orcpt_byte, line_at, fault_byte, fault_offset, orcpt_offset}

@@ -1,4 +1,3 @@
 pub mod HeaderContent
 pub mod HeaderOutcome
 pub mod HeaderOutcomeLaws
-pub mod HeaderBoundLaws

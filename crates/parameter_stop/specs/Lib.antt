@@ -1,2 +1,1 @@
 pub mod ParameterStop
-pub mod ParameterStopLaws

@@ -13,9 +13,9 @@ use Rattle.structured_token.specs.declared.Kind.{Kind}
 use Rattle.structured_token.specs.declared.Kind.TheVariants as kind
 use Rattle.structured_token.specs.Tokens.{is_white, kind_of, size_of, white_kind}
 use Rattle.structured_token.specs.Grammar.{Token}
-use Rattle.structured_token.specs.GrammarLaws.{token_taken, found}
+use Rattle.structured_token.proofs.GrammarLaws.{token_taken, found}
 use Rattle.structured_token.specs.Walk.{Front, walk, clear_of, becomes_of}
-use Rattle.structured_token.specs.WalkLaws as walks
+use Rattle.structured_token.proofs.WalkLaws as walks
 use Rattle.structured_field.specs.StructuredField.{clear, becomes}
 use Rattle.mime_parameter.specs.Pieces.{value_text, has_room}
 use Rattle.field_parameter.specs.Parameter.{parameter_len, is_converted, no_star, name_of, value_of, parameter_clear, converted_next}

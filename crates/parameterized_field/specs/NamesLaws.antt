@@ -3,7 +3,7 @@ use Rattle.std.specs.Prelude.{◌≡◌, refl, Bool, true, false, not, cond, ◌
 use Rattle.std.proofs.Common.{sym, ap, ◌∙◌, append_assoc, append-nil, arith, length-append, length-take}
 use Rattle.std.proofs.Math.Facts.{yes_and}
 use Rattle.buffer.specs.Buffer.{AppendedCapped, greatest}
-use Rattle.piece.specs.PieceLaws.{MadeIn, made_in}
+use Rattle.piece.proofs.PieceLaws.{MadeIn, made_in}
 use Rattle.lists.specs.CutBy.{cut_by}
 use Rattle.lists.specs.Lists.{all, joined}
 use Rattle.lists.specs.ListsLaws.{all_append, cond_has}

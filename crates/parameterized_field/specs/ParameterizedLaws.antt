@@ -9,14 +9,14 @@ use Rattle.utf8.specs.Utf8.{utf8}
 use Rattle.encoded_word.specs.Segments.{Segment, rendered, sound}
 use Rattle.encoded_word.specs.Segments.Segment.{raw, parameter}
 use Rattle.encoded_word.specs.SegmentsLaws.{rendered_append}
-use Rattle.field.specs.FieldLaws.{named_sound, length_named}
-use Rattle.piece.specs.PieceLaws.{rendered_one}
-use Rattle.structured_token.specs.BoundaryLaws.{token_both}
-use Rattle.structured_token.specs.GrammarLaws.{token_taken}
+use Rattle.field.proofs.FieldLaws.{named_sound, length_named}
+use Rattle.piece.proofs.PieceLaws.{rendered_one}
+use Rattle.structured_token.proofs.BoundaryLaws.{token_both}
+use Rattle.structured_token.proofs.GrammarLaws.{token_taken}
 use Rattle.structured_token.specs.Walk.{Value}
 use Rattle.structured_field.specs.StructuredField.{becomes}
-use Rattle.structured_field.specs.StructuredFieldLaws.{token_sound, token_le}
-use Rattle.structured_field.specs.ValueLaws.{RuleSound, value_sound, RuleShort, value_le}
+use Rattle.structured_field.proofs.StructuredFieldLaws.{token_sound, token_le}
+use Rattle.structured_field.proofs.ValueLaws.{RuleSound, value_sound, RuleShort, value_le}
 use Rattle.mime_parameter.specs.Pieces.{value_text, has_room, parameter_lines}
 use Rattle.mime_parameter.specs.LinesLaws.{lines_le, text_utf8, length_text, text_some}
 use Rattle.field_parameter.specs.Grammar.{standing}

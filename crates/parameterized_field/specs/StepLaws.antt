@@ -12,7 +12,7 @@ use Rattle.encoded_word.specs.SegmentsLaws.{rendered_append}
 use Rattle.structured_token.specs.declared.Kind.{Kind}
 use Rattle.structured_token.specs.Tokens.{kind_of, size_of, Took}
 use Rattle.structured_token.specs.Walk.{Front, walk, clear_of, becomes_of}
-use Rattle.structured_token.specs.WalkLaws.{walk_nil, walk_front}
+use Rattle.structured_token.proofs.WalkLaws.{walk_nil, walk_front}
 use Rattle.structured_field.specs.StructuredField.{clear}
 use Rattle.field_parameter.specs.Parameter.{parameter_len, is_converted, parameter_clear}
 use Rattle.parameterized_field.specs.declared.State.{State}

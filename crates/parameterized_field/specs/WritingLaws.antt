@@ -15,10 +15,10 @@ use Rattle.buffer.specs.Buffer.{AppendedCapped, greatest}
 use Rattle.buffer.specs.BufferLaws.{capped_none, capped_then, capped_same}
 use Rattle.encoded_word.specs.Segments.{Segment, rendered}
 use Rattle.encoded_word.specs.Segments.Segment.{raw, parameter}
-use Rattle.field.specs.FieldLaws.{named_added}
+use Rattle.field.proofs.FieldLaws.{named_added}
 use Rattle.comment.specs.Parts.{parts}
 use Rattle.piece.specs.Piece.{fitting}
-use Rattle.piece.specs.PieceLaws.{rendered_one, fitting_short, MadeIn, made_in}
+use Rattle.piece.proofs.PieceLaws.{rendered_one, fitting_short, MadeIn, made_in}
 use Rattle.structured_token.specs.declared.Kind.{Kind}
 use Rattle.structured_token.specs.Tokens.{comment_kind, white_kind}
 use Rattle.structured_field.specs.StructuredField.{part_segments, clear, becomes}

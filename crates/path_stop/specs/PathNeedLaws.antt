@@ -11,9 +11,9 @@ use Rattle.lists.specs.ListsLaws.{by_test, cond_has, yes_true, no_false}
 use Rattle.lists.specs.Byte.{within}
 use Rattle.letter_case.specs.LetterCase.{bytes, lower}
 use Rattle.address.specs.Address.{is_atext, is_atom_byte, is_quoted_byte, is_literal_byte}
-use Rattle.line_stop.specs.ProductLaws.{Tells}
+use Rattle.line_stop.proofs.ProductLaws.{Tells}
 use Rattle.line_stop.specs.Word.{is_next}
-use Rattle.line_stop.specs.WordLaws.{next_never, next_high}
+use Rattle.line_stop.proofs.WordLaws.{next_never, next_high}
 use Rattle.path_stop.specs.declared.PathForm.{PathForm}
 use Rattle.path_stop.specs.declared.PathForm.TheVariants.{Start, Word, Atoms, Quoted, End, Domain, Literal, Closed, Off}
 use Rattle.path_stop.specs.PathStop.{end_step, atoms_step, quoted_step, literal_step, domain_step, local_step, word_step, start_step, path_step, is_closed, path_live, word_need, atoms_need, path_need, path}

@@ -20,9 +20,9 @@ use Rattle.address.specs.declared.Scan.{Scan}
 use Rattle.address.specs.declared.Scan.TheVariants.{To, Stop}
 use Rattle.address.specs.Address.{later, byte_then, scan_then, is_atext, is_atom_byte, is_quoted_byte, is_literal_byte, dot_atom_end, dot_atom_from, dot_atom_scan, quoted_from, quoted_scan, literal_from, literal_scan, domain_scan, local_scan, address_scan}
 use Rattle.envelope_line.specs.EnvelopeLine.{path_scan}
-use Rattle.envelope_line.specs.LineGrammarLaws.{lower_mark}
+use Rattle.envelope_line.proofs.LineGrammarLaws.{lower_mark}
 use Rattle.line_stop.specs.Word.{is_next}
-use Rattle.line_stop.specs.WordLaws.{begins, begins_is, begins_short, begins_more, begins_other}
+use Rattle.line_stop.proofs.WordLaws.{begins, begins_is, begins_short, begins_more, begins_other}
 use Rattle.path_stop.specs.declared.PathForm.{PathForm}
 use Rattle.path_stop.specs.declared.PathForm.TheVariants.{Start, Word, Atoms, Quoted, End, Domain, Literal, Closed, Off}
 use Rattle.path_stop.specs.PathStop.{end_step, atoms_step, quoted_step, literal_step, domain_step, local_step, word_step, start_step, path_step, is_closed}

@@ -1,4 +1,2 @@
 pub mod Piece
-pub mod PieceLaws
 pub mod CommentPieces
-pub mod CommentPiecesLaws

@@ -17,10 +17,10 @@ use Rattle.downgraded_row.specs.ReadBackLaws.{WrittenFields, reads_back}
 use Rattle.demands.specs.Downgraded.{Downgraded, HeaderBecomes}
 use Rattle.demands.specs.Downgraded.HeaderBecomes.{all_become}
 use Rattle.demands.specs.Demands.{KeptPast, Demands}
-use Rattle.demands.specs.DemandsLaws.{downgraded_passes, downgraded_segments}
+use Rattle.demands.proofs.DemandsLaws.{downgraded_passes, downgraded_segments}
 use Rattle.demands.specs.MailboxDemands.{MailboxDemands}
-use Rattle.demands.specs.HeaderLaws.{lines_header}
-use Rattle.demands.specs.BecomesLaws.{fields_exact}
+use Rattle.demands.proofs.HeaderLaws.{lines_header}
+use Rattle.demands.proofs.BecomesLaws.{fields_exact}
 use Rattle.read_back.specs.ReadBack.{ReadsBack}
 use Rattle.read_back.specs.Calls.{outcome_after}
 use Rattle.read_back.specs.CallsLaws.{call_at, call_is}

@@ -27,7 +27,7 @@ use Rattle.field_method.specs.declared.Method.{Method}
 use Rattle.field_method.specs.declared.Method.TheVariants.{Pieces, PlainText, Encapsulated, Received, CommentsOrHeld, CommentsOrEncapsulated, Parameters, Held}
 use Rattle.field_method.specs.FieldMethod.{method_of}
 use Rattle.field.specs.Field.{labelled_field, prefix, encoded_field, named}
-use Rattle.field.specs.FieldLaws.{named_bytes}
+use Rattle.field.proofs.FieldLaws.{named_bytes}
 use Rattle.address_list.specs.Parts.{parts_of}
 use Rattle.address_list.specs.Table.{examined}
 use Rattle.address_list.specs.declared.Examined.{Examined}
@@ -41,7 +41,7 @@ use Rattle.parameterized_field.specs.Value.{start, segments_from, parameterized_
 use Rattle.outgoing_field.specs.Fate.{Fate, comments_or_encapsulated, holds, method_written, method_fate, fate_of, segments_of, field_segments, header_segments}
 use Rattle.outgoing_field.specs.Fate.Fate.{held, written}
 use Rattle.envelope.specs.Envelope.{checked, mail_replacement, rcpt_replacement}
-use Rattle.envelope.specs.ReplacementLaws.{mail_replacement_utf8, rcpt_replacement_utf8}
+use Rattle.envelope.proofs.ReplacementLaws.{mail_replacement_utf8, rcpt_replacement_utf8}
 use Rattle.envelope.specs.declared.Checked.TheVariants.{Passed}
 use Rattle.call.specs.OutgoingHeader.{new_field, new_fields, outgoing_segments}
 use Rattle.downgraded_row.specs.RowLinesLaws.{Label}

@@ -1,10 +1,2 @@
 pub mod Received
 pub mod Grammar
-pub mod GrammarLaws
-pub mod LinesLaws
-pub mod RowLinesLaws
-pub mod CommentLinesLaws
-pub mod TokenLaws
-pub mod PassesLaws
-pub mod WritingLaws
-pub mod ReceivedLaws

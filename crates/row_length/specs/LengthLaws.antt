@@ -13,10 +13,11 @@ use Rattle.word_spelling.specs.FirstCharsLaws.{cost_in_lem}
 use Rattle.row.specs.declared.Encoding.{Encoding}
 use Rattle.row.specs.Word.{spell_in, word}
 use Rattle.row.specs.Row.{row, row_after}
-use Rattle.row.specs.FitsLaws.{length_word_in}
+use Rattle.row.proofs.FitsLaws.{length_word_in}
 use Rattle.row.specs.WordEnd.{Span, WordEnd}
-use Rattle.row.specs.WordEndLaws.{span_char, span_join, between, row_end, first_step, first_none}
-use Rattle.row.specs.RowLaws.{row_after_none}
+use Rattle.row.specs.WordEndLaws.{between}
+use Rattle.row.proofs.WordEndLaws.{span_char, span_join, row_end, first_step, first_none}
+use Rattle.row.proofs.RowLaws.{row_after_none}
 use Rattle.word_choice.specs.EndInQLaws.{Stepped, WordAt, cost_join, word_at_small, rest_step, rest_more, rest_within}
 
 -- ---- characters

@@ -1,7 +1,2 @@
 pub mod StructuredField
 pub mod Grammar
-pub mod GrammarLaws
-pub mod ValueLaws
-pub mod StructuredFieldLaws
-pub mod CalmLaws
-pub mod WritingLaws

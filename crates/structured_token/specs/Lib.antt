@@ -1,9 +1,3 @@
 pub mod Tokens
-pub mod TokensLaws
 pub mod Walk
-pub mod WalkLaws
 pub mod Grammar
-pub mod GrammarLaws
-pub mod ValueLaws
-pub mod TokenCases
-pub mod BoundaryLaws

@@ -1,3 +1,1 @@
 pub mod UndisclosedRecipients
-pub mod FirstLineLaws
-pub mod UndisclosedRecipientsLaws

@@ -10,13 +10,14 @@ use Rattle.lists.specs.Lists.{joined}
 use Rattle.lists.specs.ListsLaws.{by_test, yes_true, no_false}
 use Rattle.utf8.specs.Utf8.{char_len, chars}
 use Rattle.utf8.specs.Utf8Laws.{chars_at, chars_end, chars_joined, char_len_some}
-use Rattle.base64_digits.specs.Base64Laws.{length_base64}
+use Rattle.base64_digits.proofs.Base64Laws.{length_base64}
 use Rattle.word_spelling.specs.Cost.{cost}
 use Rattle.word_spelling.specs.SpellingLaws.{length_spell}
 use Rattle.row.specs.declared.Encoding.TheVariants.{Q, B}
 use Rattle.row.specs.Row.{holds}
 use Rattle.row.specs.WordEnd.{Span, WordEnd}
-use Rattle.row.specs.WordEndLaws.{span_none, span_char, span_join, length_span, between, word_end_b}
+use Rattle.row.specs.WordEndLaws.{between}
+use Rattle.row.proofs.WordEndLaws.{span_none, span_char, span_join, length_span, word_end_b}
 use Rattle.word_choice.specs.Choice.{AlsoInQ}
 use Rattle.word_choice.specs.Block.{other, count, surely_in_q}
 use Rattle.word_choice.specs.BlockLaws.{count_front, others_cost, highs_cost, cost_front}

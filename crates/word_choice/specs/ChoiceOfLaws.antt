@@ -14,9 +14,9 @@ use Rattle.row.specs.declared.Encoding.{Encoding}
 use Rattle.row.specs.declared.Encoding.TheVariants.{Q, B}
 use Rattle.row.specs.Row.{holds}
 use Rattle.row.specs.Choice.{held, holds_more}
-use Rattle.row.specs.ChoiceLaws.{run_taken, more_in_b}
+use Rattle.row.proofs.ChoiceLaws.{run_taken, more_in_b}
 use Rattle.row.specs.WordEnd.{Span, WordEnd}
-use Rattle.row.specs.WordEndLaws.{length_span}
+use Rattle.row.proofs.WordEndLaws.{length_span}
 use Rattle.word_choice.specs.declared.Choice.{Choice}
 use Rattle.word_choice.specs.declared.Choice.TheVariants.{InQ, InB}
 use Rattle.word_choice.specs.Choice.{AlsoInQ, Chosen, choice_in, choice_of}

@@ -6,7 +6,7 @@ use Rattle.std.proofs.Math.Facts.{leb_no}
 use Rattle.lists.specs.ListsLaws.{by_test}
 use Rattle.utf8.specs.Utf8.{char_len, chars}
 use Rattle.utf8.specs.Utf8Laws.{chars_at, chars_end, char_len_some}
-use Rattle.base64_digits.specs.Base64Laws.{length_base64}
+use Rattle.base64_digits.proofs.Base64Laws.{length_base64}
 use Rattle.word_spelling.specs.Spelling.{spell}
 use Rattle.word_spelling.specs.Cost.{cost}
 use Rattle.word_spelling.specs.SpellingLaws.{length_spell_append}
@@ -16,7 +16,8 @@ use Rattle.row.specs.declared.Encoding.TheVariants.{Q, B}
 use Rattle.row.specs.Word.{spell_in, word}
 use Rattle.row.specs.Row.{holds, row, row_after}
 use Rattle.row.specs.WordEnd.{Span, WordEnd}
-use Rattle.row.specs.WordEndLaws.{span_none, span_char, span_join, between, word_end_q, word_small, line_step, line_more}
+use Rattle.row.specs.WordEndLaws.{between}
+use Rattle.row.proofs.WordEndLaws.{span_none, span_char, span_join, word_end_q, word_small, line_step, line_more}
 use Rattle.word_choice.specs.Choice.{AlsoInQ, Chosen}
 use Rattle.word_choice.specs.declared.Choice.{Choice}
 use Rattle.word_choice.specs.declared.Choice.TheVariants.{InQ, InB}

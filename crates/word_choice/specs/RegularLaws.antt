@@ -10,7 +10,7 @@ use Rattle.utf8.specs.Utf8.{char_len, continues, chars}
 use Rattle.utf8.specs.Utf8Laws.{chars_at}
 use Rattle.row.specs.declared.Encoding.TheVariants.{B}
 use Rattle.row.specs.WordEnd.{Span, WordEnd}
-use Rattle.row.specs.WordEndLaws.{span_none, span_char, span_join}
+use Rattle.row.proofs.WordEndLaws.{span_none, span_char, span_join}
 use Rattle.word_choice.specs.Block.{count}
 use Rattle.word_choice.specs.BlockLaws.{placed, Regular, step_back}
 use Rattle.word_choice.specs.ChoiceLaws.{bytes_in_b, FullInB, word_in_b, highs_over}

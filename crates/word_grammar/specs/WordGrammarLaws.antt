@@ -18,7 +18,7 @@ use Rattle.letter_case.specs.LetterCase.{bytes, lower, same_any_case}
 use Rattle.utf8.specs.Utf8.{utf8}
 use Rattle.base64_digits.specs.Reading.{is_digit64, value64, from_quad, from_three, from_two, from_last, together, from_base64}
 use Rattle.base64_digits.specs.Grammar.{FromBase64}
-use Rattle.base64_digits.specs.GrammarLaws.{grammar_read, read_grammar}
+use Rattle.base64_digits.proofs.GrammarLaws.{grammar_read, read_grammar}
 use Rattle.row.specs.declared.Encoding.{Encoding}
 use Rattle.row.specs.declared.Encoding.TheVariants.{Q, B}
 use Rattle.row.specs.Layout.{any_case_value, Adds, AddsIn}

@@ -1,4 +1,3 @@
 pub mod Xtext
 pub mod XtextLaws
 pub mod Grammar
-pub mod GrammarLaws

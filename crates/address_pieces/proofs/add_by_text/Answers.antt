@@ -1,4 +1,4 @@
-use Rattle.address_pieces.specs.WritingLaws.{by_examined, by_encoded, by_kept}
+use Rattle.address_pieces.proofs.WritingLaws.{by_examined, by_encoded, by_kept}
 use borrow.Author.Rules.{rules}
 use Rattle.address_pieces.proofs.add_by_text.Goals as goal
 

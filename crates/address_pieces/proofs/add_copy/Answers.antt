@@ -1,4 +1,4 @@
-use Rattle.address_pieces.specs.WritingLaws.{copy_added, copy_none}
+use Rattle.address_pieces.proofs.WritingLaws.{copy_added, copy_none}
 use Rattle.address_pieces.specs.AddressField.{adds_copy}
 use Rattle.rules.specs.declared.Rules.{Rules}
 use native.Mathlib.Omega.{arith}

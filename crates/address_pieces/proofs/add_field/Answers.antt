@@ -1,5 +1,5 @@
 use lib.ListN.{length}
-use Rattle.piece.specs.PieceLaws.{served}
+use Rattle.piece.proofs.PieceLaws.{served}
 use native.Mathlib.Omega.{arith}
 use borrow.Author.Rules.{rules}
 use Rattle.address_pieces.proofs.add_field.Goals as goal

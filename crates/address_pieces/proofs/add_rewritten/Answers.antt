@@ -1,4 +1,4 @@
-use Rattle.address_pieces.specs.WritingLaws.{rewritten_added}
+use Rattle.address_pieces.proofs.WritingLaws.{rewritten_added}
 use native.Mathlib.Omega.{arith}
 use borrow.Author.Rules.{rules}
 use Rattle.address_pieces.proofs.add_rewritten.Goals as goal

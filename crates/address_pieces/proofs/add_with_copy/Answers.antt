@@ -1,4 +1,4 @@
-use Rattle.address_pieces.specs.WritingLaws.{with_copy}
+use Rattle.address_pieces.proofs.WritingLaws.{with_copy}
 use native.Mathlib.Omega.{arith}
 use borrow.Author.Rules.{rules}
 use Rattle.address_pieces.proofs.add_with_copy.Goals as goal

@@ -1,4 +1,4 @@
-use Rattle.base64_digits.specs.WritingLaws.{group_then, group_length, filled, base64_end}
+use Rattle.base64_digits.proofs.WritingLaws.{group_then, group_length, filled, base64_end}
 use Rattle.base64_digits.specs.Base64.{in_base64}
 use Rattle.buffer.specs.BufferLaws.{length_appended, capped_start, capped_turn, capped_end, length_capped}
 use Rattle.buffer.specs.Buffer.{ReachedCapped}

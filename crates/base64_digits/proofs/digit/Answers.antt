@@ -1,4 +1,4 @@
-use Rattle.base64_digits.specs.WritingLaws.{digits_at}
+use Rattle.base64_digits.proofs.WritingLaws.{digits_at}
 use native.Mathlib.Omega.{arith}
 use borrow.Author.Rules.{rules}
 use Rattle.base64_digits.proofs.digit.Goals as goal

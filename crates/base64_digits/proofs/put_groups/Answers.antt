@@ -1,4 +1,4 @@
-use Rattle.base64_digits.specs.WritingLaws.{base64_quad, base64_two, base64_one, base64_end}
+use Rattle.base64_digits.proofs.WritingLaws.{base64_quad, base64_two, base64_one, base64_end}
 use Rattle.base64_digits.specs.Base64.{in_base64, base64_length}
 use Rattle.buffer.specs.BufferLaws.{reached_start, reached_then, reached_last, reached_end, length_appended, length_reached}
 use Rattle.buffer.specs.Buffer.{Reached}

@@ -1,5 +1,5 @@
 use Rattle.base64_digits.specs.Base64.{in_base64}
-use Rattle.base64_digits.specs.WritingLaws.{five_quads}
+use Rattle.base64_digits.proofs.WritingLaws.{five_quads}
 use Rattle.buffer.specs.BufferLaws.{length_appended}
 use native.Mathlib.Omega.{arith}
 use borrow.Author.Rules.{rules}

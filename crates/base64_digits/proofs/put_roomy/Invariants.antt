@@ -1,4 +1,4 @@
-use Rattle.base64_digits.specs.WritingLaws.{five_then, five_bytes, five_length, rest_from}
+use Rattle.base64_digits.proofs.WritingLaws.{five_then, five_bytes, five_length, rest_from}
 use Rattle.base64_digits.specs.Base64.{in_base64, base64_length}
 use Rattle.buffer.specs.BufferLaws.{reached_start, reached_then, reached_last, length_appended, length_reached}
 use Rattle.buffer.specs.Buffer.{Reached}

@@ -3,7 +3,7 @@ use mathlib.Core.Path.{ap, ◌∙◌}
 use mathlib.Core.List.{[], ◌∷◌}
 use lib.ListN.{length-set}
 use Rattle.base64_digits.specs.Base64.{digit64, in_base64}
-use Rattle.base64_digits.specs.WritingLaws.{sixes_of_two}
+use Rattle.base64_digits.proofs.WritingLaws.{sixes_of_two}
 use Rattle.buffer.specs.BufferLaws.{stores, appended_stores}
 use borrow.Author.Rules.{rules}
 use Rattle.base64_digits.proofs.put_two.Goals as goal

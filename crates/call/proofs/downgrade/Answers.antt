@@ -1,5 +1,5 @@
 use mathlib.Core.Path.{refl, sym, ◌∙◌}
-use Rattle.call.specs.OutputLaws.{refused_observed, envelope_over, header_over, envelope_line_lem, to_ready}
+use Rattle.call.proofs.OutputLaws.{refused_observed, envelope_over, header_over, envelope_line_lem, to_ready}
 use borrow.Author.Rules.{rules}
 use Rattle.call.proofs.downgrade.Goals as goal
 

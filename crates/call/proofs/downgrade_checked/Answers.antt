@@ -1,5 +1,5 @@
-use Rattle.call.specs.OutputLaws.{refused_observed, content_refused}
-use Rattle.call.specs.OutcomeLaws.{with_passes, with_fails}
+use Rattle.call.proofs.OutputLaws.{refused_observed, content_refused}
+use Rattle.call.proofs.OutcomeLaws.{with_passes, with_fails}
 use mathlib.Core.Path.{sym, ◌∙◌}
 use borrow.Author.Rules.{rules}
 use Rattle.call.proofs.downgrade_checked.Goals as goal

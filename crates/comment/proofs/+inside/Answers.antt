@@ -1,5 +1,6 @@
 use Rattle.std.proofs.Common.{◌≡◌, ◌≤◌, length, refl, sym, ◌∙◌, arith}
-use Rattle.comment.specs.CommentLaws.{close_at, close_end, run_unclosed, run_opens, run_closes_last, nested_none, nested_some, nested_beyond}
+use Rattle.comment.specs.CommentLaws.{close_at}
+use Rattle.comment.proofs.CommentLaws.{close_end, run_unclosed, run_opens, run_closes_last, nested_none, nested_some, nested_beyond}
 use Rattle.comment.proofs.+inside.Goals as goal
 
 pub returns-then-s-p : goal.returns-then-s-p

@@ -1,7 +1,7 @@
 use mathlib.Core.Path.{sym}
 use native.Mathlib.Omega.{arith}
 use borrow.Author.Rules.{rules}
-use Rattle.comment.specs.CommentLaws.{comment_over, comment_other, comment_none, comment_some}
+use Rattle.comment.proofs.CommentLaws.{comment_over, comment_other, comment_none, comment_some}
 use Rattle.comment.proofs.comment_end.Goals as goal
 
 pub returns-then-s-at : goal.returns-then-s-at

@@ -4,7 +4,8 @@ use mathlib.Core.Path.{◌≡◌, refl, sym, ◌∙◌}
 use lib.ListN.{length}
 use native.Mathlib.Omega.{arith}
 use borrow.Author.Rules.{rules}
-use Rattle.comment.specs.CommentLaws.{close_at, close_end, run_unclosed, run_opens, run_closes, run_closes_last}
+use Rattle.comment.specs.CommentLaws.{close_at}
+use Rattle.comment.proofs.CommentLaws.{close_end, run_unclosed, run_opens, run_closes, run_closes_last}
 use Rattle.comment.proofs.counted.Given as goal
 
 abbrev pub invariant-loop-i : goal.invariant-loop-i

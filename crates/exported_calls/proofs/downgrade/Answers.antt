@@ -1,4 +1,4 @@
-use Rattle.demands.specs.DemandsLaws.{met}
+use Rattle.demands.proofs.DemandsLaws.{met}
 use borrow.Author.Rules.{rules}
 use Rattle.exported_calls.proofs.downgrade.Goals as goal
 

@@ -1,4 +1,4 @@
-use Rattle.demands.specs.BatchDemandsLaws.{batch_met}
+use Rattle.demands.proofs.BatchDemandsLaws.{batch_met}
 use borrow.Author.Rules.{rules}
 use Rattle.exported_calls.proofs.downgrade_batch.Goals as goal
 

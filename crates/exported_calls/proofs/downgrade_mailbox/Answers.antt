@@ -1,4 +1,4 @@
-use Rattle.demands.specs.MailboxDemandsLaws.{mailbox_met}
+use Rattle.demands.proofs.MailboxDemandsLaws.{mailbox_met}
 use borrow.Author.Rules.{rules}
 use Rattle.exported_calls.proofs.downgrade_mailbox.Goals as goal
 

@@ -1,5 +1,5 @@
 use Rattle.row.specs.Row.{bounded}
-use Rattle.field.specs.FieldLaws.{label_added, labelled_added, column_label, encoded_added}
+use Rattle.field.proofs.FieldLaws.{label_added, labelled_added, column_label, encoded_added}
 use native.Mathlib.Omega.{arith}
 use borrow.Author.Rules.{rules}
 use Rattle.field.proofs.add_encoded.Goals as goal

@@ -1,4 +1,4 @@
-use Rattle.field.specs.FieldLaws.{labelled_added}
+use Rattle.field.proofs.FieldLaws.{labelled_added}
 use native.Mathlib.Omega.{arith}
 use borrow.Author.Rules.{rules}
 use Rattle.field.proofs.add_labelled.Goals as goal

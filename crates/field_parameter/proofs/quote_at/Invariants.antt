@@ -1,4 +1,4 @@
-use Rattle.comment.specs.CommentLaws.{run_more, run_stop, run_over}
+use Rattle.comment.proofs.CommentLaws.{run_more, run_stop, run_over}
 use Rattle.comment.specs.Comment.{run_to}
 use Rattle.structured_token.specs.Tokens.{is_quote}
 use borrow.Author.Rules.{rules}

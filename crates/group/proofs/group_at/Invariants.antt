@@ -1,4 +1,4 @@
-use Rattle.group.specs.GroupLaws.{Passing, passing_start, passing_next, passing_end, passing_over}
+use Rattle.group.proofs.GroupLaws.{Passing, passing_start, passing_next, passing_end, passing_over}
 use lib.ListN.{length}
 use borrow.Author.Rules.{rules}
 use native.Mathlib.Omega.{arith}

@@ -1,4 +1,4 @@
-use Rattle.group.specs.GroupLaws.{next_group, next_whole, next_other}
+use Rattle.group.proofs.GroupLaws.{next_group, next_whole, next_other}
 use native.Mathlib.Omega.{arith}
 use mathlib.Core.Path.{refl, sym, ◌∙◌}
 use borrow.Author.Rules.{rules}

@@ -1,4 +1,4 @@
-use Rattle.group.specs.GroupLaws.{next_past, no_turn_lem}
+use Rattle.group.proofs.GroupLaws.{next_past, no_turn_lem}
 use Rattle.group.specs.Group.{no_turn}
 use native.Mathlib.Omega.{arith}
 use mathlib.Core.Path.{refl}

@@ -1,6 +1,6 @@
 use Rattle.header_stop.specs.HeaderStop.{scanner, start, line_stop}
-use Rattle.line_stop.specs.ProductLaws.{both_same}
-use Rattle.line_stop.specs.PlaceLaws.{Scanned, scan_none, scan_end_lem, scan_cr_bad, scan_cr, scan_bad, scan_next}
+use Rattle.line_stop.proofs.ProductLaws.{both_same}
+use Rattle.line_stop.proofs.PlaceLaws.{Scanned, scan_none, scan_end_lem, scan_cr_bad, scan_cr, scan_bad, scan_next}
 use mathlib.Core.Path.{sym, ◌∙◌}
 use Prim.Native.Nat.{◌-◌}
 use native.Mathlib.Omega.{arith}

@@ -1,4 +1,4 @@
-use Rattle.hex_digit.specs.HexLaws.{in_range, value_decimal, value_letter, value_other}
+use Rattle.hex_digit.proofs.HexLaws.{in_range, value_decimal, value_letter, value_other}
 use borrow.Author.Rules.{rules}
 use Rattle.hex_digit.proofs.value.Goals as goal
 

@@ -1,4 +1,4 @@
-use Rattle.line_stop.specs.PlaceLaws.{lf_yes, lf_no, lf_end}
+use Rattle.line_stop.proofs.PlaceLaws.{lf_yes, lf_no, lf_end}
 use borrow.Author.Rules.{rules}
 use Rattle.line_stop.proofs.after_lf.Goals as goal
 

@@ -1,4 +1,4 @@
-use Rattle.line_stop.specs.CharScanLaws.{is_zero_lem}
+use Rattle.line_stop.proofs.CharScanLaws.{is_zero_lem}
 use Rattle.line_stop.proofs.char_done.Goals as goal
 
 pub returns : goal.returns

@@ -1,4 +1,4 @@
-use Rattle.line_stop.specs.CharScanLaws.{live_none, live_some}
+use Rattle.line_stop.proofs.CharScanLaws.{live_none, live_some}
 use Rattle.line_stop.proofs.char_live.Goals as goal
 
 pub returns-then-u-eq0 : goal.returns-then-u-eq0

@@ -1,4 +1,4 @@
-use Rattle.line_stop.specs.CharScanLaws.{step_first, step_tail, step_none}
+use Rattle.line_stop.proofs.CharScanLaws.{step_first, step_tail, step_none}
 use borrow.Author.Rules.{rules}
 use Rattle.line_stop.proofs.char_step.Goals as goal
 

@@ -1,4 +1,4 @@
-use Rattle.line_stop.specs.WordLaws.{next_past, next_inside}
+use Rattle.line_stop.proofs.WordLaws.{next_past, next_inside}
 use borrow.Author.Rules.{rules}
 use Rattle.line_stop.proofs.is_next.Goals as goal
 

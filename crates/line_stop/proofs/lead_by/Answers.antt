@@ -1,5 +1,5 @@
-use Rattle.line_stop.specs.CharScanLaws.{lead_multi, lead_none}
-use Rattle.line_stop.specs.CharScanLaws.{char_ascii}
+use Rattle.line_stop.proofs.CharScanLaws.{lead_multi, lead_none}
+use Rattle.line_stop.proofs.CharScanLaws.{char_ascii}
 use mathlib.Core.Path.{sym, ◌∙◌}
 use borrow.Author.Rules.{rules}
 use Rattle.line_stop.proofs.lead_by.Goals as goal

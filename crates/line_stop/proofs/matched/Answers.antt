@@ -1,5 +1,5 @@
 use Rattle.lists.specs.ListsLaws.{true_yes}
-use Rattle.line_stop.specs.WordLaws.{matched_more, matched_other, next_within}
+use Rattle.line_stop.proofs.WordLaws.{matched_more, matched_other, next_within}
 use native.Mathlib.Omega.{arith}
 use mathlib.Core.Path.{sym, ◌∙◌}
 use borrow.Author.Rules.{rules}

@@ -1,4 +1,4 @@
-use Rattle.outgoing_header.specs.HeaderOutcomeLaws.{content_passes, with_fails, content_refused, refused_observed}
+use Rattle.outgoing_header.proofs.HeaderOutcomeLaws.{content_passes, with_fails, content_refused, refused_observed}
 use mathlib.Core.Path.{sym, ◌∙◌}
 use borrow.Author.Rules.{rules}
 use Rattle.outgoing_header.proofs.downgrade.Goals as goal

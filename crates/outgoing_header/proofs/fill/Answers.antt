@@ -1,4 +1,4 @@
-use Rattle.outgoing_header.specs.HeaderOutcomeLaws.{too_long, written_out}
+use Rattle.outgoing_header.proofs.HeaderOutcomeLaws.{too_long, written_out}
 use mathlib.Core.Path.{refl}
 use borrow.Author.Rules.{rules}
 use Rattle.outgoing_header.proofs.fill.Goals as goal

@@ -1,4 +1,4 @@
-use Rattle.outgoing_header.specs.HeaderOutcomeLaws.{ample, needed_size}
+use Rattle.outgoing_header.proofs.HeaderOutcomeLaws.{ample, needed_size}
 use borrow.Author.Rules.{rules}
 use Rattle.outgoing_header.proofs.needs.Goals as goal
 

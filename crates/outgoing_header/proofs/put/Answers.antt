@@ -1,4 +1,4 @@
-use Rattle.outgoing_header.specs.HeaderOutcomeLaws.{out_wrote}
+use Rattle.outgoing_header.proofs.HeaderOutcomeLaws.{out_wrote}
 use borrow.Author.Rules.{rules}
 use Rattle.outgoing_header.proofs.put.Goals as goal
 

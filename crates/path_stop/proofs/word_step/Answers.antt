@@ -1,5 +1,5 @@
 use Rattle.path_stop.specs.PathStop.{word_step}
-use Rattle.line_stop.specs.WordLaws.{next_within}
+use Rattle.line_stop.proofs.WordLaws.{next_within}
 use Rattle.letter_case.specs.LetterCase.{bytes}
 use Rattle.lists.specs.ListsLaws.{true_yes}
 use borrow.Author.Tests.{eq-eqb, ne_eqb}

@@ -1,4 +1,4 @@
-use Rattle.demands.specs.DemandsLaws.{met}
+use Rattle.demands.proofs.DemandsLaws.{met}
 use Rattle.read_back.specs.ReadBackLaws.{part_inside, part_size, downgraded_shown}
 use borrow.Author.Rules.{rules}
 use Rattle.read_back.proofs.downgrade_and_read.Goals as goal

@@ -1,4 +1,4 @@
-use Rattle.demands.specs.MailboxDemandsLaws.{mailbox_met}
+use Rattle.demands.proofs.MailboxDemandsLaws.{mailbox_met}
 use Rattle.read_back.specs.ReadBackLaws.{part_inside, part_size, mailbox_shown}
 use borrow.Author.Rules.{rules}
 use Rattle.read_back.proofs.downgrade_mailbox_and_read.Goals as goal

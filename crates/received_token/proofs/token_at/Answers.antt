@@ -1,7 +1,7 @@
 use mathlib.Core.Path.{sym, ◌∙◌}
 use native.Mathlib.Omega.{arith}
 use borrow.Author.Tests.{not-true, not-false}
-use Rattle.received_token.specs.TokensLaws.{took_later, took_other, word_after, word_long, clause_long, took_bare, took_clause}
+use Rattle.received_token.proofs.TokensLaws.{took_later, took_other, word_after, word_long, clause_long, took_bare, took_clause}
 use borrow.Author.Rules.{rules}
 use Rattle.received_token.proofs.token_at.Goals as goal
 

@@ -1,7 +1,7 @@
 use mathlib.Core.Path.{ap, ◌∙◌}
 use lib.ListN.{length}
 use lib.Dec.{lit≤}
-use Rattle.row.specs.RowLaws.{row_after_none}
+use Rattle.row.proofs.RowLaws.{row_after_none}
 use borrow.Author.Rules.{rules}
 use Rattle.row_length.proofs.len.Goals as goal
 

@@ -1,6 +1,6 @@
 use Rattle.row_length.specs.LengthLaws.{measured_on, measured_more, measured_within, measured_all}
 use Rattle.word_choice.specs.EndInQLaws.{word_at_small}
-use Rattle.row.specs.RowLaws.{bounded_short, row_after_long}
+use Rattle.row.proofs.RowLaws.{bounded_short, row_after_long}
 use Rattle.row.specs.Row.{row, row_after}
 use borrow.Author.Rules.{rules}
 use native.Mathlib.Omega.{arith}

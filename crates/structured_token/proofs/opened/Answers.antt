@@ -1,4 +1,4 @@
-use Rattle.structured_token.specs.TokensLaws.{took_barred, took_unclosed, took_comment}
+use Rattle.structured_token.proofs.TokensLaws.{took_barred, took_unclosed, took_comment}
 use borrow.Author.Tests.{not-true, not-false}
 use borrow.Author.Rules.{rules}
 use Rattle.structured_token.proofs.opened.Goals as goal

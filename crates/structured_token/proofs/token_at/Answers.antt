@@ -1,4 +1,4 @@
-use Rattle.structured_token.specs.TokensLaws.{took_end, took_plain, took_white, took_string, took_semicolon, paren}
+use Rattle.structured_token.proofs.TokensLaws.{took_end, took_plain, took_white, took_string, took_semicolon, paren}
 use mathlib.Core.Path.{sym, ◌∙◌}
 use borrow.Author.Rules.{rules}
 use Rattle.structured_token.proofs.token_at.Goals as goal

@@ -1,5 +1,5 @@
-use Rattle.demands.specs.BatchDemandsLaws.{batch_met}
-use Rattle.undisclosed_recipients.specs.UndisclosedRecipientsLaws.{records_undisclosed_by}
+use Rattle.demands.proofs.BatchDemandsLaws.{batch_met}
+use Rattle.undisclosed_recipients.proofs.UndisclosedRecipientsLaws.{records_undisclosed_by}
 use Rattle.rules.specs.Rules.{setting_rules}
 use borrow.Author.Rules.{rules}
 use Rattle.undisclosed_recipients.proofs.downgrade_batch.Goals as goal

@@ -1,5 +1,5 @@
-use Rattle.demands.specs.DemandsLaws.{met}
-use Rattle.undisclosed_recipients.specs.UndisclosedRecipientsLaws.{undisclosed_by}
+use Rattle.demands.proofs.DemandsLaws.{met}
+use Rattle.undisclosed_recipients.proofs.UndisclosedRecipientsLaws.{undisclosed_by}
 use Rattle.rules.specs.Rules.{setting_rules}
 use borrow.Author.Rules.{rules}
 use Rattle.undisclosed_recipients.proofs.downgrade_both.Goals as goal

@@ -1,5 +1,5 @@
 use Rattle.word_choice.specs.ChoiceLaws.{full_end, full_stop, span_on, char_more}
-use Rattle.row.specs.WordEndLaws.{span_none}
+use Rattle.row.proofs.WordEndLaws.{span_none}
 use Rattle.row.specs.WordEnd.{Span}
 use borrow.Author.Rules.{rules}
 use native.Mathlib.Omega.{arith}

@@ -1,4 +1,4 @@
-use Rattle.xtext.specs.XtextLaws.{DecodedTo, decoded_none, decoded_more, decoded_fault, decoded_whole, length_decoded}
+use Rattle.xtext.proofs.XtextLaws.{DecodedTo, decoded_none, decoded_more, decoded_fault, decoded_whole, length_decoded}
 use lib.ListN.{length}
 use Prim.Native.Nat.{◌-◌}
 use borrow.Author.Rules.{rules}

@@ -1,4 +1,4 @@
-use Rattle.xtext.specs.XtextLaws.{decoded_le, alt_long, alt_fault_lem, alt_tested}
+use Rattle.xtext.proofs.XtextLaws.{decoded_le, alt_long, alt_fault_lem, alt_tested}
 use Rattle.buffer.specs.BufferLaws.{length_wrote}
 use lib.Seq.{length-take-le}
 use borrow.Author.Tests.{not-true, not-false}

@@ -1,6 +1,6 @@
 use lib.Dec.{eqb}
 use lib.ListN.{get_or}
-use Rattle.xtext.specs.XtextLaws.{unit_bare, unit_short, unit_other, unit_hex, two_digits}
+use Rattle.xtext.proofs.XtextLaws.{unit_bare, unit_short, unit_other, unit_hex, two_digits}
 use borrow.Author.Tests.{not-true, not-false}
 use native.Mathlib.Omega.{arith}
 use borrow.Author.Rules.{rules}

@@ -1,6 +1,6 @@
 use Rattle.address_list.specs.PartsLaws.{comment_length}
 use Rattle.address_list.specs.PartsLaws.{took_stray, comment_none, comment_long, comment_there}
-use Rattle.comment.specs.CommentLaws.{comment_within}
+use Rattle.comment.proofs.CommentLaws.{comment_within}
 use borrow.Author.Tests.{not-true, not-false}
 use mathlib.Core.Path.{sym, ◌∙◌}
 use native.Mathlib.Omega.{arith}

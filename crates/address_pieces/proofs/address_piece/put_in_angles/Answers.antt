@@ -1,4 +1,4 @@
-use Rattle.address_pieces.specs.WritingLaws.{wrote_then}
+use Rattle.address_pieces.proofs.WritingLaws.{wrote_then}
 use Rattle.buffer.specs.BufferLaws.{capped_then}
 use mathlib.Core.List.{[], ◌∷◌}
 use lib.ListN.{length-append}

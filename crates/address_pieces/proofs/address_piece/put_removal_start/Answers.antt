@@ -1,4 +1,4 @@
-use Rattle.piece.specs.PieceLaws.{rendered_one, wrote_same}
+use Rattle.piece.proofs.PieceLaws.{rendered_one, wrote_same}
 use Rattle.piece.specs.Piece.{piece}
 use Rattle.encoded_word.specs.Segments.{rendered}
 use Rattle.rules.specs.Rules.{removal_start}

@@ -1,4 +1,4 @@
-use Rattle.address_pieces.specs.WritingLaws.{removed_wrote}
+use Rattle.address_pieces.proofs.WritingLaws.{removed_wrote}
 use Rattle.buffer.specs.BufferLaws.{added_by}
 use native.Mathlib.Omega.{arith}
 use borrow.Author.Rules.{rules}

@@ -1,6 +1,6 @@
-use Rattle.piece.specs.PieceLaws.{wrote_same}
+use Rattle.piece.proofs.PieceLaws.{wrote_same}
 use Rattle.address_pieces.specs.Pieces.{in_angles}
-use Rattle.address_pieces.specs.PiecesLaws.{address_ascii, address_high}
+use Rattle.address_pieces.proofs.PiecesLaws.{address_ascii, address_high}
 use mathlib.Core.Path.{sym, ◌∙◌}
 use borrow.Author.Rules.{rules}
 use Rattle.address_pieces.proofs.part.put_angled.Goals as goal

@@ -1,7 +1,7 @@
-use Rattle.piece.specs.PieceLaws.{rendered_one, wrote_same, fitting_short}
+use Rattle.piece.proofs.PieceLaws.{rendered_one, wrote_same, fitting_short}
 use Rattle.piece.specs.Piece.{piece}
 use Rattle.address_pieces.specs.Pieces.{pieces}
-use Rattle.address_pieces.specs.PiecesLaws.{pieces_angled, pieces_alternative}
+use Rattle.address_pieces.proofs.PiecesLaws.{pieces_angled, pieces_alternative}
 use Rattle.encoded_word.specs.Segments.{rendered}
 use Rattle.encoded_word.specs.Segments.Segment.{raw}
 use Rattle.buffer.specs.BufferLaws.{wrote_nothing}

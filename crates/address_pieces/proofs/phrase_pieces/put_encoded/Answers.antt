@@ -1,4 +1,4 @@
-use Rattle.address_pieces.specs.WritingLaws.{phrase_made}
+use Rattle.address_pieces.proofs.WritingLaws.{phrase_made}
 use borrow.Author.Rules.{rules}
 use Rattle.address_pieces.proofs.phrase_pieces.put_encoded.Goals as goal
 

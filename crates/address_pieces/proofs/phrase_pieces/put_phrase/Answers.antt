@@ -1,5 +1,5 @@
-use Rattle.piece.specs.PieceLaws.{wrote_same}
-use Rattle.address_pieces.specs.PiecesLaws.{phrase_ascii, phrase_high}
+use Rattle.piece.proofs.PieceLaws.{wrote_same}
+use Rattle.address_pieces.proofs.PiecesLaws.{phrase_ascii, phrase_high}
 use mathlib.Core.Path.{sym, ◌∙◌}
 use borrow.Author.Rules.{rules}
 use Rattle.address_pieces.proofs.phrase_pieces.put_phrase.Goals as goal

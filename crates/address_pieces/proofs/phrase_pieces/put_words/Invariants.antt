@@ -1,7 +1,7 @@
-use Rattle.address_pieces.specs.LengthLaws.{part_le, phrase_words_le}
-use Rattle.piece.specs.PieceLaws.{turn_less}
+use Rattle.address_pieces.proofs.LengthLaws.{part_le, phrase_words_le}
+use Rattle.piece.proofs.PieceLaws.{turn_less}
 use borrow.Author.Rules.{rules}
-use Rattle.address_pieces.specs.PiecesLaws.{word_pieces_step, word_pieces_end}
+use Rattle.address_pieces.proofs.PiecesLaws.{word_pieces_step, word_pieces_end}
 use Rattle.piece.specs.Piece.{piece}
 use Rattle.phrase.specs.Phrase.{words_from, phrase_words}
 use Rattle.encoded_word.specs.Segments.{rendered}

@@ -1,6 +1,6 @@
-use Rattle.address_pieces.specs.PiecesLaws.{turns_step, turns_end, turn_fits}
+use Rattle.address_pieces.proofs.PiecesLaws.{turns_step, turns_end, turn_fits}
 use Rattle.address_pieces.specs.Pieces.{pieces_of}
-use Rattle.piece.specs.PieceLaws.{turn_less}
+use Rattle.piece.proofs.PieceLaws.{turn_less}
 use Rattle.group.specs.Group.{turns_from, turns_of, parts_at}
 use Rattle.address_list.specs.Parts.{parts_of}
 use Rattle.encoded_word.specs.Segments.{rendered}

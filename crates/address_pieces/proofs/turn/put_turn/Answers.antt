@@ -1,6 +1,6 @@
-use Rattle.address_pieces.specs.PiecesLaws.{turn_group, turn_part}
-use Rattle.piece.specs.PieceLaws.{wrote_same}
-use Rattle.group.specs.TrimmedLaws.{trimmed_le}
+use Rattle.address_pieces.proofs.PiecesLaws.{turn_group, turn_part}
+use Rattle.piece.proofs.PieceLaws.{wrote_same}
+use Rattle.group.proofs.TrimmedLaws.{trimmed_le}
 use lib.ListN.{length}
 use mathlib.Core.Path.{ap}
 use native.Mathlib.Omega.{arith}

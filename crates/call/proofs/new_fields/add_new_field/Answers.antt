@@ -1,4 +1,4 @@
-use Rattle.call.specs.NewFieldLaws.{new_field_none, new_field_some}
+use Rattle.call.proofs.NewFieldLaws.{new_field_none, new_field_some}
 use native.Mathlib.Omega.{arith}
 use borrow.Author.Rules.{rules}
 use Rattle.call.proofs.new_fields.add_new_field.Goals as goal

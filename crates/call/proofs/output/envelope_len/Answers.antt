@@ -1,4 +1,4 @@
-use Rattle.call.specs.OutputLaws.{starts_written}
+use Rattle.call.proofs.OutputLaws.{starts_written}
 use borrow.Author.Rules.{rules}
 use Rattle.call.proofs.output.envelope_len.Goals as goal
 

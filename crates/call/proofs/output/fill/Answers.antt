@@ -1,5 +1,5 @@
-use Rattle.call.specs.OutputLaws.{mail_short, rcpt_short, ready_texts}
-use Rattle.call.specs.NewFieldLaws.{found_within, found_front, found_size}
+use Rattle.call.proofs.OutputLaws.{mail_short, rcpt_short, ready_texts}
+use Rattle.call.proofs.NewFieldLaws.{found_within, found_front, found_size}
 use mathlib.Core.Path.{refl}
 use borrow.Author.Rules.{rules}
 use Rattle.call.proofs.output.fill.Goals as goal

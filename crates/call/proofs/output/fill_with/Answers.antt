@@ -1,4 +1,4 @@
-use Rattle.call.specs.OutputLaws.{envelope_needs, header_needs_lem, downgraded, starts_written, ready_starts, ready_short, ready_passed}
+use Rattle.call.proofs.OutputLaws.{envelope_needs, header_needs_lem, downgraded, starts_written, ready_starts, ready_short, ready_passed}
 use mathlib.Core.Path.{refl}
 use borrow.Author.Rules.{rules}
 use Rattle.call.proofs.output.fill_with.Goals as goal

@@ -1,4 +1,4 @@
-use Rattle.call.specs.OutputLaws.{most_small, ample}
+use Rattle.call.proofs.OutputLaws.{most_small, ample}
 use native.Mathlib.Omega.{arith}
 use borrow.Author.Rules.{rules}
 use Rattle.call.proofs.output.header_needs.Goals as goal

@@ -1,4 +1,4 @@
-use Rattle.call.specs.OutputLaws.{header_wrote}
+use Rattle.call.proofs.OutputLaws.{header_wrote}
 use Rattle.letter_case.specs.LetterCase.{bytes}
 use native.Mathlib.Omega.{arith}
 use borrow.Author.Rules.{rules}

@@ -1,4 +1,5 @@
-use Rattle.call.specs.OutcomeLaws.{with_most, held_content, past_orcpt}
+use Rattle.call.specs.OutcomeLaws.{with_most}
+use Rattle.call.proofs.OutcomeLaws.{held_content, past_orcpt}
 use Rattle.call.specs.Outcome.{first_of, of_orcpt}
 use borrow.Author.Rules.{rules}
 use Rattle.call.proofs.refusals.non_ascii.Goals as goal

@@ -1,4 +1,4 @@
-use Rattle.comment.specs.PartsLaws.{blank_run}
+use Rattle.comment.proofs.PartsLaws.{blank_run}
 use borrow.Author.Rules.{rules}
 use Rattle.comment.proofs.parts.is_blank_run.Goals as goal
 

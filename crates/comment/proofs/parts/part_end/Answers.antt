@@ -1,6 +1,6 @@
 use mathlib.Core.Path.{sym, ◌∙◌}
 use borrow.Author.Rules.{rules}
-use Rattle.comment.specs.PartsLaws.{part_over, part_paren, part_run}
+use Rattle.comment.proofs.PartsLaws.{part_over, part_paren, part_run}
 use Rattle.comment.proofs.parts.part_end.Goals as goal
 
 pub returns-then-s-at : goal.returns-then-s-at

@@ -1,6 +1,6 @@
 use mathlib.Core.Path.{sym, ◌∙◌}
 use borrow.Author.Rules.{rules}
-use Rattle.comment.specs.PartsLaws.{fits_short, fits_long}
+use Rattle.comment.proofs.PartsLaws.{fits_short, fits_long}
 use Rattle.comment.proofs.parts.part_fits.Goals as goal
 
 pub returns-then-part-le900 : goal.returns-then-part-le900

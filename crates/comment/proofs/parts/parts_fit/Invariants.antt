@@ -7,7 +7,7 @@ use borrow.Author.Rules.{rules}
 use borrow.Author.Tests.{not-true, not-false}
 use Rattle.lists.specs.Lists.{all}
 use Rattle.comment.specs.Parts.{parts, fits}
-use Rattle.comment.specs.PartsLaws.{part_beyond, part_end_within, fit_over, fit_at}
+use Rattle.comment.proofs.PartsLaws.{part_beyond, part_end_within, fit_over, fit_at}
 use Rattle.comment.proofs.parts.parts_fit.Given as goal
 
 abbrev pub invariant-loop-i : goal.invariant-loop-i

@@ -4,8 +4,8 @@ use mathlib.Core.Path.{◌≡◌, refl, sym, ◌∙◌}
 use lib.ListN.{length, drop}
 use native.Mathlib.Omega.{arith}
 use Rattle.comment.specs.Comment.{is_paren, run_to, run_len}
-use Rattle.comment.specs.CommentLaws.{run_over}
-use Rattle.comment.specs.RunLaws.{text_over, text_found, text_last, text_escaped}
+use Rattle.comment.proofs.CommentLaws.{run_over}
+use Rattle.comment.proofs.RunLaws.{text_over, text_found, text_last, text_escaped}
 use borrow.Author.Rules.{rules}
 use Rattle.comment.proofs.parts.run_end.Goals as goal
 

@@ -1,5 +1,5 @@
 use Rattle.encoded_word.specs.WritingLaws.{line_length, line_some, copied_on}
-use Rattle.row.specs.WordEndLaws.{row_end}
+use Rattle.row.proofs.WordEndLaws.{row_end}
 use Rattle.row.specs.Row.{row}
 use Rattle.buffer.specs.BufferLaws.{length_appended, capped_none, capped_start, capped_end, length_capped}
 use Rattle.buffer.specs.Buffer.{ReachedCapped}

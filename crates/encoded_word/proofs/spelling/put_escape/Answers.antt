@@ -1,4 +1,4 @@
-use Rattle.hex_digit.specs.HexLaws.{upper_half, lower_half}
+use Rattle.hex_digit.proofs.HexLaws.{upper_half, lower_half}
 use Rattle.buffer.specs.BufferLaws.{stores, appended_stores}
 use lib.ListN.{length-set}
 use mathlib.Core.List.{[], ◌∷◌}

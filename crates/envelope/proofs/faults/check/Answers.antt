@@ -1,4 +1,4 @@
-use Rattle.envelope.specs.CheckLaws.{mail_refused, mail_passed, ended_inside}
+use Rattle.envelope.proofs.CheckLaws.{mail_refused, mail_passed, ended_inside}
 use native.Mathlib.Omega.{arith}
 use borrow.Author.Tests.{not-true, not-false}
 use mathlib.Core.Path.{sym, ◌∙◌}

@@ -1,4 +1,4 @@
-use Rattle.envelope.specs.CheckLaws.{RcptsReached, rcpts_start, rcpts_more, rcpts_refused, rcpts_passed, fine_few, fine_end}
+use Rattle.envelope.proofs.CheckLaws.{RcptsReached, rcpts_start, rcpts_more, rcpts_refused, rcpts_passed, fine_few, fine_end}
 use native.Mathlib.Omega.{arith}
 use borrow.Author.Rules.{rules}
 use borrow.Author.Tests.{not-true, not-false}

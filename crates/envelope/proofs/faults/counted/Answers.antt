@@ -1,4 +1,4 @@
-use Rattle.envelope.specs.CheckLaws.{none_counted, some_counted}
+use Rattle.envelope.proofs.CheckLaws.{none_counted, some_counted}
 use Rattle.envelope.proofs.faults.counted.Goals as goal
 
 pub returns-then-n-eq0 : goal.returns-then-n-eq0

@@ -1,4 +1,4 @@
-use Rattle.envelope.specs.CheckLaws.{front_no_cr, front_in, front_no_lf, front_line_lem}
+use Rattle.envelope.proofs.CheckLaws.{front_no_cr, front_in, front_no_lf, front_line_lem}
 use native.Mathlib.Omega.{arith}
 use mathlib.Core.Path.{sym, ◌∙◌}
 use borrow.Author.Rules.{rules}

@@ -1,4 +1,4 @@
-use Rattle.envelope.specs.CheckLaws.{rcpt_many, rcpt_front}
+use Rattle.envelope.proofs.CheckLaws.{rcpt_many, rcpt_front}
 use mathlib.Core.Path.{◌∙◌}
 use borrow.Author.Rules.{rules}
 use Rattle.envelope.proofs.faults.rcpt_fault.Goals as goal

@@ -1,4 +1,4 @@
-use Rattle.envelope.specs.OrcptLaws.{orcpt_end, orcpt_found, orcpt_next}
+use Rattle.envelope.proofs.OrcptLaws.{orcpt_end, orcpt_found, orcpt_next}
 use Rattle.envelope.specs.Envelope.{texts, orcpt_from, orcpt_line}
 use native.Mathlib.Omega.{arith}
 use borrow.Author.Rules.{rules}

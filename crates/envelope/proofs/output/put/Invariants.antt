@@ -1,5 +1,5 @@
 use mathlib.Core.Path.{refl, ◌∙◌}
-use Rattle.envelope.specs.WrittenLaws.{rcpts_written, entries_from, rcpts_first, rcpts_next, rcpts_last, all_written}
+use Rattle.envelope.proofs.WrittenLaws.{rcpts_written, entries_from, rcpts_first, rcpts_next, rcpts_last, all_written}
 use Rattle.buffer.specs.BufferLaws.{length_added, length_capped}
 use Rattle.buffer.specs.Buffer.{ReachedCapped}
 use Rattle.envelope.specs.LineStarts.{entries}

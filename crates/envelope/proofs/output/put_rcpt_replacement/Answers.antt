@@ -1,5 +1,5 @@
-use Rattle.envelope.specs.LinesLaws.{text_part}
-use Rattle.envelope.specs.WrittenLaws.{replaced_other, replaced_one}
+use Rattle.envelope.proofs.LinesLaws.{text_part}
+use Rattle.envelope.proofs.WrittenLaws.{replaced_other, replaced_one}
 use Rattle.buffer.specs.BufferLaws.{capped_none, capped_same}
 use native.Mathlib.Omega.{arith}
 use borrow.Author.Rules.{rules}

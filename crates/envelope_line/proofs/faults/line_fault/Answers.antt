@@ -1,5 +1,5 @@
-use Rattle.envelope_line.specs.FaultLaws.{line_long, line_not_utf8, line_no_verb, line_no_path, line_open, line_tail}
-use Rattle.envelope_line.specs.PathLaws.{path_at}
+use Rattle.envelope_line.proofs.FaultLaws.{line_long, line_not_utf8, line_no_verb, line_no_path, line_open, line_tail}
+use Rattle.envelope_line.proofs.PathLaws.{path_at}
 use Rattle.address.specs.AddressLaws.{byte_within}
 use borrow.Author.Tests.{not-true, not-false}
 use native.Mathlib.Omega.{arith}

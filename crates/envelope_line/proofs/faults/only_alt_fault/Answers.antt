@@ -1,4 +1,4 @@
-use Rattle.envelope_line.specs.FaultLaws.{only_bare, only_retired, only_beside, only_fine, only_bad}
+use Rattle.envelope_line.proofs.FaultLaws.{only_bare, only_retired, only_beside, only_fine, only_bad}
 use Rattle.parameter.specs.ParameterLaws.{has_value_lem, has_none, value_part}
 use borrow.Author.Tests.{not-true, not-false}
 use mathlib.Core.Path.{sym, ◌∙◌}

@@ -1,5 +1,6 @@
 use Rattle.parameter.specs.ParameterLaws.{alt_from, one_alt, two_alts, no_alts, param_part}
-use Rattle.envelope_line.specs.FaultLaws.{only_alt_fault, tail_unspaced, tail_no_params, tail_plain, tail_high, tail_two_alts, tail_one_alt}
+use Rattle.envelope_line.specs.FaultLaws.{only_alt_fault}
+use Rattle.envelope_line.proofs.FaultLaws.{tail_unspaced, tail_no_params, tail_plain, tail_high, tail_two_alts, tail_one_alt}
 use borrow.Author.Tests.{not-true, not-false}
 use mathlib.Core.Path.{sym, ap, ◌∙◌}
 use borrow.Author.Rules.{rules}

@@ -1,4 +1,4 @@
-use Rattle.envelope_line.specs.WriteLaws.{wrote_same}
+use Rattle.envelope_line.proofs.WriteLaws.{wrote_same}
 use Rattle.parameter.specs.ParameterLaws.{value_part}
 use Rattle.xtext.specs.Xtext.{decoded}
 use Rattle.buffer.specs.BufferLaws.{added_by}

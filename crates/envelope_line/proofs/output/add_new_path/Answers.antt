@@ -1,4 +1,4 @@
-use Rattle.envelope_line.specs.WriteLaws.{decoded_none, decoded_some}
+use Rattle.envelope_line.proofs.WriteLaws.{decoded_none, decoded_some}
 use Rattle.parameter.specs.ParameterLaws.{alt_from, param_part}
 use Rattle.buffer.specs.BufferLaws.{capped_none, capped_same}
 use native.Mathlib.Omega.{arith}

@@ -1,4 +1,4 @@
-use Rattle.envelope_line.specs.WriteLaws.{path_part, replaced_ascii, replaced_high, new_path_lem}
+use Rattle.envelope_line.proofs.WriteLaws.{path_part, replaced_ascii, replaced_high, new_path_lem}
 use Rattle.buffer.specs.BufferLaws.{capped_none, capped_then, capped_same}
 use native.Mathlib.Omega.{arith}
 use borrow.Author.Rules.{rules}

@@ -1,4 +1,4 @@
-use Rattle.envelope_line.specs.WriteLaws.{path_part, front_part, written_ascii, written_high, new_path_lem, rest_without}
+use Rattle.envelope_line.proofs.WriteLaws.{path_part, front_part, written_ascii, written_high, new_path_lem, rest_without}
 use Rattle.buffer.specs.BufferLaws.{capped_then, capped_same}
 use native.Mathlib.Omega.{arith}
 use borrow.Author.Rules.{rules}

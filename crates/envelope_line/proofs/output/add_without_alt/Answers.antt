@@ -1,5 +1,5 @@
 use Rattle.parameter.specs.ParameterLaws.{alt_from}
-use Rattle.envelope_line.specs.WriteLaws.{without_none, without_some}
+use Rattle.envelope_line.proofs.WriteLaws.{without_none, without_some}
 use Rattle.line.specs.LineLaws.{part_rest}
 use Rattle.buffer.specs.BufferLaws.{capped_then, capped_same}
 use native.Mathlib.Omega.{arith}

@@ -1,5 +1,5 @@
 use Rattle.letter_case.specs.LetterCase.{bytes}
-use Rattle.envelope_line.specs.PathLaws.{has_verb_mail, has_verb_rcpt}
+use Rattle.envelope_line.proofs.PathLaws.{has_verb_mail, has_verb_rcpt}
 use Rattle.envelope_line.specs.EnvelopeLine.{verb}
 use borrow.Author.Rules.{rules}
 use Rattle.envelope_line.proofs.path.has_verb.Goals as goal

@@ -1,5 +1,5 @@
 use Rattle.letter_case.specs.LetterCase.{bytes}
-use Rattle.envelope_line.specs.PathLaws.{path_at, path_empty, path_mail, path_postmaster, path_rcpt}
+use Rattle.envelope_line.proofs.PathLaws.{path_at, path_empty, path_mail, path_postmaster, path_rcpt}
 use mathlib.Core.Path.{sym, ◌∙◌}
 use borrow.Author.Rules.{rules}
 use Rattle.envelope_line.proofs.path.path.Goals as goal

@@ -1,4 +1,4 @@
-use Rattle.envelope_line.specs.PathLaws.{path_at, path_end_lem}
+use Rattle.envelope_line.proofs.PathLaws.{path_at, path_end_lem}
 use mathlib.Core.Path.{sym, ◌∙◌}
 use borrow.Author.Rules.{rules}
 use Rattle.envelope_line.proofs.path.path_end.Goals as goal

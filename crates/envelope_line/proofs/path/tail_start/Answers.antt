@@ -1,5 +1,5 @@
 use native.Mathlib.Omega.{arith}
-use Rattle.envelope_line.specs.PathLaws.{tail_from}
+use Rattle.envelope_line.proofs.PathLaws.{tail_from}
 use borrow.Author.Rules.{rules}
 use Rattle.envelope_line.proofs.path.tail_start.Goals as goal
 

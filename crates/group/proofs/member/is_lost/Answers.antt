@@ -1,4 +1,4 @@
-use Rattle.group.specs.GroupLaws.{lost_angled}
+use Rattle.group.proofs.GroupLaws.{lost_angled}
 use Rattle.group.specs.Group.{is_lost}
 use native.Mathlib.Omega.{arith}
 use borrow.Author.Rules.{rules}

@@ -2,7 +2,7 @@ use mathlib.Core.Path.{sym, ◌∙◌}
 use native.Mathlib.Omega.{arith}
 use borrow.Author.Tests.{not-true, not-false}
 use borrow.Author.Rules.{rules}
-use Rattle.group.specs.TrimmedLaws.{BlankFrom, blank_start, blank_last, blank_next, blank_whole}
+use Rattle.group.proofs.TrimmedLaws.{BlankFrom, blank_start, blank_last, blank_next, blank_whole}
 use Rattle.group.proofs.text.content_len.Given as goal
 
 abbrev pub invariant-loop-n : goal.invariant-loop-n

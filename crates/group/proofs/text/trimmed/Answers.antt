@@ -1,4 +1,4 @@
-use Rattle.group.specs.TrimmedLaws.{trimmed_parts}
+use Rattle.group.proofs.TrimmedLaws.{trimmed_parts}
 use borrow.Author.Rules.{rules}
 use Rattle.group.proofs.text.trimmed.Goals as goal
 

@@ -1,6 +1,6 @@
 use Rattle.header.specs.FieldLaws.{name_size}
 use Rattle.outgoing_field.specs.Fate.{holds}
-use Rattle.outgoing_field.specs.FateLaws.{holds_commented, holds_received, holds_parameters}
+use Rattle.outgoing_field.proofs.FateLaws.{holds_commented, holds_received, holds_parameters}
 use borrow.Author.Rules.{rules}
 use Rattle.outgoing_field.proofs.held.holds.Goals as goal
 

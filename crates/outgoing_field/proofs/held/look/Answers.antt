@@ -1,6 +1,6 @@
 use Rattle.header.specs.FieldLaws.{name_size}
-use Rattle.outgoing_field.specs.FateLaws.{ascii_not_held, held_by_method}
-use Rattle.outgoing_field.specs.MostLaws.{ascii_most, most_by_method}
+use Rattle.outgoing_field.proofs.FateLaws.{ascii_not_held, held_by_method}
+use Rattle.outgoing_field.proofs.MostLaws.{ascii_most, most_by_method}
 use mathlib.Core.Path.{sym, ◌∙◌}
 use borrow.Author.Rules.{rules}
 use Rattle.outgoing_field.proofs.held.look.Goals as goal

@@ -1,6 +1,6 @@
 use Rattle.header.specs.AsciiFieldsLaws.{ascii_fields_lem}
 use Rattle.header.specs.FieldLaws.{field_after}
-use Rattle.outgoing_field.specs.MostLaws.{Looking, looking_start, looking_skip, looking_next, looking_here, looking_end, looking_small}
+use Rattle.outgoing_field.proofs.MostLaws.{Looking, looking_start, looking_skip, looking_next, looking_here, looking_end, looking_small}
 use lib.ListN.{length}
 use Prim.Native.Nat.{◌-◌}
 use native.Mathlib.Omega.{arith}

@@ -1,6 +1,6 @@
 use Rattle.header.specs.AsciiFieldsLaws.{ascii_fields_lem}
 use borrow.Author.Rules.{rules}
-use Rattle.outgoing_field.specs.FateLaws.{Fielding, fielding_start, fielding_skip, fielding_next, fielding_end, length_fielding}
+use Rattle.outgoing_field.proofs.FateLaws.{Fielding, fielding_start, fielding_skip, fielding_next, fielding_end, length_fielding}
 use Rattle.header.specs.FieldLaws.{field_after}
 use Prim.Native.Nat.{◌-◌}
 use native.Mathlib.Omega.{arith}

@@ -5,7 +5,8 @@ use Rattle.structured_field.specs.StructuredField.{structured_field}
 use Rattle.parameterized_field.specs.Value.{parameterized_field}
 use Rattle.header.specs.FieldLaws.{name_size}
 use Rattle.field_method.specs.declared.Method.{Method}
-use Rattle.outgoing_field.specs.FateLaws.{needs_scratch, method_address, method_encoded, method_made, method_comments, method_none, comments_given, plain_is, encapsulated_is, commented_is, received_is, parameters_is}
+use Rattle.outgoing_field.specs.FateLaws.{needs_scratch}
+use Rattle.outgoing_field.proofs.FateLaws.{method_address, method_encoded, method_made, method_comments, method_none, comments_given, plain_is, encapsulated_is, commented_is, received_is, parameters_is}
 use borrow.Author.Rules.{rules}
 use Rattle.outgoing_field.proofs.writer.add_by_method.Goals as goal
 

@@ -1,5 +1,5 @@
 use mathlib.Core.Path.{sym, ◌∙◌}
-use Rattle.outgoing_field.specs.FateLaws.{comments_encoded, comments_encapsulated}
+use Rattle.outgoing_field.proofs.FateLaws.{comments_encoded, comments_encapsulated}
 use borrow.Author.Rules.{rules}
 use Rattle.outgoing_field.proofs.writer.add_comments_or_encapsulated.Goals as goal
 

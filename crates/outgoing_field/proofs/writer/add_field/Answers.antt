@@ -1,4 +1,4 @@
-use Rattle.outgoing_field.specs.FateLaws.{limited_size, limited_within, limited_part}
+use Rattle.outgoing_field.proofs.FateLaws.{limited_size, limited_within, limited_part}
 use borrow.Author.Rules.{rules}
 use Rattle.outgoing_field.proofs.writer.add_field.Goals as goal
 

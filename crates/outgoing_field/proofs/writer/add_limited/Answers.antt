@@ -1,4 +1,4 @@
-use Rattle.outgoing_field.specs.FateLaws.{added_copied, added_by_method}
+use Rattle.outgoing_field.proofs.FateLaws.{added_copied, added_by_method}
 use Rattle.header.specs.FieldLaws.{name_size}
 use mathlib.Core.Path.{sym, ◌∙◌}
 use borrow.Author.Rules.{rules}

@@ -1,4 +1,4 @@
-use Rattle.outgoing_field.specs.FateLaws.{served_placed, text_placed}
+use Rattle.outgoing_field.proofs.FateLaws.{served_placed, text_placed}
 use mathlib.Core.Path.{sym, ◌∙◌}
 use borrow.Author.Tests.{not-true}
 use borrow.Author.Rules.{rules}

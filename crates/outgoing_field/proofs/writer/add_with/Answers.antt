@@ -1,4 +1,4 @@
-use Rattle.outgoing_field.specs.FateLaws.{served, text_placed, text_made, made_within, made_size}
+use Rattle.outgoing_field.proofs.FateLaws.{served, text_placed, text_made, made_within, made_size}
 use mathlib.Core.Path.{sym, ◌∙◌}
 use borrow.Author.Rules.{rules}
 use Rattle.outgoing_field.proofs.writer.add_with.Goals as goal

@@ -1,4 +1,4 @@
-use Rattle.outgoing_header.specs.HeaderOutcomeLaws.{over_content, line_content, held_content}
+use Rattle.outgoing_header.proofs.HeaderOutcomeLaws.{over_content, line_content, held_content}
 use borrow.Author.Rules.{rules}
 use Rattle.outgoing_header.proofs.refusals.of_content.Goals as goal
 

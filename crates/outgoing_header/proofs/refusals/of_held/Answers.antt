@@ -1,4 +1,4 @@
-use Rattle.outgoing_header.specs.HeaderOutcomeLaws.{held_absent, held_found}
+use Rattle.outgoing_header.proofs.HeaderOutcomeLaws.{held_absent, held_found}
 use borrow.Author.Rules.{rules}
 use Rattle.outgoing_header.proofs.refusals.of_held.Goals as goal
 

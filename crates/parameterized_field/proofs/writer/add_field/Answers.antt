@@ -1,4 +1,4 @@
-use Rattle.piece.specs.PieceLaws.{served}
+use Rattle.piece.proofs.PieceLaws.{served}
 use native.Mathlib.Omega.{arith}
 use lib.ListN.{length}
 use borrow.Author.Rules.{rules}

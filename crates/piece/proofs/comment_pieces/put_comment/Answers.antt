@@ -1,5 +1,5 @@
 use native.Mathlib.Omega.{arith}
-use Rattle.piece.specs.PieceLaws.{served}
+use Rattle.piece.proofs.PieceLaws.{served}
 use lib.ListN.{length}
 use borrow.Author.Rules.{rules}
 use Rattle.piece.proofs.comment_pieces.put_comment.Goals as goal

@@ -1,4 +1,4 @@
-use Rattle.piece.specs.CommentPiecesLaws.{run_made}
+use Rattle.piece.proofs.CommentPiecesLaws.{run_made}
 use borrow.Author.Rules.{rules}
 use Rattle.piece.proofs.comment_pieces.put_encoded.Goals as goal
 

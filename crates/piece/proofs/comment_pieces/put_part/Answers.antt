@@ -1,7 +1,7 @@
 use mathlib.Core.Path.{sym, ◌∙◌}
 use native.Mathlib.Omega.{arith}
-use Rattle.piece.specs.CommentPiecesLaws.{part_dropped, part_stays, part_encoded}
-use Rattle.piece.specs.PieceLaws.{wrote_same}
+use Rattle.piece.proofs.CommentPiecesLaws.{part_dropped, part_stays, part_encoded}
+use Rattle.piece.proofs.PieceLaws.{wrote_same}
 use Rattle.buffer.specs.BufferLaws.{wrote_nothing, wrote_of}
 use borrow.Author.Rules.{rules}
 use Rattle.piece.proofs.comment_pieces.put_part.Goals as goal

@@ -7,9 +7,9 @@ use Rattle.buffer.specs.Buffer.{ReachedCapped}
 use Rattle.buffer.specs.BufferLaws.{added_by, capped_start, capped_turn, capped_end, length_capped, wrote_of}
 use Rattle.encoded_word.specs.Segments.{rendered}
 use Rattle.piece.specs.CommentPieces.{comment_pieces}
-use Rattle.piece.specs.CommentPiecesLaws.{comment_step, comment_end_lem, part_fits_lem, comment_le}
-use Rattle.piece.specs.PieceLaws.{turn_less}
-use Rattle.comment.specs.PartsLaws.{part_beyond, part_end_within}
+use Rattle.piece.proofs.CommentPiecesLaws.{comment_step, comment_end_lem, part_fits_lem, comment_le}
+use Rattle.piece.proofs.PieceLaws.{turn_less}
+use Rattle.comment.proofs.PartsLaws.{part_beyond, part_end_within}
 use Rattle.piece.proofs.comment_pieces.put_parts.Goals as goal
 
 pub loop-i-init : goal.loop-i-init

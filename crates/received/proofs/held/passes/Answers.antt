@@ -1,5 +1,5 @@
 use borrow.Author.Tests.{not-true, not-false}
-use Rattle.received.specs.PassesLaws.{passes_not, passes_short, passes_lines}
+use Rattle.received.proofs.PassesLaws.{passes_not, passes_short, passes_lines}
 use borrow.Author.Rules.{rules}
 use Rattle.received.proofs.held.passes.Goals as goal
 

@@ -7,7 +7,7 @@ use mathlib.Core.Path.{◌≡◌, refl, sym, ◌∙◌}
 use Rattle.structured_token.specs.Walk.{clear_all}
 use Rattle.received.specs.Received.{received_front, value_clear}
 use Rattle.received.specs.Received.Place.{place}
-use Rattle.received.specs.TokenLaws.{clear_step, clear_none}
+use Rattle.received.proofs.TokenLaws.{clear_step, clear_none}
 use borrow.Author.Rules.{rules}
 use Rattle.received.proofs.held.value_clear.Goals as goal
 

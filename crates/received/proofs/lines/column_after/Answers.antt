@@ -4,7 +4,7 @@ use lib.ListN.{length, drop}
 use native.Mathlib.Omega.{arith}
 use borrow.Author.Rules.{rules}
 use Rattle.received.specs.Received.{column_after}
-use Rattle.received.specs.LinesLaws.{column_step, column_over}
+use Rattle.received.proofs.LinesLaws.{column_step, column_over}
 use Rattle.received.proofs.lines.column_after.Goals as goal
 
 pub loop-i-init : goal.loop-i-init

@@ -1,4 +1,4 @@
-use Rattle.received.specs.PassesLaws.{lines_are}
+use Rattle.received.proofs.PassesLaws.{lines_are}
 use borrow.Author.Rules.{rules}
 use Rattle.received.proofs.lines.lines_fit.Goals as goal
 

@@ -1,6 +1,6 @@
 use mathlib.Core.Path.{sym, ◌∙◌}
-use Rattle.received.specs.PassesLaws.{column_same, column_none}
-use Rattle.received.specs.TokenLaws.{bytes_comment, clause_stays, clause_removed, bytes_bare, bytes_open, bytes_other}
+use Rattle.received.proofs.PassesLaws.{column_same, column_none}
+use Rattle.received.proofs.TokenLaws.{bytes_comment, clause_stays, clause_removed, bytes_bare, bytes_open, bytes_other}
 use borrow.Author.Rules.{rules}
 use Rattle.received.proofs.lines.token_column.Goals as goal
 

@@ -7,7 +7,7 @@ use Rattle.encoded_word.specs.Segments.{rendered}
 use Rattle.structured_token.specs.Walk.{becoming}
 use Rattle.received.specs.Received.{received_front, value_segments, column_after}
 use Rattle.received.specs.Received.Place.{place}
-use Rattle.received.specs.PassesLaws.{column_step, column_end}
+use Rattle.received.proofs.PassesLaws.{column_step, column_end}
 use borrow.Author.Rules.{rules}
 use Rattle.received.proofs.lines.value_column.Given as goal
 

@@ -1,4 +1,4 @@
-use Rattle.received.specs.WritingLaws.{field_added}
+use Rattle.received.proofs.WritingLaws.{field_added}
 use native.Mathlib.Omega.{arith}
 use borrow.Author.Rules.{rules}
 use Rattle.received.proofs.writer.add_fitting.Goals as goal

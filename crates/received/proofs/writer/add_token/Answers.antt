@@ -1,8 +1,8 @@
 use mathlib.Core.Path.{sym, ◌∙◌}
 use native.Mathlib.Omega.{arith}
 use Rattle.buffer.specs.BufferLaws.{capped_same}
-use Rattle.received.specs.TokenLaws.{clause_stays, clause_removed, bytes_bare, bytes_open, bytes_other}
-use Rattle.received.specs.WritingLaws.{token_comment, token_removed}
+use Rattle.received.proofs.TokenLaws.{clause_stays, clause_removed, bytes_bare, bytes_open, bytes_other}
+use Rattle.received.proofs.WritingLaws.{token_comment, token_removed}
 use borrow.Author.Rules.{rules}
 use Rattle.received.proofs.writer.add_token.Goals as goal
 

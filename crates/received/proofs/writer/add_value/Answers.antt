@@ -6,12 +6,12 @@ use native.Mathlib.Omega.{arith}
 use Rattle.buffer.specs.Buffer.{ReachedCapped}
 use Rattle.buffer.specs.BufferLaws.{capped_start, capped_turn, capped_end, length_capped}
 use Rattle.encoded_word.specs.Segments.{rendered}
-use Rattle.structured_token.specs.TokensLaws.{calm_within, calm_less}
+use Rattle.structured_token.proofs.TokensLaws.{calm_within, calm_less}
 use Rattle.structured_token.specs.Walk.{becoming}
 use Rattle.received.specs.Received.{received_front, value_segments}
 use Rattle.received.specs.Received.Place.{place}
-use Rattle.received.specs.TokenLaws.{bytes_step, bytes_calm, bytes_none}
-use Rattle.received.specs.WritingLaws.{part_served}
+use Rattle.received.proofs.TokenLaws.{bytes_step, bytes_calm, bytes_none}
+use Rattle.received.proofs.WritingLaws.{part_served}
 use borrow.Author.Rules.{rules}
 use Rattle.received.proofs.writer.add_value.Goals as goal
 

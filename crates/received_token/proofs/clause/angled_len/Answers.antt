@@ -1,7 +1,7 @@
 use mathlib.Core.Path.{sym, ◌∙◌}
 use native.Mathlib.Omega.{arith}
 use Rattle.address.specs.AddressLaws.{byte_within}
-use Rattle.received_token.specs.ClauseLaws.{angled_other, angled_closed, angled_open, angled_none}
+use Rattle.received_token.proofs.ClauseLaws.{angled_other, angled_closed, angled_open, angled_none}
 use borrow.Author.Rules.{rules}
 use Rattle.received_token.proofs.clause.angled_len.Goals as goal
 

@@ -1,9 +1,9 @@
-use Rattle.received_token.specs.ClauseLaws.{more_long}
+use Rattle.received_token.proofs.ClauseLaws.{more_long}
 use mathlib.Core.Path.{sym, ◌∙◌}
 use native.Mathlib.Omega.{arith}
 use borrow.Author.Rules.{rules}
 use borrow.Author.Tests.{not-true, not-false}
-use Rattle.received_token.specs.ClauseLaws.{white_le, clause_short, clause_other, clause_bare, clause_there, clause_long}
+use Rattle.received_token.proofs.ClauseLaws.{white_le, clause_short, clause_other, clause_bare, clause_there, clause_long}
 use Rattle.received_token.proofs.clause.clause_len.Goals as goal
 
 pub returns-then-s-lt4 : goal.returns-then-s-lt4

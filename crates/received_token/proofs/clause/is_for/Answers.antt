@@ -1,6 +1,6 @@
 use native.Mathlib.Omega.{arith}
 use borrow.Author.Tests.{not-true, not-false}
-use Rattle.received_token.specs.TokensLaws.{for_not, for_within, for_rest}
+use Rattle.received_token.proofs.TokensLaws.{for_not, for_within, for_rest}
 use borrow.Author.Rules.{rules}
 use Rattle.received_token.proofs.clause.is_for.Goals as goal
 

@@ -1,4 +1,4 @@
-use Rattle.received_token.specs.ClauseLaws.{for_is}
+use Rattle.received_token.proofs.ClauseLaws.{for_is}
 use borrow.Author.Rules.{rules}
 use Rattle.received_token.proofs.clause.is_for_there.Goals as goal
 

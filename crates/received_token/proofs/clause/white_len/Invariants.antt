@@ -8,7 +8,7 @@ use Rattle.lists.specs.RunLaws.{run_step, run_stop, run_end}
 use Rattle.lists.specs.Run.{run}
 use Rattle.structured_token.specs.Tokens.{is_white}
 use Rattle.received_token.specs.Clause.{white_len}
-use Rattle.received_token.specs.ClauseLaws.{white_from}
+use Rattle.received_token.proofs.ClauseLaws.{white_from}
 use Rattle.received_token.proofs.clause.white_len.Given as goal
 
 abbrev pub invariant-loop-i : goal.invariant-loop-i

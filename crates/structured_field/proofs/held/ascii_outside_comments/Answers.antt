@@ -5,7 +5,7 @@ use native.Mathlib.Omega.{arith}
 use borrow.Author.Tests.{not-true, not-false}
 use Rattle.structured_token.specs.Walk.{clear_all}
 use Rattle.structured_field.specs.StructuredField.{structured_front, ascii_outside_comments}
-use Rattle.structured_field.specs.WritingLaws.{outside_step, outside_none}
+use Rattle.structured_field.proofs.WritingLaws.{outside_step, outside_none}
 use borrow.Author.Rules.{rules}
 use Rattle.structured_field.proofs.held.ascii_outside_comments.Goals as goal
 

@@ -1,4 +1,4 @@
-use Rattle.structured_field.specs.WritingLaws.{clear_comment, clear_other}
+use Rattle.structured_field.proofs.WritingLaws.{clear_comment, clear_other}
 use mathlib.Core.Path.{◌∙◌}
 use borrow.Author.Rules.{rules}
 use Rattle.structured_field.proofs.held.is_clear.Goals as goal

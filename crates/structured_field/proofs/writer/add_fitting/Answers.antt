@@ -1,4 +1,4 @@
-use Rattle.structured_field.specs.WritingLaws.{field_added}
+use Rattle.structured_field.proofs.WritingLaws.{field_added}
 use native.Mathlib.Omega.{arith}
 use borrow.Author.Rules.{rules}
 use Rattle.structured_field.proofs.writer.add_fitting.Goals as goal

@@ -1,5 +1,5 @@
-use Rattle.structured_field.specs.WritingLaws.{part_stays, part_encoded}
-use Rattle.piece.specs.CommentPiecesLaws.{run_made}
+use Rattle.structured_field.proofs.WritingLaws.{part_stays, part_encoded}
+use Rattle.piece.proofs.CommentPiecesLaws.{run_made}
 use Rattle.buffer.specs.BufferLaws.{capped_same}
 use native.Mathlib.Omega.{arith}
 use mathlib.Core.Path.{sym, ◌∙◌}

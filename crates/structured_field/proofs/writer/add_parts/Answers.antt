@@ -1,6 +1,6 @@
-use Rattle.structured_field.specs.WritingLaws.{part_served, comment_next, comment_none}
+use Rattle.structured_field.proofs.WritingLaws.{part_served, comment_next, comment_none}
 use Rattle.structured_field.specs.StructuredField.{part_segments}
-use Rattle.comment.specs.PartsLaws.{part_beyond, part_end_within}
+use Rattle.comment.proofs.PartsLaws.{part_beyond, part_end_within}
 use Rattle.comment.specs.Parts.{parts}
 use Rattle.encoded_word.specs.Segments.{rendered}
 use Rattle.buffer.specs.BufferLaws.{capped_start, capped_turn, capped_end, length_capped}

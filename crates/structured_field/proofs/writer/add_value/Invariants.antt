@@ -5,10 +5,10 @@ use native.Mathlib.Omega.{arith}
 use Rattle.buffer.specs.Buffer.{ReachedCapped}
 use Rattle.buffer.specs.BufferLaws.{capped_start, capped_turn, capped_end, length_capped}
 use Rattle.encoded_word.specs.Segments.{rendered}
-use Rattle.structured_token.specs.TokensLaws.{calm_within, calm_less}
+use Rattle.structured_token.proofs.TokensLaws.{calm_within, calm_less}
 use Rattle.structured_token.specs.Walk.{becoming}
 use Rattle.structured_field.specs.StructuredField.{structured_front, value_segments}
-use Rattle.structured_field.specs.WritingLaws.{part_served, value_step_lem, value_calm, value_none}
+use Rattle.structured_field.proofs.WritingLaws.{part_served, value_step_lem, value_calm, value_none}
 use borrow.Author.Rules.{rules}
 use Rattle.structured_field.proofs.writer.add_value.Given as goal
 

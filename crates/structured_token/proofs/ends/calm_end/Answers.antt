@@ -4,7 +4,7 @@ use lib.ListN.{length, drop}
 use native.Mathlib.Omega.{arith}
 use borrow.Author.Tests.{not-true, not-false}
 use Rattle.structured_token.specs.Tokens.{calm_len}
-use Rattle.structured_token.specs.TokensLaws.{calm_step, calm_stop, calm_over}
+use Rattle.structured_token.proofs.TokensLaws.{calm_step, calm_stop, calm_over}
 use Rattle.structured_token.proofs.ends.calm_end.Goals as goal
 
 pub loop-i-init : goal.loop-i-init

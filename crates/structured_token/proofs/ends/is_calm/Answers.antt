@@ -1,4 +1,4 @@
-use Rattle.structured_token.specs.TokensLaws.{calm_plain, calm_space}
+use Rattle.structured_token.proofs.TokensLaws.{calm_plain, calm_space}
 use borrow.Author.Rules.{rules}
 use Rattle.structured_token.proofs.ends.is_calm.Goals as goal
 

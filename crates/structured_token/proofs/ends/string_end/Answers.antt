@@ -4,7 +4,7 @@ use lib.ListN.{length, drop}
 use native.Mathlib.Omega.{arith}
 use borrow.Author.Rules.{rules}
 use Rattle.structured_token.specs.Tokens.{string_len}
-use Rattle.structured_token.specs.TokensLaws.{string_from, string_start, string_over, string_unclosed, string_closed, string_escaped}
+use Rattle.structured_token.proofs.TokensLaws.{string_from, string_start, string_over, string_unclosed, string_closed, string_escaped}
 use Rattle.structured_token.proofs.ends.string_end.Goals as goal
 
 pub loop-i-init : goal.loop-i-init

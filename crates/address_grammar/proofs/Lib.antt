@@ -1,0 +1,10 @@
+pub mod AddressFieldLaws
+pub mod FittingLaws
+pub mod FormPartsLaws
+pub mod FoundLaws
+pub mod GrammarLaws
+pub mod ListCases
+pub mod PartGrammarLaws
+pub mod PartListLaws
+pub mod PartsFormLaws
+pub mod PhraseWordsLaws

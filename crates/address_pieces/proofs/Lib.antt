@@ -1,0 +1,4 @@
+pub mod LengthLaws
+pub mod PiecesLaws
+pub mod SoundLaws
+pub mod WritingLaws

@@ -1,0 +1,4 @@
+pub mod Base64Cases
+pub mod Base64Laws
+pub mod GrammarLaws
+pub mod WritingLaws

@@ -1,0 +1,4 @@
+pub mod BoundLaws
+pub mod NewFieldLaws
+pub mod OutcomeLaws
+pub mod OutputLaws

@@ -1,0 +1,11 @@
+pub mod BatchDemandsLaws
+pub mod BecomesLaws
+pub mod DemandsLaws
+pub mod DeterminedLaws
+pub mod EnvelopeRoomLaws
+pub mod HeaderLaws
+pub mod KeptLaws
+pub mod MailboxDemandsLaws
+pub mod RoomLaws
+pub mod RowsLaws
+pub mod RowsThereLaws

@@ -1,0 +1,10 @@
+pub mod AsciiLaws
+pub mod CheckLaws
+pub mod EnvelopeCases
+pub mod EnvelopeDemandLaws
+pub mod LengthLaws
+pub mod LinesLaws
+pub mod OrcptLaws
+pub mod PassedLaws
+pub mod ReplacementLaws
+pub mod WrittenLaws

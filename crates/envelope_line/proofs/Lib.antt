@@ -1,0 +1,9 @@
+pub mod AsciiLaws
+pub mod FaultLaws
+pub mod LengthLaws
+pub mod LineBytesLaws
+pub mod LineGrammarLaws
+pub mod PathLaws
+pub mod ReplacementLaws
+pub mod TailGrammarLaws
+pub mod WriteLaws

@@ -1,0 +1,3 @@
+pub mod FateLaws
+pub mod MostLaws
+pub mod OwedLaws

@@ -1,0 +1,2 @@
+pub mod HeaderBoundLaws
+pub mod HeaderOutcomeLaws

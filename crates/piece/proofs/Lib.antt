@@ -1,0 +1,2 @@
+pub mod CommentPiecesLaws
+pub mod PieceLaws

@@ -1,0 +1,4 @@
+pub mod ClauseLaws
+pub mod GrammarLaws
+pub mod TokenCases
+pub mod TokensLaws

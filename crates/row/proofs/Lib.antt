@@ -1,0 +1,12 @@
+pub mod ChoiceLaws
+pub mod CounterexampleLaws
+pub mod Demand3Laws
+pub mod FieldCounterexampleLaws
+pub mod FieldRowLaws
+pub mod FitsLaws
+pub mod LayoutLaws
+pub mod ReadingCases
+pub mod ReadingLaws
+pub mod RoomsLaws
+pub mod RowLaws
+pub mod WordEndLaws

@@ -1,0 +1,6 @@
+pub mod BoundaryLaws
+pub mod GrammarLaws
+pub mod TokenCases
+pub mod TokensLaws
+pub mod ValueLaws
+pub mod WalkLaws

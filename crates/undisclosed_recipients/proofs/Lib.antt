@@ -1,0 +1,2 @@
+pub mod FirstLineLaws
+pub mod UndisclosedRecipientsLaws
