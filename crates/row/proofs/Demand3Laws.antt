@@ -22,7 +22,8 @@ use Rattle.row.specs.Layout.{Word, word_bytes, added_text}
 use Rattle.row.proofs.LayoutLaws.{Laid, ours_in, lines_laid}
 use Rattle.row.proofs.FitsLaws.{length_opening_in, length_word_in, spell_in_some, fits_any_line, fits_part, some_of, char_fits, chosen_holds}
 use Rattle.row.specs.Demand3.{Proper, RowOf, Demand3In, LaidWords, Demand3}
-use Rattle.row.proofs.RoomsLaws.{AllProper, none_proper, cons_proper, first_proper, rest_proper, length_word, OnLines, ByLine, by_line}
+use Rattle.row.specs.RoomsLaws.{OnLines}
+use Rattle.row.proofs.RoomsLaws.{AllProper, none_proper, cons_proper, first_proper, rest_proper, length_word, ByLine, by_line}
 
 -- ---- the runs of characters that our words hold
 

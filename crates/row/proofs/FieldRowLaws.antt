@@ -21,7 +21,8 @@ use Rattle.row.specs.Layout.LaidAfter.{empty, space, crlf}
 use Rattle.row.proofs.LayoutLaws.{Laid, ours_in, ours_reads}
 use Rattle.row.proofs.FitsLaws.{spell_in_some, char_fits, chosen_holds}
 use Rattle.row.specs.Demand3.{Proper, RowOf, Demand3In}
-use Rattle.row.proofs.RoomsLaws.{AllProper, cons_proper, first_proper, rest_proper, length_word, OnLines, by_line}
+use Rattle.row.specs.RoomsLaws.{OnLines}
+use Rattle.row.proofs.RoomsLaws.{AllProper, cons_proper, first_proper, rest_proper, length_word, by_line}
 use Rattle.row.proofs.Demand3Laws.{ours_text, our_proper, ours_proper}
 use Rattle.row.specs.FieldRow.{OwnLines, SetAfter, FieldDemand3}
 use Rattle.row.specs.FieldRow.SetAfter.{here, below}

@@ -16,6 +16,8 @@ use Rattle.row.specs.Row.{fits_room}
 use Rattle.row.specs.Layout.{Word, word_bytes, added_text}
 use Rattle.row.proofs.FitsLaws.{length_opening_in, fits_part, some_of, none_fits}
 use Rattle.row.specs.Demand3.{Proper}
+use Rattle.row.specs.RoomsLaws.{OnLines}
+use Rattle.row.specs.RoomsLaws.OnLines.{end, word, without}
 
 -- ---- words that are proper
 
@@ -68,13 +70,6 @@ module _ {es : List Encoding} {limit : ℕ} where
       (rw (chars_joined w.added) (le→leb (length (spell_in w.encoding w.added)) room (rw (← p.spelt) h)))
 
 -- ---- words on lines
-
--- Words on the lines from line k on, at most one on each, and how many lines. Line k has room for `rooms k` characters between a word's opening
--- and closing.
-pub data OnLines (rooms : ℕ → ℕ) : ℕ → List Word → ℕ → Type 0 where
-  end : {k : ℕ} → OnLines rooms k [] 0
-  word : {k n : ℕ} {w : Word} {ws : List Word} → length w.standing ≤ rooms k → OnLines rooms (suc k) ws n → OnLines rooms k (w ∷ ws) (suc n)
-  without : {k n : ℕ} {ws : List Word} → OnLines rooms (suc k) ws n → OnLines rooms k ws (suc n)
 
 -- whether line k holds these characters
 abbrev pub fits_line : List Encoding → (ℕ → ℕ) → ℕ → List (List ℕ) → Bool

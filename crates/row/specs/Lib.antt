@@ -7,3 +7,4 @@ pub mod Layout
 pub mod Reading
 pub mod Demand3
 pub mod FieldRow
+pub mod RoomsLaws

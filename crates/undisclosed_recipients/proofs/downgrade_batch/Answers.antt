@@ -8,4 +8,4 @@ pub returns : goal.returns
 returns c =
     let given = c.args in
     let left = c.hennelaku_downgrade_batch_slices.ensures in
-    (batch_met left, records_undisclosed_by (setting_rules given.setting) given.input.now given.records.now given.envelope-buffer.now given.header-buffer.now left)
+    (batch_met left, records_undisclosed_by (setting_rules given.setting) given.input.now given.records.now given.envelope_buffer.now given.header_buffer.now left)

@@ -10,5 +10,5 @@ returns c =
     let one = c.hennelaku_downgrade_slices.ensures in
     let other = c.hennelaku_downgrade_slices-2.ensures in (
       met one,
-      (met other, undisclosed_by (setting_rules given.setting) given.first.now given.second.now given.header.now given.first_envelope.now given.first-header.now given.second-envelope.now given.second-header.now one other),
+      (met other, undisclosed_by (setting_rules given.setting) given.first.now given.second.now given.header.now given.first_envelope.now given.first_header.now given.second_envelope.now given.second_header.now one other),
     )
