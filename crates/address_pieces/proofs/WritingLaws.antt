@@ -23,7 +23,7 @@ use Rattle.address_pieces.specs.Pieces.{removed, pieces_of}
 use Rattle.piece.proofs.PieceLaws.{rendered_one, wrote_same, MadeIn, made_in}
 use Rattle.address_pieces.specs.AddressField.{rewritten_field, adds_copy, copy_of, field_by, address_field}
 use Rattle.address_pieces.proofs.LengthLaws.{removed_le}
-pub use Rattle.piece.specs.PieceLaws.{fitting_short}
+pub use Rattle.piece.proofs.PieceLaws.{fitting_short}
 
 -- ---- two writings, one after the other
 
