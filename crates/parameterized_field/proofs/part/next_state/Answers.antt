@@ -8,4 +8,4 @@ returns-then-parameter c = rw c.if-parameter.true
 
 pub returns : goal.returns
 unfolding part_next
-returns c = rw (c.if-parameter.false, c.is_white_space-white.ensures, c.is_semicolon.ensures, c.goes_on.ensures, c.Stays-after.ensures)
+returns c = rw (c.if-parameter.false, c.is_white_space-white.ensures, c.is_semicolon.ensures, c.goes_on.ensures, c.stays_after.ensures)
