@@ -1,6 +1,6 @@
 # make test         the gate
 # make quick        what changed since main's last merge, in minutes; not the verdict
-# make edits        every edit that must fail, those of must-fail/more too, over the incremental folders [CRATES=..]
+# make edits        every edit that must fail, those of must-fail-more too, over what checks kept [CRATES=..]
 # make run          the program `downgrade` on examples/bulletin.txt, or IN=FILE
 # make try          the paper's whole case by the same program, built without its proofs: a first look
 # make lib          the library in dist/: libhennelaku.a, libhennelaku.so.0, hennelaku.h
@@ -22,7 +22,7 @@
 # make fuzz-reader  the same for the reader of Downgraded fields
 # make fuzz-pairs   headers for recipients that must not show
 # make bench        times of all, in docs/SPEED.md too
-# make clean        removes target/ and dist/
+# make clean        removes target/, dist/ and what rt made in crates/NAME/out/
 #
 # All that is proved needs the Rattle kit (rt); lib, relay and their tests a C
 # compiler, relay also libidn2 and libunistring, pipe-test, interop and soak also
@@ -41,7 +41,7 @@ LIB_CFLAGS = -std=c99 -Wall -Wextra -Wpedantic -Wconversion -fPIC -ffreestanding
 SONAME = libhennelaku.so.0
 TAR = dist/hennelaku-$(VERSION)-x86_64-linux.tar.gz
 CARGO = cd rust && HENNELAKU_LIB_DIR=$(CURDIR)/dist cargo
-CODE := crates.txt $(shell find crates -name '*.rt')
+CODE := crates.txt $(shell find crates -name out -prune -o -name '*.rt' -print)
 INSTALLING = PREFIX='$(PREFIX)' LIBDIR='$(LIBDIR)' DESTDIR='$(DESTDIR)' VERSION='$(VERSION)' lib/install
 
 .PHONY: test quick edits run try lib lib-test install uninstall dist relay relay-test pipe-test interop soak fuzz-c hardened model \
@@ -54,39 +54,40 @@ quick:
 	.ci/quick
 
 edits:
-	.ci/edits $(or $(CRATES),$(patsubst crates/%/must-fail,%,$(wildcard crates/*/must-fail)))
+	.ci/edits $(or $(CRATES),$(sort $(patsubst crates/%/,%,$(dir $(wildcard crates/*/must-fail crates/*/must-fail-more)))))
 
 # The kit builds a program only by proving it.
 run:
 	@.ci/progress downgrade
-	@target/bin/downgrade <$(IN)
+	@cd crates/downgrade && rt run <$(abspath $(IN)) 2>$(CURDIR)/target/run.log || { cat $(CURDIR)/target/run.log; exit 1; }
 
 # A first look at code that is not proved yet.
 try:
 	@.ci/kit --needed
-	@rt try downgrade
+	@cd crates/downgrade && rt try <stdin
 	@echo "nothing is proved by this"
 
 lib: dist/libhennelaku.a dist/$(SONAME) dist/hennelaku.h
 
-# rt staticlib proves a crate and those under it, then compiles them to one
-# archive with the functions that this crate exports, which needs nothing but
-# memcpy and memset. The reader is a crate of its own.
-target/staticlib/libhennelaku.a target/staticlib/libreader.a: target/staticlib/lib%.a: $(CODE)
+# rt lib proves a crate and those under it, then compiles them to one archive
+# with the functions that this crate exports, which needs nothing but memcpy and
+# memset.
+PROVED = crates/hennelaku_c/out/libhennelaku_c.a
+
+$(PROVED): $(CODE)
 	@.ci/kit --needed
 	@mkdir -p target
-	@rt staticlib $* >target/lib-$*.log 2>&1 || { cat target/lib-$*.log; exit 1; }
+	@(cd crates/hennelaku_c && rt lib) >target/lib.log 2>&1 || { tail -n 40 target/lib.log; exit 1; }
 	@touch $@
 
 target/lib/calls.o: lib/calls.c include/hennelaku.h
 	@mkdir -p target/lib
 	$(CC) $(CPPFLAGS) $(CFLAGS) $(LIB_CFLAGS) -Iinclude -c lib/calls.c -o $@
 
-dist/libhennelaku.a: target/staticlib/libhennelaku.a target/staticlib/libreader.a target/lib/calls.o
+dist/libhennelaku.a: $(PROVED) target/lib/calls.o
 	@mkdir -p dist
-	@cd target/lib && $(AR) x ../staticlib/libreader.a
-	@cp target/staticlib/libhennelaku.a $@.new
-	@$(AR) rcsD $@.new target/lib/reader.o target/lib/calls.o
+	@cp $(PROVED) $@.new
+	@$(AR) rcsD $@.new target/lib/calls.o
 	@mv $@.new $@
 
 dist/$(SONAME): dist/libhennelaku.a lib/hennelaku.map
@@ -143,4 +144,4 @@ bench: lib
 	$(CARGO) run --release --offline --quiet --features proved --bin bench-batch
 
 clean:
-	rm -rf target dist rust/target rust/hennelaku/target
+	rm -rf target dist rust/target rust/hennelaku/target crates/*/out
