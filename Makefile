@@ -1,6 +1,6 @@
 # make test         the gate
 # make quick        what changed since main's last merge, in minutes; not the verdict
-# make edits        every edit that must fail, those of must-fail-more too, over what checks kept [CRATES=..]
+# make edits        every edit that must fail, over what checks kept [CRATES=..]
 # make run          the program `downgrade` on examples/bulletin.txt, or IN=FILE
 # make try          the paper's whole case by the same program, built without its proofs: a first look
 # make lib          the library in dist/: libhennelaku.a, libhennelaku.so.0, hennelaku.h
@@ -54,7 +54,7 @@ quick:
 	.ci/quick
 
 edits:
-	.ci/edits $(or $(CRATES),$(sort $(patsubst crates/%/,%,$(dir $(wildcard crates/*/must-fail crates/*/must-fail-more)))))
+	.ci/edits $(or $(CRATES),$(patsubst crates/%/must-fail,%,$(wildcard crates/*/must-fail)))
 
 # The kit builds a program only by proving it.
 run:
