@@ -1,4 +1,4 @@
-// The library's exported calls, for C and for Rust.
+// The library's exported calls. For C, hennelaku_c exports each by its name.
 #![tactic(auto)]
 
 ghost use Rattle.std.specs.Prelude.{◌≡◌};

@@ -1,4 +1,4 @@
-// The exported call of the reader, for C and for Rust.
+// The exported call of the reader. For C, hennelaku_c exports it by its name.
 #![tactic(auto)]
 
 ghost use Rattle.std.specs.Prelude.{◌≡◌};
