@@ -151,7 +151,7 @@ data Found (rules : Rules) (h : List ℕ) (at : ℕ) (fields : List (List ℕ)) 
       → Found rules h at fields (At (line_count (take (at + length (joined before)) h)) (at + length (joined before)))
 
 module _ (rules : Rules) (h : List ℕ) where
-  found_later : {found : HeldField} {fields : List (List ℕ)} {segments : List Segment} (at : ℕ) (field : List ℕ) → fate_of rules field ≡ written segments
+  found_later : (at : ℕ) (field : List ℕ) {found : HeldField} {fields : List (List ℕ)} {segments : List Segment} → fate_of rules field ≡ written segments
       → Found rules h (at + length field) fields found → Found rules h at (field ∷ fields) found
   unfolding field_segments segments_of
   found_later at field e (Found.absent b) = Found.absent (rw e (FieldsBecome.then (becomes rules field e) b))
