@@ -10,4 +10,7 @@ pub slice_bounds-read_number-end-2 : goal.slice_bounds-read_number-end-2
 slice_bounds-read_number-end-2 c = part_size (met c.hennelaku_downgrade_slices-downgraded.ensures).demand_1.header_kept
 
 pub returns : goal.returns
-returns c = let d = met c.hennelaku_downgrade_slices-downgraded.ensures in (d, λ z. downgraded_shown d z c.read_number-read.ensures)
+returns c = record {
+  demands = met c.hennelaku_downgrade_slices-downgraded.ensures;
+  call_reads_back = λ z. downgraded_shown (met c.hennelaku_downgrade_slices-downgraded.ensures) z c.read_number-read.ensures;
+}

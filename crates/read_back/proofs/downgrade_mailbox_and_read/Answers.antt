@@ -10,4 +10,7 @@ pub slice_bounds-read_number-end-2 : goal.slice_bounds-read_number-end-2
 slice_bounds-read_number-end-2 c = part_size (mailbox_met c.hennelaku_downgrade_mailbox_slices-downgraded.ensures).demand_1.kept
 
 pub returns : goal.returns
-returns c = let d = mailbox_met c.hennelaku_downgrade_mailbox_slices-downgraded.ensures in (d, λ z. mailbox_shown d z c.read_number-read.ensures)
+returns c = record {
+  mailbox_demands = mailbox_met c.hennelaku_downgrade_mailbox_slices-downgraded.ensures;
+  mailbox_reads_back = λ z. mailbox_shown (mailbox_met c.hennelaku_downgrade_mailbox_slices-downgraded.ensures) z c.read_number-read.ensures;
+}

@@ -5,7 +5,7 @@ use borrow.Author.Rules.{rules}
 use Rattle.undisclosed_recipients.proofs.downgrade_batch.Goals as goal
 
 pub returns : goal.returns
-returns c =
-    let given = c.args in
-    let left = c.hennelaku_downgrade_batch_slices.ensures in
-    (batch_met left, records_undisclosed_by (setting_rules given.setting) given.input.now given.records.now given.envelope_buffer.now given.header_buffer.now left)
+returns c = record {
+  batch_demands = batch_met c.hennelaku_downgrade_batch_slices.ensures;
+  undisclosed_records = records_undisclosed_by (setting_rules c.args.setting) c.args.input.now c.args.records.now c.args.envelope_buffer.now c.args.header_buffer.now c.hennelaku_downgrade_batch_slices.ensures;
+}

@@ -5,10 +5,8 @@ use borrow.Author.Rules.{rules}
 use Rattle.undisclosed_recipients.proofs.downgrade_both.Goals as goal
 
 pub returns : goal.returns
-returns c =
-    let given = c.args in
-    let one = c.hennelaku_downgrade_slices.ensures in
-    let other = c.hennelaku_downgrade_slices-2.ensures in (
-      met one,
-      (met other, undisclosed_by (setting_rules given.setting) given.first.now given.second.now given.header.now given.first_envelope.now given.first_header.now given.second_envelope.now given.second_header.now one other),
-    )
+returns c = record {
+  demands = met c.hennelaku_downgrade_slices.ensures;
+  demands_2 = met c.hennelaku_downgrade_slices-2.ensures;
+  undisclosed = undisclosed_by (setting_rules c.args.setting) c.args.first.now c.args.second.now c.args.header.now c.args.first_envelope.now c.args.first_header.now c.args.second_envelope.now c.args.second_header.now c.hennelaku_downgrade_slices.ensures c.hennelaku_downgrade_slices-2.ensures;
+}
