@@ -4,15 +4,15 @@
 #![tactic(auto)]
 
 use address_list::Examined;
-use libc::{STDIN_FILENO, STDOUT_FILENO};
 use rules::Rules;
+use std::io;
 
-fn say(words: &[u8]) {
-    io::write_all(STDOUT_FILENO, words);
+fn say(rt: &impl Print, words: &[u8]) -> io::Result<()> {
+    rt.write_all(words)
 }
 
-fn number(n: usize) {
-    io::print_decimal(STDOUT_FILENO, n as u64);
+fn number(rt: &impl Print, n: usize) -> io::Result<()> {
+    print!(rt; "{n}")
 }
 
 // What becomes of a field.
@@ -27,30 +27,30 @@ fn examined(rules: Rules, field: &[u8]) -> Examined {
     address_list::examine(line::part(&text, 0, n), rules)
 }
 
-fn say_byte(b: u8) {
+fn say_byte(rt: &impl Print, b: u8) -> io::Result<()> {
     let one = [b];
     match b {
-        9 => say(b"{TAB}"),
-        10 => say(b"{LF}"),
-        13 => say(b"{CR}"),
-        _ => say(&one),
+        9 => say(rt, b"{TAB}"),
+        10 => say(rt, b"{LF}"),
+        13 => say(rt, b"{CR}"),
+        _ => say(rt, &one),
     }
 }
 
-fn say_readably(field: &[u8]) {
+fn say_readably(rt: &impl Print, field: &[u8]) -> io::Result<()> {
     let mut i = 0;
     while i < field.len() {
-        say_byte(field[i]);
+        say_byte(rt, field[i])?;
         i += 1;
     }
-    say(b"\r\n");
+    say(rt, b"\r\n")
 }
 
-fn say_examined(examined: Examined) {
+fn say_examined(rt: &impl Print, examined: Examined) -> io::Result<()> {
     match examined {
-        Examined::DoesNotFit => say(b"does not fit, "),
-        Examined::Kept => say(b"fits, every address kept, "),
-        Examined::Changed => say(b"fits, an address replaced or removed, "),
+        Examined::DoesNotFit => say(rt, b"does not fit, "),
+        Examined::Kept => say(rt, b"fits, every address kept, "),
+        Examined::Changed => say(rt, b"fits, an address replaced or removed, "),
     }
 }
 
@@ -80,56 +80,56 @@ fn all_sizes(rules: Rules, field: &[u8], whole: &[u8]) -> bool {
     true
 }
 
-fn say_same(same: bool) {
+fn say_same(rt: &impl Print, same: bool) -> io::Result<()> {
     if same {
-        say(b"the same in buffers of 0 to 1024 bytes\r\n");
+        say(rt, b"the same in buffers of 0 to 1024 bytes\r\n")
     } else {
-        say(b"OTHER in a buffer of 0 to 1024 bytes\r\n");
+        say(rt, b"OTHER in a buffer of 0 to 1024 bytes\r\n")
     }
 }
 
 // The whole output, its length, and whether buffers of every size agree.
-fn show_written(rules: Rules, field: &[u8]) {
+fn show_written(rt: &impl Print, rules: Rules, field: &[u8]) -> io::Result<()> {
     let mut out = [b'#'; 8192];
     let n = write(&mut out, rules, field);
     let whole = line::part(&out, 0, n);
-    number(n);
-    say(b" bytes, ");
-    say_same(all_sizes(rules, field, whole));
-    say(whole);
+    number(rt, n)?;
+    say(rt, b" bytes, ")?;
+    say_same(rt, all_sizes(rules, field, whole))?;
+    say(rt, whole)
 }
 
-fn show(label: &[u8], rules: Rules, field: &[u8]) {
-    say(label);
-    say(b"\r\n");
-    say_readably(field);
-    say_examined(examined(rules, field));
-    show_written(rules, field);
+fn show(rt: &impl Print, label: &[u8], rules: Rules, field: &[u8]) -> io::Result<()> {
+    say(rt, label)?;
+    say(rt, b"\r\n")?;
+    say_readably(rt, field)?;
+    say_examined(rt, examined(rules, field))?;
+    show_written(rt, rules, field)
 }
 
 // A line of the input.
-fn show_line(line: &[u8]) {
+fn show_line(rt: &impl Print, line: &[u8]) -> io::Result<()> {
     if !case_line::is_case(line) {
-        return;
+        return Ok(());
     }
     let mut field = [0u8; 4096];
     let n = case_line::undo(&mut field, case_line::column(line, 1));
     let setting = case_line::number(case_line::column(line, 2));
     let rules = rules::of_setting(setting as u64);
-    show(case_line::column(line, 0), rules, &field[..n]);
+    show(rt, case_line::column(line, 0), rules, &field[..n])
 }
 
-fn show_lines(cases: &[u8]) {
+fn show_lines(rt: &impl Print, cases: &[u8]) -> io::Result<()> {
     let mut at = 0;
     while at < cases.len() {
         let end = case_line::find(cases, at, b'\n');
-        show_line(line::part(cases, at, end));
+        show_line(rt, line::part(cases, at, end))?;
         at = buffer::place_after(end, 1);
     }
+    Ok(())
 }
 
-fn main() {
-    let mut input = io::large_buffer();
-    let n = io::read_full(STDIN_FILENO, &mut input);
-    show_lines(&input[..n]);
+fn main(rt: HostRuntime) -> io::Result<()> {
+    let input = program_input::read(rt.alloc(), rt.reader(), 65536)?;
+    show_lines(&rt, &input)
 }

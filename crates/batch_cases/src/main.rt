@@ -4,10 +4,10 @@
 
 ghost use Rattle.std.specs.Prelude.{◌≤◌, length};
 
-use libc::{STDIN_FILENO, STDOUT_FILENO};
+use std::io;
 
-fn say(words: &[u8]) {
-    io::write_all(STDOUT_FILENO, words);
+fn say(rt: &impl Print, words: &[u8]) -> io::Result<()> {
+    rt.write_all(words)
 }
 
 // The number that decimal digits say, at most the greatest of 32 bits.
@@ -47,27 +47,34 @@ fn read_numbers(numbers: &mut [u32], text: &[u8]) -> usize
     n
 }
 
-fn say_number(n: u32) {
-    say(b" ");
-    io::print_decimal(STDOUT_FILENO, n as u64);
+fn say_number(rt: &impl Print, n: u32) -> io::Result<()> {
+    say(rt, b" ")?;
+    print!(rt; "{n}")
 }
 
-fn say_numbers(numbers: &[u32]) {
+fn say_numbers(rt: &impl Print, numbers: &[u32]) -> io::Result<()> {
     let mut i = 0;
     while i < numbers.len() {
-        say_number(numbers[i]);
+        say_number(rt, numbers[i])?;
         i += 1;
     }
+    Ok(())
 }
 
 // Whether the bytes past n and m are as they were.
-fn say_rest(envelope_space: &[u8], n: usize, header_space: &[u8], m: usize) {
+fn say_rest(
+    rt: &impl Print,
+    envelope_space: &[u8],
+    n: usize,
+    header_space: &[u8],
+    m: usize,
+) -> io::Result<()> {
     let envelope_rest = line::part(envelope_space, n, envelope_space.len());
     let header_rest = line::part(header_space, m, header_space.len());
     if case_line::is_untouched(envelope_rest) & case_line::is_untouched(header_rest) {
-        say(b", rest untouched\r\n");
+        say(rt, b", rest untouched\r\n")
     } else {
-        say(b", REST CHANGED\r\n");
+        say(rt, b", REST CHANGED\r\n")
     }
 }
 
@@ -93,7 +100,15 @@ fn call(
 }
 
 // A case with buffers of n and m bytes, full of #.
-fn show(label: &[u8], setting: usize, input: &[u8], numbers: &mut [u32], n: usize, m: usize) {
+fn show(
+    rt: &impl Print,
+    label: &[u8],
+    setting: usize,
+    input: &[u8],
+    numbers: &mut [u32],
+    n: usize,
+    m: usize,
+) -> io::Result<()> {
     let mut envelope_space = [b'#'; 256];
     let mut header_space = [b'#'; 256];
     call(
@@ -105,46 +120,47 @@ fn show(label: &[u8], setting: usize, input: &[u8], numbers: &mut [u32], n: usiz
         &mut header_space,
         m,
     );
-    say(label);
-    say(b":");
-    say_numbers(numbers);
-    say_rest(&envelope_space, n, &header_space, m);
-    say(line::part(&envelope_space, 0, n));
-    say(b"\r\n");
-    say(line::part(&header_space, 0, m));
-    say(b"\r\n");
+    say(rt, label)?;
+    say(rt, b":")?;
+    say_numbers(rt, numbers)?;
+    say_rest(rt, &envelope_space, n, &header_space, m)?;
+    say(rt, line::part(&envelope_space, 0, n))?;
+    say(rt, b"\r\n")?;
+    say(rt, line::part(&header_space, 0, m))?;
+    say(rt, b"\r\n")
 }
 
 // A line of the input.
-fn show_line(line: &[u8]) {
+fn show_line(rt: &impl Print, line: &[u8]) -> io::Result<()> {
     if !case_line::is_case(line) {
-        return;
+        return Ok(());
     }
     let mut input = [0u8; 33024];
     let mut numbers = [0u32; 64];
     let size = case_line::undo(&mut input, case_line::column(line, 3));
     let count = read_numbers(&mut numbers, case_line::column(line, 4));
     show(
+        rt,
         case_line::column(line, 0),
         case_line::number(case_line::column(line, 5)),
         &input[..size],
         &mut numbers[..count],
         case_line::number(case_line::column(line, 1)),
         case_line::number(case_line::column(line, 2)),
-    );
+    )
 }
 
-fn show_lines(cases: &[u8]) {
+fn show_lines(rt: &impl Print, cases: &[u8]) -> io::Result<()> {
     let mut at = 0;
     while at < cases.len() {
         let end = case_line::find(cases, at, b'\n');
-        show_line(line::part(cases, at, end));
+        show_line(rt, line::part(cases, at, end))?;
         at = buffer::place_after(end, 1);
     }
+    Ok(())
 }
 
-fn main() {
-    let mut input = io::large_buffer();
-    let n = io::read_full(STDIN_FILENO, &mut input);
-    show_lines(&input[..n]);
+fn main(rt: HostRuntime) -> io::Result<()> {
+    let input = program_input::read(rt.alloc(), rt.reader(), 65536)?;
+    show_lines(&rt, &input)
 }

@@ -1,5 +1,5 @@
 -- The columns of a line, and a buffer before and after a call.
-use Rattle.std.specs.Prelude.{◌≡◌, Bool, true, not, ◌&&◌, List, [], ◌∷◌, ℕ, zero, suc, ◌+◌, ◌*◌, min, eqb, length, take, drop, get_or}
+use Rattle.std.specs.Prelude.{◌≡◌, Bool, true, not, ◌&&◌, List, [], ◌∷◌, ℕ, zero, suc, ◌+◌, ◌*◌, ◌≤◌, min, eqb, length, take, drop, get_or}
 use Rattle.lists.specs.Lists.{all}
 use Rattle.lists.specs.Run.{run}
 use Rattle.hex_digit.specs.Hex.{hex_value}
@@ -38,3 +38,7 @@ is_filler b = eqb b 35
 pub record Holds (buffer text : List ℕ) (size : ℕ) : Type 0 where
   pub front : take (min size (length text)) buffer ≡ take (min size (length text)) text
   pub rest : all is_filler (drop (min size (length text)) buffer) ≡ true
+
+-- a number of a list's bytes, and so the length of as many of them
+abbrev pub IsPrefixLen : ℕ → List ℕ → Type 0
+IsPrefixLen n s = (n ≤ length s) × (n ≡ length (take n s))

@@ -11,8 +11,7 @@ mod escape;
 ghost use Rattle.std.specs.Prelude.{◌≡◌, true, ◌+◌, min, length, drop};
 ghost use Rattle.lists.specs.Lists.{all};
 ghost use Rattle.lists.specs.Run.{run};
-ghost use Rattle.io.specs.Counts.{IsPrefixLen};
-ghost use Rattle.case_line.specs.CaseLine.{is_case, other, column_of, decimal, is_filler, Holds};
+ghost use Rattle.case_line.specs.CaseLine.{is_case, other, column_of, decimal, is_filler, Holds, IsPrefixLen};
 
 // The place of the first byte `mark` from `at` on; where there is none, the length, or `at` where that lies past it.
 pub fn find(s: &[u8], at: usize, mark: u8) -> usize
@@ -110,7 +109,7 @@ pub fn holds(buffer: &[u8], text: &[u8], size: usize) -> bool
     ensures { result ≡ true → Holds buffer.now text.now size }
 {
     let end = buffer::clip(size, text.len());
-    if !check::same(line::part(buffer, 0, end), line::part(text, 0, end)) {
+    if line::part(buffer, 0, end) != line::part(text, 0, end) {
         return false;
     }
     is_untouched(line::part(buffer, end, buffer.len()))

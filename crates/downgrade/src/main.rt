@@ -2,14 +2,14 @@
 // envelope, an empty line and the header; or the number and the place of a refusal. Lines end in CRLF. The message is one from the spool.
 #![tactic(auto)]
 
-use libc::{STDIN_FILENO, STDOUT_FILENO};
+use std::io;
 
-fn say(words: &[u8]) {
-    io::write_all(STDOUT_FILENO, words);
+fn say(rt: &impl Print, words: &[u8]) -> io::Result<()> {
+    rt.write_all(words)
 }
 
-fn number(n: usize) {
-    io::print_decimal(STDOUT_FILENO, n as u64);
+fn number(rt: &impl Print, n: usize) -> io::Result<()> {
+    print!(rt; "{n}")
 }
 
 // Where the first empty line starts: a CRLF at the very start, or one straight after another. The end where there is none.
@@ -26,30 +26,37 @@ fn empty_line(input: &[u8]) -> usize {
 }
 
 // What was written, the first n and the first m bytes of two buffers.
-fn print_written(envelope: &[u8], n: usize, header: &[u8], m: usize) {
-    say(b"0 ");
-    number(n);
-    say(b" ");
-    number(m);
-    say(b"\r\n");
-    say(line::part(envelope, 0, n));
-    say(b"\r\n");
-    say(line::part(header, 0, m));
+fn print_written(
+    rt: &impl Print,
+    envelope: &[u8],
+    n: usize,
+    header: &[u8],
+    m: usize,
+) -> io::Result<()> {
+    say(rt, b"0 ")?;
+    number(rt, n)?;
+    say(rt, b" ")?;
+    number(rt, m)?;
+    say(rt, b"\r\n")?;
+    say(rt, line::part(envelope, 0, n))?;
+    say(rt, b"\r\n")?;
+    say(rt, line::part(header, 0, m))
 }
 
-fn print_refusal(no: u32, place: usize) {
-    io::print_decimal(STDOUT_FILENO, no as u64);
-    say(b" ");
-    number(place);
-    say(b"\r\n");
+fn print_refusal(rt: &impl Print, no: u32, place: usize) -> io::Result<()> {
+    print!(rt; "{no}")?;
+    say(rt, b" ")?;
+    number(rt, place)?;
+    say(rt, b"\r\n")
 }
 
 fn downgrade(
+    rt: &impl Print,
     envelope: &[u8],
     header: &[u8],
     envelope_buffer: &mut [u8; 16384],
     header_buffer: &mut [u8; 2642040],
-) {
+) -> io::Result<()> {
     let answer = hennelaku::hennelaku_downgrade_slices(
         0,
         envelope,
@@ -61,31 +68,31 @@ fn downgrade(
     let n = answer.envelope_len;
     let m = answer.header_len;
     if no == 0 {
-        print_written(envelope_buffer, n, header_buffer, m);
+        print_written(rt, envelope_buffer, n, header_buffer, m)
     } else {
-        print_refusal(no, answer.place);
+        print_refusal(rt, no, answer.place)
     }
 }
 
 // The first empty line parts envelope and header; without one all is envelope. The buffers hold every output: an envelope does not
 // grow, and a header of 32,768 bytes grows at most eightyfold, and by 20,600.
-fn downgrade_input(input: &[u8]) {
+fn downgrade_input(rt: &impl Print, input: &[u8]) -> io::Result<()> {
     let end = empty_line(input);
     let start = buffer::place_after(end, 2);
     let mut envelope_buffer = [0u8; 16384];
     let mut header_buffer = [0u8; 2642040];
     downgrade(
+        rt,
         line::part(input, 0, end),
         line::part(input, start, input.len()),
         &mut envelope_buffer,
         &mut header_buffer,
-    );
+    )
 }
 
 // An input that does not fit the buffer is over a limit, and so is the part of it that does: 65,536 bytes are more than both
 // limits and the empty line together.
-fn main() {
-    let mut input = io::large_buffer();
-    let n = io::read_full(STDIN_FILENO, &mut input);
-    downgrade_input(&input[..n]);
+fn main(rt: HostRuntime) -> io::Result<()> {
+    let input = program_input::read(rt.alloc(), rt.reader(), 65536)?;
+    downgrade_input(&rt, &input)
 }

@@ -2,14 +2,14 @@
 // were (after a refusal) or are so past the lengths (after 0), and what was written. The cases stand in `stdin`.
 #![tactic(auto)]
 
-use libc::{STDIN_FILENO, STDOUT_FILENO};
+use std::io;
 
-fn say(words: &[u8]) {
-    io::write_all(STDOUT_FILENO, words);
+fn say(rt: &impl Print, words: &[u8]) -> io::Result<()> {
+    rt.write_all(words)
 }
 
-fn number(n: usize) {
-    io::print_decimal(STDOUT_FILENO, n as u64);
+fn number(rt: &impl Print, n: usize) -> io::Result<()> {
+    print!(rt; "{n}")
 }
 
 // Whether two buffers that were full of # are so from places on.
@@ -18,35 +18,41 @@ fn both_untouched(envelope: &[u8], n: usize, header: &[u8], m: usize) -> bool {
         & case_line::is_untouched(line::part(header, m, header.len()))
 }
 
-fn show_refusal(envelope: &[u8], header: &[u8]) {
+fn show_refusal(rt: &impl Print, envelope: &[u8], header: &[u8]) -> io::Result<()> {
     if both_untouched(envelope, 0, header, 0) {
-        say(b", buffers untouched\r\n");
+        say(rt, b", buffers untouched\r\n")
     } else {
-        say(b", BUFFERS CHANGED\r\n");
+        say(rt, b", BUFFERS CHANGED\r\n")
     }
 }
 
-fn show_written(envelope: &[u8], n: usize, header: &[u8], m: usize) {
+fn show_written(
+    rt: &impl Print,
+    envelope: &[u8],
+    n: usize,
+    header: &[u8],
+    m: usize,
+) -> io::Result<()> {
     if both_untouched(envelope, n, header, m) {
-        say(b", rest untouched\r\n");
+        say(rt, b", rest untouched\r\n")?;
     } else {
-        say(b", REST CHANGED\r\n");
+        say(rt, b", REST CHANGED\r\n")?;
     }
-    say(line::part(envelope, 0, n));
-    say(b"\r\n");
-    say(line::part(header, 0, m));
-    say(b"\r\n");
+    say(rt, line::part(envelope, 0, n))?;
+    say(rt, b"\r\n")?;
+    say(rt, line::part(header, 0, m))?;
+    say(rt, b"\r\n")
 }
 
-fn show_numbers(no: u32, place: usize, n: usize, m: usize) {
-    say(b": ");
-    io::print_decimal(STDOUT_FILENO, no as u64);
-    say(b" at ");
-    number(place);
-    say(b", lengths ");
-    number(n);
-    say(b" and ");
-    number(m);
+fn show_numbers(rt: &impl Print, no: u32, place: usize, n: usize, m: usize) -> io::Result<()> {
+    say(rt, b": ")?;
+    print!(rt; "{no}")?;
+    say(rt, b" at ")?;
+    number(rt, place)?;
+    say(rt, b", lengths ")?;
+    number(rt, n)?;
+    say(rt, b" and ")?;
+    number(rt, m)
 }
 
 // A call that is lent the first n and the first m bytes of two buffers full of #.
@@ -71,7 +77,15 @@ fn call(
 }
 
 // A case with buffers of n and m bytes.
-fn show(label: &[u8], setting: usize, envelope: &[u8], header: &[u8], n: usize, m: usize) {
+fn show(
+    rt: &impl Print,
+    label: &[u8],
+    setting: usize,
+    envelope: &[u8],
+    header: &[u8],
+    n: usize,
+    m: usize,
+) -> io::Result<()> {
     let mut envelope_space = [b'#'; 256];
     let mut header_space = [b'#'; 1024];
     let answer = call(
@@ -85,45 +99,46 @@ fn show(label: &[u8], setting: usize, envelope: &[u8], header: &[u8], n: usize, 
     );
     let envelope_len = answer.envelope_len;
     let header_len = answer.header_len;
-    say(label);
-    show_numbers(answer.number, answer.place, envelope_len, header_len);
+    say(rt, label)?;
+    show_numbers(rt, answer.number, answer.place, envelope_len, header_len)?;
     if answer.number == 0 {
-        show_written(&envelope_space, envelope_len, &header_space, header_len);
+        show_written(rt, &envelope_space, envelope_len, &header_space, header_len)
     } else {
-        show_refusal(&envelope_space, &header_space);
+        show_refusal(rt, &envelope_space, &header_space)
     }
 }
 
 // A line of the input.
-fn show_line(line: &[u8]) {
+fn show_line(rt: &impl Print, line: &[u8]) -> io::Result<()> {
     if !case_line::is_case(line) {
-        return;
+        return Ok(());
     }
     let mut envelope = [0u8; 16385];
     let mut header = [0u8; 32769];
     let n = case_line::undo(&mut envelope, case_line::column(line, 3));
     let m = case_line::undo(&mut header, case_line::column(line, 4));
     show(
+        rt,
         case_line::column(line, 0),
         case_line::number(case_line::column(line, 5)),
         &envelope[..n],
         &header[..m],
         case_line::number(case_line::column(line, 1)),
         case_line::number(case_line::column(line, 2)),
-    );
+    )
 }
 
-fn show_lines(cases: &[u8]) {
+fn show_lines(rt: &impl Print, cases: &[u8]) -> io::Result<()> {
     let mut at = 0;
     while at < cases.len() {
         let end = case_line::find(cases, at, b'\n');
-        show_line(line::part(cases, at, end));
+        show_line(rt, line::part(cases, at, end))?;
         at = buffer::place_after(end, 1);
     }
+    Ok(())
 }
 
-fn main() {
-    let mut input = io::large_buffer();
-    let n = io::read_full(STDIN_FILENO, &mut input);
-    show_lines(&input[..n]);
+fn main(rt: HostRuntime) -> io::Result<()> {
+    let input = program_input::read(rt.alloc(), rt.reader(), 65536)?;
+    show_lines(&rt, &input)
 }

@@ -5,22 +5,22 @@
 
 use envelope::{Checked, Orcpt};
 use envelope_line::Fault;
-use libc::{STDIN_FILENO, STDOUT_FILENO};
 use rules::Rules;
+use std::io;
 
-fn say(words: &[u8]) {
-    io::write_all(STDOUT_FILENO, words);
+fn say(rt: &impl Print, words: &[u8]) -> io::Result<()> {
+    rt.write_all(words)
 }
 
-fn number(n: usize) {
-    io::print_decimal(STDOUT_FILENO, n as u64);
+fn number(rt: &impl Print, n: usize) -> io::Result<()> {
+    print!(rt; "{n}")
 }
 
-fn verdict(ok: bool) {
+fn verdict(rt: &impl Print, ok: bool) -> io::Result<()> {
     if ok {
-        say(b"the same");
+        say(rt, b"the same")
     } else {
-        say(b"OTHER");
+        say(rt, b"OTHER")
     }
 }
 
@@ -36,19 +36,19 @@ fn fault_number(fault: Fault) -> usize {
 }
 
 // A refusal: its number and its line.
-fn refused(no: usize, line: usize) {
-    number(no);
-    say(b" at line ");
-    number(line);
-    say(b"\r\n");
+fn refused(rt: &impl Print, no: usize, line: usize) -> io::Result<()> {
+    number(rt, no)?;
+    say(rt, b" at line ")?;
+    number(rt, line)?;
+    say(rt, b"\r\n")
 }
 
 // Whether an ORCPT carries non-ASCII, which is refusal 6.
-fn orcpt(envelope: &[u8]) {
-    say(b"ORCPT: ");
+fn orcpt(rt: &impl Print, envelope: &[u8]) -> io::Result<()> {
+    say(rt, b"ORCPT: ")?;
     match envelope::orcpt_line(envelope) {
-        Orcpt::Clean => say(b"clean\r\n"),
-        Orcpt::At(line) => refused(6, line),
+        Orcpt::Clean => say(rt, b"clean\r\n"),
+        Orcpt::At(line) => refused(rt, 6, line),
     }
 }
 
@@ -86,86 +86,101 @@ fn all_shorter(envelope: &[u8], starts: &[usize; 100], count: usize, whole: &[u8
 }
 
 // The whole output, its length, and whether a buffer of just that length and all shorter ones agree.
-fn output(envelope: &[u8], starts: &[usize; 100], count: usize, whole: &[u8]) {
-    say(whole);
-    number(whole.len());
-    say(b" bytes, exact buffer ");
-    verdict(fits(envelope, starts, count, whole, whole.len()));
-    say(b", shorter buffers ");
-    verdict(all_shorter(envelope, starts, count, whole));
-    say(b"\r\n");
+fn output(
+    rt: &impl Print,
+    envelope: &[u8],
+    starts: &[usize; 100],
+    count: usize,
+    whole: &[u8],
+) -> io::Result<()> {
+    say(rt, whole)?;
+    number(rt, whole.len())?;
+    say(rt, b" bytes, exact buffer ")?;
+    verdict(rt, fits(envelope, starts, count, whole, whole.len()))?;
+    say(rt, b", shorter buffers ")?;
+    verdict(rt, all_shorter(envelope, starts, count, whole))?;
+    say(rt, b"\r\n")
 }
 
 // The envelope as it is written.
-fn written(envelope: &[u8], starts: &[usize; 100], count: usize) {
+fn written(
+    rt: &impl Print,
+    envelope: &[u8],
+    starts: &[usize; 100],
+    count: usize,
+) -> io::Result<()> {
     let mut out = [b'#'; 4096];
     let n = envelope::put(&mut out, envelope, starts, count);
-    output(envelope, starts, count, line::part(&out, 0, n));
+    output(rt, envelope, starts, count, line::part(&out, 0, n))
 }
 
 // A text of n bytes at the front of a buffer.
-fn text(label: &[u8], out: &[u8], n: usize) {
-    say(label);
+fn text(rt: &impl Print, label: &[u8], out: &[u8], n: usize) -> io::Result<()> {
+    say(rt, label)?;
     if n == 0 {
-        say(b"none\r\n");
-        return;
+        return say(rt, b"none\r\n");
     }
-    say(line::part(out, 0, n));
-    say(b", ");
-    number(n);
-    say(b" bytes\r\n");
+    say(rt, line::part(out, 0, n))?;
+    say(rt, b", ")?;
+    number(rt, n)?;
+    say(rt, b" bytes\r\n")
 }
 
 // The texts `<old <new>>` for the header.
-fn replacements(envelope: &[u8], starts: &[usize; 100], count: usize) {
+fn replacements(
+    rt: &impl Print,
+    envelope: &[u8],
+    starts: &[usize; 100],
+    count: usize,
+) -> io::Result<()> {
     let mut out = [b'#'; 4096];
     let m = envelope::put_mail_replacement(&mut out, envelope);
-    text(b"MAIL: ", &out, m);
+    text(rt, b"MAIL: ", &out, m)?;
     let r = envelope::put_rcpt_replacement(&mut out, envelope, starts, count);
-    text(b"RCPT: ", &out, r);
+    text(rt, b"RCPT: ", &out, r)
 }
 
 // A case.
-fn show(label: &[u8], rules: Rules, envelope: &[u8]) {
-    say(label);
-    say(b": ");
+fn show(rt: &impl Print, label: &[u8], rules: Rules, envelope: &[u8]) -> io::Result<()> {
+    say(rt, label)?;
+    say(rt, b": ")?;
     let mut starts = [0usize; 100];
     match envelope::check(rules, envelope, &mut starts) {
-        Checked::Refused(fault, line) => refused(fault_number(fault), line),
+        Checked::Refused(fault, line) => refused(rt, fault_number(fault), line),
         Checked::Passed(count) => {
-            say(b"0, RCPT lines ");
-            number(count);
-            say(b"\r\n");
-            orcpt(envelope);
-            written(envelope, &starts, count);
-            replacements(envelope, &starts, count);
+            say(rt, b"0, RCPT lines ")?;
+            number(rt, count)?;
+            say(rt, b"\r\n")?;
+            orcpt(rt, envelope)?;
+            written(rt, envelope, &starts, count)?;
+            replacements(rt, envelope, &starts, count)
         }
     }
 }
 
 // A line of the input.
-fn show_line(line: &[u8]) {
+fn show_line(rt: &impl Print, line: &[u8]) -> io::Result<()> {
     if !case_line::is_case(line) {
-        return;
+        return Ok(());
     }
     let mut envelope = [0u8; 4096];
     let n = case_line::undo(&mut envelope, case_line::column(line, 1));
     let setting = case_line::number(case_line::column(line, 2));
     let rules = rules::of_setting(setting as u64);
-    show(case_line::column(line, 0), rules, &envelope[..n]);
+    show(rt, case_line::column(line, 0), rules, &envelope[..n])
 }
 
-fn show_lines(cases: &[u8]) {
+fn show_lines(rt: &impl Print, cases: &[u8]) -> io::Result<()> {
     let mut at = 0;
     while at < cases.len() {
         let end = case_line::find(cases, at, b'\n');
-        show_line(line::part(cases, at, end));
+        show_line(rt, line::part(cases, at, end))?;
         at = buffer::place_after(end, 1);
     }
+    Ok(())
 }
 
-fn main() {
-    let mut input = io::large_buffer();
-    let n = io::read_full(STDIN_FILENO, &mut input);
-    show_lines(&input[..n]);
+fn main(rt: HostRuntime) -> io::Result<()> {
+    let input = program_input::read(rt.alloc(), rt.reader(), 65536)?;
+    show_lines(&rt, &input)
 }

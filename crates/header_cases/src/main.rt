@@ -5,16 +5,16 @@
 
 use header_line::LineCheck;
 use header_name::Kind;
-use libc::{STDIN_FILENO, STDOUT_FILENO};
 use outgoing_field::HeldField;
 use rules::Rules;
+use std::io;
 
-fn say(words: &[u8]) {
-    io::write_all(STDOUT_FILENO, words);
+fn say(rt: &impl Print, words: &[u8]) -> io::Result<()> {
+    rt.write_all(words)
 }
 
-fn number(n: usize) {
-    io::print_decimal(STDOUT_FILENO, n as u64);
+fn number(rt: &impl Print, n: usize) -> io::Result<()> {
+    print!(rt; "{n}")
 }
 
 // What becomes of a field, nothing where it is held; and the words of its text.
@@ -34,117 +34,117 @@ fn write_words(out: &mut [u8], field: &[u8]) -> usize {
 }
 
 // A length, and then what is written, as far as it fits the buffer.
-fn written(label: &[u8], n: usize, out: &[u8]) {
-    say(label);
-    number(n);
-    say(b"\r\n");
-    say(line::part(out, 0, n));
+fn written(rt: &impl Print, label: &[u8], n: usize, out: &[u8]) -> io::Result<()> {
+    say(rt, label)?;
+    number(rt, n)?;
+    say(rt, b"\r\n")?;
+    say(rt, line::part(out, 0, n))
 }
 
-fn show_written(field: &[u8]) {
+fn show_written(rt: &impl Print, field: &[u8]) -> io::Result<()> {
     let mut out = [0u8; 4096];
     let n = write(&mut out, field);
-    written(b", ", n, &out);
+    written(rt, b", ", n, &out)
 }
 
-fn show_words(field: &[u8]) {
+fn show_words(rt: &impl Print, field: &[u8]) -> io::Result<()> {
     let mut out = [0u8; 4096];
     let n = write_words(&mut out, field);
-    written(b", words of ", n, &out);
-    say(b"\r\n");
+    written(rt, b", words of ", n, &out)?;
+    say(rt, b"\r\n")
 }
 
-fn say_kind(kind: Kind) {
+fn say_kind(rt: &impl Print, kind: Kind) -> io::Result<()> {
     match kind {
-        Kind::Address => say(b"address"),
-        Kind::PlainText => say(b"plain text"),
-        Kind::Received => say(b"Received"),
-        Kind::Commented => say(b"with comments"),
-        Kind::MessageId => say(b"with comments"),
-        Kind::Parameterized => say(b"with parameters"),
-        Kind::OtherCommented => say(b"other"),
-        Kind::Other => say(b"other"),
-        _ => say(b"held"),
+        Kind::Address => say(rt, b"address"),
+        Kind::PlainText => say(rt, b"plain text"),
+        Kind::Received => say(rt, b"Received"),
+        Kind::Commented => say(rt, b"with comments"),
+        Kind::MessageId => say(rt, b"with comments"),
+        Kind::Parameterized => say(rt, b"with parameters"),
+        Kind::OtherCommented => say(rt, b"other"),
+        Kind::Other => say(rt, b"other"),
+        _ => say(rt, b"held"),
     }
 }
 
-fn show_field(field: &[u8]) {
+fn show_field(rt: &impl Print, field: &[u8]) -> io::Result<()> {
     let n = header_line::name_len(field);
     let kind = header_name::kind_of(line::part(field, 0, n));
-    say_kind(kind);
+    say_kind(rt, kind)?;
     if header::value_is_ascii(field) {
-        say(b", ASCII");
-        show_written(field);
-        return;
+        say(rt, b", ASCII")?;
+        return show_written(rt, field);
     }
-    say(b", not ASCII");
+    say(rt, b", not ASCII")?;
     match kind {
-        Kind::Address => show_words(field),
-        _ => show_written(field),
+        Kind::Address => show_words(rt, field),
+        _ => show_written(rt, field),
     }
 }
 
-fn show_fields(h: &[u8]) {
-    say(b"well formed\r\n");
+fn show_fields(rt: &impl Print, h: &[u8]) -> io::Result<()> {
+    say(rt, b"well formed\r\n")?;
     let mut at = 0;
     while at < h.len() {
         let to = header::field_end(h, at);
-        show_field(line::part(h, at, to));
+        show_field(rt, line::part(h, at, to))?;
         at = to;
     }
+    Ok(())
 }
 
-fn refused(number_and_words: &[u8], line: usize) {
-    say(number_and_words);
-    number(line);
-    say(b"\r\n");
+fn refused(rt: &impl Print, number_and_words: &[u8], line: usize) -> io::Result<()> {
+    say(rt, number_and_words)?;
+    number(rt, line)?;
+    say(rt, b"\r\n")
 }
 
-fn show_well_formed(h: &[u8]) {
+fn show_well_formed(rt: &impl Print, h: &[u8]) -> io::Result<()> {
     let looked = outgoing_field::first_held(Rules::Spool, h);
     let held = looked.held;
     match held {
-        HeldField::Absent => show_fields(h),
-        HeldField::At(line, _) => refused(b"6 at line ", line),
+        HeldField::Absent => show_fields(rt, h),
+        HeldField::At(line, _) => refused(rt, b"6 at line ", line),
     }
 }
 
-fn show(label: &[u8], h: &[u8]) {
-    say(label);
-    say(b": ");
+fn show(rt: &impl Print, label: &[u8], h: &[u8]) -> io::Result<()> {
+    say(rt, label)?;
+    say(rt, b": ")?;
     match header_line::check(h) {
-        LineCheck::WellFormed => show_well_formed(h),
-        LineCheck::Malformed(line, _) => refused(b"5 at line ", line),
+        LineCheck::WellFormed => show_well_formed(rt, h),
+        LineCheck::Malformed(line, _) => refused(rt, b"5 at line ", line),
     }
 }
 
 // A field into the front of a buffer: all of the buffer afterwards, and the length that is answered.
-fn show_buffer(out: &mut [u8], field: &[u8], size: usize) {
+fn show_buffer(rt: &impl Print, out: &mut [u8], field: &[u8], size: usize) -> io::Result<()> {
     let end = case_line::room(size, out);
     let n = write(&mut out[..end], field);
-    say(b"buffer of ");
-    number(end);
-    say(b", ");
-    number(n);
-    say(b"\r\n");
-    say(out);
-    say(b"\r\n");
+    say(rt, b"buffer of ")?;
+    number(rt, end)?;
+    say(rt, b", ")?;
+    number(rt, n)?;
+    say(rt, b"\r\n")?;
+    say(rt, out)?;
+    say(rt, b"\r\n")
 }
 
 // The length of what is written for a field.
-fn show_size(field: &[u8]) {
+fn show_size(rt: &impl Print, field: &[u8]) -> io::Result<()> {
     let mut none = [0u8; 0];
-    say(b"field of ");
-    number(field.len());
-    say(b", ");
-    number(write(&mut none, field));
-    say(b"\r\n");
+    say(rt, b"field of ")?;
+    number(rt, field.len())?;
+    say(rt, b", ")?;
+    number(rt, write(&mut none, field))?;
+    say(rt, b"\r\n")
 }
 
 // A line of the input; where it is a case, the first letter of its kind tells what is shown.
-fn show_line(line: &[u8]) {
+fn show_line(rt: &impl Print, line: &[u8]) -> io::Result<()> {
     if !case_line::is_case(line) {
-        return;
+        return Ok(());
     }
     let mut space = [0u8; 33000];
     let mut out = [b'#'; 50];
@@ -152,24 +152,24 @@ fn show_line(line: &[u8]) {
     let text = &space[..n];
     let size = case_line::number(case_line::column(line, 3));
     match line::byte_at(line, 0) {
-        b'h' => show(case_line::column(line, 1), text),
-        b'b' => show_buffer(&mut out, text, size),
-        b's' => show_size(text),
-        _ => say(b"NO KIND OF CASE\r\n"),
+        b'h' => show(rt, case_line::column(line, 1), text),
+        b'b' => show_buffer(rt, &mut out, text, size),
+        b's' => show_size(rt, text),
+        _ => say(rt, b"NO KIND OF CASE\r\n"),
     }
 }
 
-fn show_lines(cases: &[u8]) {
+fn show_lines(rt: &impl Print, cases: &[u8]) -> io::Result<()> {
     let mut at = 0;
     while at < cases.len() {
         let end = case_line::find(cases, at, b'\n');
-        show_line(line::part(cases, at, end));
+        show_line(rt, line::part(cases, at, end))?;
         at = buffer::place_after(end, 1);
     }
+    Ok(())
 }
 
-fn main() {
-    let mut input = io::large_buffer();
-    let n = io::read_full(STDIN_FILENO, &mut input);
-    show_lines(&input[..n]);
+fn main(rt: HostRuntime) -> io::Result<()> {
+    let input = program_input::read(rt.alloc(), rt.reader(), 65536)?;
+    show_lines(&rt, &input)
 }

@@ -2,36 +2,36 @@
 // (after a refusal) or is so past the length (after 0), and what was written. The cases stand in `stdin`.
 #![tactic(auto)]
 
-use libc::{STDIN_FILENO, STDOUT_FILENO};
+use std::io;
 
-fn say(words: &[u8]) {
-    io::write_all(STDOUT_FILENO, words);
+fn say(rt: &impl Print, words: &[u8]) -> io::Result<()> {
+    rt.write_all(words)
 }
 
-fn number(n: usize) {
-    io::print_decimal(STDOUT_FILENO, n as u64);
+fn number(rt: &impl Print, n: usize) -> io::Result<()> {
+    print!(rt; "{n}")
 }
 
-fn show_numbers(no: u32, place: usize, offset: usize, n: usize) {
-    say(b": ");
-    io::print_decimal(STDOUT_FILENO, no as u64);
-    say(b" at ");
-    number(place);
-    say(b", offset ");
-    number(offset);
-    say(b", length ");
-    number(n);
+fn show_numbers(rt: &impl Print, no: u32, place: usize, offset: usize, n: usize) -> io::Result<()> {
+    say(rt, b": ")?;
+    print!(rt; "{no}")?;
+    say(rt, b" at ")?;
+    number(rt, place)?;
+    say(rt, b", offset ")?;
+    number(rt, offset)?;
+    say(rt, b", length ")?;
+    number(rt, n)
 }
 
 // Whether a buffer that was full of # is so from a place on, and what stands before it.
-fn show_buffer(buffer: &[u8], n: usize) {
+fn show_buffer(rt: &impl Print, buffer: &[u8], n: usize) -> io::Result<()> {
     if case_line::is_untouched(line::part(buffer, n, buffer.len())) {
-        say(b", rest untouched\r\n");
+        say(rt, b", rest untouched\r\n")?;
     } else {
-        say(b", REST CHANGED\r\n");
+        say(rt, b", REST CHANGED\r\n")?;
     }
-    say(line::part(buffer, 0, n));
-    say(b"\r\n");
+    say(rt, line::part(buffer, 0, n))?;
+    say(rt, b"\r\n")
 }
 
 // A call that is lent the first n bytes of a buffer full of #.
@@ -41,40 +41,41 @@ fn call(header: &[u8], space: &mut [u8], n: usize) -> outgoing_header::HeaderAns
 }
 
 // A case with a buffer of n bytes.
-fn show(label: &[u8], header: &[u8], n: usize) {
+fn show(rt: &impl Print, label: &[u8], header: &[u8], n: usize) -> io::Result<()> {
     let mut space = [b'#'; 4096];
     let answer = call(header, &mut space, n);
     let len = answer.length;
-    say(label);
-    show_numbers(answer.number, answer.place, answer.offset, len);
-    show_buffer(&space, len);
+    say(rt, label)?;
+    show_numbers(rt, answer.number, answer.place, answer.offset, len)?;
+    show_buffer(rt, &space, len)
 }
 
 // A line of the input.
-fn show_line(line: &[u8]) {
+fn show_line(rt: &impl Print, line: &[u8]) -> io::Result<()> {
     if !case_line::is_case(line) {
-        return;
+        return Ok(());
     }
     let mut header = [0u8; 32769];
     let n = case_line::undo(&mut header, case_line::column(line, 2));
     show(
+        rt,
         case_line::column(line, 0),
         &header[..n],
         case_line::number(case_line::column(line, 1)),
-    );
+    )
 }
 
-fn show_lines(cases: &[u8]) {
+fn show_lines(rt: &impl Print, cases: &[u8]) -> io::Result<()> {
     let mut at = 0;
     while at < cases.len() {
         let end = case_line::find(cases, at, b'\n');
-        show_line(line::part(cases, at, end));
+        show_line(rt, line::part(cases, at, end))?;
         at = buffer::place_after(end, 1);
     }
+    Ok(())
 }
 
-fn main() {
-    let mut input = io::large_buffer();
-    let n = io::read_full(STDIN_FILENO, &mut input);
-    show_lines(&input[..n]);
+fn main(rt: HostRuntime) -> io::Result<()> {
+    let input = program_input::read(rt.alloc(), rt.reader(), 65536)?;
+    show_lines(&rt, &input)
 }

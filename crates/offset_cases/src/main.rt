@@ -2,19 +2,25 @@
 // 2 the header), the place and the offset. The cases stand in `stdin`, most with no column for the setting, which then is 0.
 #![tactic(auto)]
 
-use libc::{STDIN_FILENO, STDOUT_FILENO};
+use std::io;
 
-fn say(words: &[u8]) {
-    io::write_all(STDOUT_FILENO, words);
+fn say(rt: &impl Print, words: &[u8]) -> io::Result<()> {
+    rt.write_all(words)
 }
 
-fn number(words: &[u8], n: usize) {
-    say(words);
-    io::print_decimal(STDOUT_FILENO, n as u64);
+fn number(rt: &impl Print, words: &[u8], n: usize) -> io::Result<()> {
+    say(rt, words)?;
+    print!(rt; "{n}")
 }
 
 // A case with two buffers of 64 bytes.
-fn show(label: &[u8], setting: usize, envelope: &[u8], header: &[u8]) {
+fn show(
+    rt: &impl Print,
+    label: &[u8],
+    setting: usize,
+    envelope: &[u8],
+    header: &[u8],
+) -> io::Result<()> {
     let mut envelope_buffer = [0u8; 64];
     let mut header_buffer = [0u8; 64];
     let answer = hennelaku::hennelaku_downgrade_slices(
@@ -24,18 +30,18 @@ fn show(label: &[u8], setting: usize, envelope: &[u8], header: &[u8]) {
         &mut envelope_buffer,
         &mut header_buffer,
     );
-    say(label);
-    number(b": ", answer.number as usize);
-    number(b" of input ", answer.input as usize);
-    number(b" at ", answer.place);
-    number(b", offset ", answer.offset);
-    say(b"\r\n");
+    say(rt, label)?;
+    number(rt, b": ", answer.number as usize)?;
+    number(rt, b" of input ", answer.input as usize)?;
+    number(rt, b" at ", answer.place)?;
+    number(rt, b", offset ", answer.offset)?;
+    say(rt, b"\r\n")
 }
 
 // A line of the input.
-fn show_line(line: &[u8]) {
+fn show_line(rt: &impl Print, line: &[u8]) -> io::Result<()> {
     if !case_line::is_case(line) {
-        return;
+        return Ok(());
     }
     let mut envelope = [0u8; 16385];
     let mut header = [0u8; 32769];
@@ -43,24 +49,25 @@ fn show_line(line: &[u8]) {
     let m = case_line::undo(&mut header, case_line::column(line, 2));
     let setting = case_line::number(case_line::column(line, 3));
     show(
+        rt,
         case_line::column(line, 0),
         setting,
         &envelope[..n],
         &header[..m],
-    );
+    )
 }
 
-fn show_lines(cases: &[u8]) {
+fn show_lines(rt: &impl Print, cases: &[u8]) -> io::Result<()> {
     let mut at = 0;
     while at < cases.len() {
         let end = case_line::find(cases, at, b'\n');
-        show_line(line::part(cases, at, end));
+        show_line(rt, line::part(cases, at, end))?;
         at = buffer::place_after(end, 1);
     }
+    Ok(())
 }
 
-fn main() {
-    let mut input = io::large_buffer();
-    let n = io::read_full(STDIN_FILENO, &mut input);
-    show_lines(&input[..n]);
+fn main(rt: HostRuntime) -> io::Result<()> {
+    let input = program_input::read(rt.alloc(), rt.reader(), 65536)?;
+    show_lines(&rt, &input)
 }

@@ -2,51 +2,50 @@
 // The cases stand in `stdin`.
 #![tactic(auto)]
 
-use libc::{STDIN_FILENO, STDOUT_FILENO};
+use std::io;
 
-fn say(words: &[u8]) {
-    io::write_all(STDOUT_FILENO, words);
+fn say(rt: &impl Print, words: &[u8]) -> io::Result<()> {
+    rt.write_all(words)
 }
 
-fn show_written(value: &[u8]) {
+fn show_written(rt: &impl Print, value: &[u8]) -> io::Result<()> {
     let mut out = [0u8; 65536];
     let mut scratch = [0u8; 65536];
     let n = parameterized_field::add_field(&mut out, 0, b"Content-Type", value, &mut scratch);
-    io::print_decimal(STDOUT_FILENO, n as u64);
-    say(b"\r\n");
-    say(line::part(&out, 0, n));
+    print!(rt; "{n}")?;
+    say(rt, b"\r\n")?;
+    say(rt, line::part(&out, 0, n))
 }
 
-fn show(label: &[u8], value: &[u8]) {
-    say(label);
-    say(b": ");
+fn show(rt: &impl Print, label: &[u8], value: &[u8]) -> io::Result<()> {
+    say(rt, label)?;
+    say(rt, b": ")?;
     if parameterized_field::passes(value) {
-        show_written(value);
-        return;
+        return show_written(rt, value);
     }
-    say(b"held\r\n");
+    say(rt, b"held\r\n")
 }
 
-fn show_line(line: &[u8]) {
+fn show_line(rt: &impl Print, line: &[u8]) -> io::Result<()> {
     if !case_line::is_case(line) {
-        return;
+        return Ok(());
     }
     let mut space = [0u8; 33000];
     let n = case_line::undo(&mut space, case_line::column(line, 1));
-    show(case_line::column(line, 0), &space[..n]);
+    show(rt, case_line::column(line, 0), &space[..n])
 }
 
-fn show_lines(cases: &[u8]) {
+fn show_lines(rt: &impl Print, cases: &[u8]) -> io::Result<()> {
     let mut at = 0;
     while at < cases.len() {
         let end = case_line::find(cases, at, b'\n');
-        show_line(line::part(cases, at, end));
+        show_line(rt, line::part(cases, at, end))?;
         at = buffer::place_after(end, 1);
     }
+    Ok(())
 }
 
-fn main() {
-    let mut input = io::large_buffer();
-    let n = io::read_full(STDIN_FILENO, &mut input);
-    show_lines(&input[..n]);
+fn main(rt: HostRuntime) -> io::Result<()> {
+    let input = program_input::read(rt.alloc(), rt.reader(), 65536)?;
+    show_lines(&rt, &input)
 }
