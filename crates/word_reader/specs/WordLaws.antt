@@ -1,5 +1,5 @@
 -- Laws of encoded words read by a function, as code reads them.
-use Rattle.std.specs.Prelude.{◌≡◌, Bool, true, not, cond, ◌&&◌, List, [], ◌∷◌, ◌++◌, ℕ, zero, suc, ◌+◌, ◌-◌, ◌*◌, ◌/◌, ◌%◌, ◌≤◌, ◌<◌, min, T, leb, take, drop, get_or, Some, None}
+use Rattle.std.specs.Prelude.{◌≡◌, Bool, true, not, cond, ◌&&◌, List, [], ◌∷◌, ◌++◌, ℕ, zero, suc, ◌+◌, ◌-◌, ◌*◌, ◌/◌, ◌%◌, ◌≤◌, ◌<◌, min, T, leb, take, drop, get_or, Ok, Err}
 use Rattle.std.proofs.Math.Path.{refl, sym}
 use Rattle.std.proofs.Common.{ap, ◌∙◌, not-suc-le-zero, add-zero, le→leb, length-take, drop-drop}
 use Rattle.std.proofs.Math.Bool.{false, and_assoc, and-true}
@@ -273,7 +273,7 @@ module _ (w : List ℕ) {s : List ℕ} {n k : ℕ} (k_is : k ≡ min 2 (length w
   inner_is = let m : length w - k ≡ length w - 2 = omega arith in sym (rw m at s_is)
 
   pub not_parted : (a b : ℕ) (at : ℕ) (o : List ℕ) → at ≤ greatest → a ≡ get_or s n 0 → b ≡ get_or s (n + 2) 0 → eqb a 63 && eqb b 63 ≡ false
-      → (number_of (Some Malformed) ≡ form_number w) × AppendedCapped (added w) at o o at
+      → (number_of (Err Malformed) ≡ form_number w) × AppendedCapped (added w) at o o at
   unfolding form_number added is_parted
   not_parted a b at o h p q e =
       let no : eqb (get_or s (charset_len s) 0) 63 && eqb (get_or s (charset_len s + 2) 0) 63 ≡ false = rw (← n_is, ← p, ← q) e in
@@ -300,15 +300,15 @@ module _ (w : List ℕ) {s : List ℕ} {n k : ℕ} (k_is : k ≡ min 2 (length w
     ok_is : text_ok (letter s) (standing s) ≡ ok
     ok_is = rw (letter_is, standing_is) (sym d.0)
 
-    pub text_bad : ok ≡ false → (number_of (Some Malformed) ≡ form_number w) × AppendedCapped (added w) at o o' next
+    pub text_bad : ok ≡ false → (number_of (Err Malformed) ≡ form_number w) × AppendedCapped (added w) at o o' next
     unfolding form_number
     text_bad k = (rw (inner_is, is_parted_lem, ok_is, k) refl, added_is)
 
-    pub text_utf8 : {u : Bool} → ok ≡ true → u ≡ is_utf8_charset s → u ≡ true → (number_of None ≡ form_number w) × AppendedCapped (added w) at o o' next
+    pub text_utf8 : {u : Bool} → ok ≡ true → u ≡ is_utf8_charset s → u ≡ true → (number_of (Ok tt) ≡ form_number w) × AppendedCapped (added w) at o o' next
     unfolding form_number
     text_utf8 k v t = (rw (inner_is, is_parted_lem, ok_is, k, ← v, t) refl, added_is)
 
-    pub text_other : {u : Bool} → ok ≡ true → u ≡ is_utf8_charset s → u ≡ false → (number_of (Some Charset) ≡ form_number w) × AppendedCapped (added w) at o o' next
+    pub text_other : {u : Bool} → ok ≡ true → u ≡ is_utf8_charset s → u ≡ false → (number_of (Err Charset) ≡ form_number w) × AppendedCapped (added w) at o o' next
     unfolding form_number
     text_other k v t = (rw (inner_is, is_parted_lem, ok_is, k, ← v, t) refl, added_is)
 

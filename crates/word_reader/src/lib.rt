@@ -26,10 +26,10 @@ pub enum WordFault {
     Charset,
 }
 
-// What reading a word finds: its fault, and the place after the bytes that it adds. A word with a fault may add some.
+// What reading a word finds: whether it has a text, and the place after the bytes that it adds. A word with a fault may add some.
 #[derive(Clone, Copy, Debug, PartialEq, Eq)]
 pub struct WordRead {
-    pub fault: Option<WordFault>,
+    pub form: Result<(), WordFault>,
     pub next: usize,
 }
 
@@ -86,28 +86,28 @@ fn add_text(out: &mut [u8], at: usize, letter: u8, s: &[u8]) -> Added
 
 // Adds the bytes of a word from a place on, as far as they fit.
 pub fn add(out: &mut [u8], at: usize, w: &[u8]) -> WordRead
-    ensures { (number_of result.fault ≡ form_number w.now) × AppendedCapped (added w.now) at out.old out.new result.next }
+    ensures { (number_of result.form ≡ form_number w.now) × AppendedCapped (added w.now) at out.old out.new result.next }
 {
     let end = w.len() - buffer::clip(2, w.len());
     let s = line::part(w, 2, end);
     let n = charset_len(s);
     if !((line::byte_at(s, n) == 63) & (line::byte_at(s, n + 2) == 63)) {
         return WordRead {
-            fault: Some(WordFault::Malformed),
+            form: Err(WordFault::Malformed),
             next: at,
         };
     }
     let letter = letter_case::lower(line::byte_at(s, n + 1));
     let text = add_text(out, at, letter, line::part(s, n + 3, s.len()));
-    let fault = if !text.ok {
-        Some(WordFault::Malformed)
+    let form = if !text.ok {
+        Err(WordFault::Malformed)
     } else if is_utf8_charset(s) {
-        None
+        Ok(())
     } else {
-        Some(WordFault::Charset)
+        Err(WordFault::Charset)
     };
     WordRead {
-        fault,
+        form,
         next: text.next,
     }
 }
