@@ -1,7 +1,7 @@
 -- Laws of faults: the tests in the order in which code makes them.
 use Rattle.std.proofs.Math.Path.{◌≡◌, refl, sym}
 use Rattle.std.proofs.Common.{◌∙◌}
-use Rattle.std.specs.Prelude.{Bool, not, cond, ◌&&◌, ℕ, ◌+◌, ◌-◌, ◌≤◌, ◌<◌, T, eqb, take, drop, get_or}
+use Rattle.std.specs.Prelude.{Bool, not, cond, ◌&&◌, ℕ, ◌+◌, ◌-◌, ◌≤◌, ◌<◌, T, eqb, take, drop, get_or, Result, Ok, Err}
 use Rattle.std.proofs.Math.Bool.{true, false}
 use mathlib.Core.List.{List, [], ◌∷◌}
 use native.Mathlib.Omega.{arith}
@@ -15,8 +15,6 @@ use Rattle.lists.specs.Byte.{is_ascii}
 use Rattle.utf8.specs.Utf8.{utf8}
 use Rattle.rules.specs.declared.Rules.{Rules}
 use Rattle.rules.specs.Rules.{allows_alternative}
-use Rattle.address.specs.declared.Scan.{Scan}
-use Rattle.address.specs.declared.Scan.TheVariants.{To, Stop}
 use Rattle.xtext.specs.Xtext.{is_alt_address}
 use Rattle.envelope_line.proofs.PathLaws.{path_at, later_to, path_end_lem}
 use Rattle.envelope_line.specs.declared.Fault.{Fault}
@@ -102,7 +100,7 @@ alt_taken rules ascii v f =
 
 module _ (rules : Rules) (mail : Bool) (line : List ℕ) where
   -- whether the path ends where one can
-  path_is_to : {x : Scan} → x ≡ path_at mail line → is_to (path_scan mail (drop (verb_len mail) line)) ≡ is_to x
+  path_is_to : {x : Result ℕ ℕ} → x ≡ path_at mail line → is_to (path_scan mail (drop (verb_len mail) line)) ≡ is_to x
   unfolding path_at
   path_is_to e = rw (e, later_to (verb_len mail) (path_scan mail (drop (verb_len mail) line)))
 
@@ -125,11 +123,11 @@ module _ (rules : Rules) (mail : Bool) (line : List ℕ) where
         unfolding line_fault well_formed
         no_path w = rw (le-leb (length line) 998 l, u, v, w)
 
-        pub line_no_path : (n : ℕ) → Stop n ≡ path_at mail line → Malformed ≡ line_fault rules mail line
+        pub line_no_path : (n : ℕ) → Err n ≡ path_at mail line → Malformed ≡ line_fault rules mail line
         unfolding has_path
         line_no_path n e = no_path (rw (path_is_to e))
 
-        module _ (n : ℕ) (e : To n ≡ path_at mail line) where
+        module _ (n : ℕ) (e : Ok n ≡ path_at mail line) where
           pub line_open : (get_or line n 0 ≡ 62 → ⊥) → Malformed ≡ line_fault rules mail line
           unfolding has_path
           line_open o = no_path (rw (path_is_to e, ← path_end_lem mail line e, ne_eqb (get_or line n 0) 62 o))

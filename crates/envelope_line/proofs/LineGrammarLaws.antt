@@ -1,5 +1,5 @@
 -- The fault of a line, and what is written for it, are those of the grammar.
-use Rattle.std.specs.Prelude.{◌≡◌, refl, Bool, true, false, not, cond, ◌&&◌, List, [], ◌∷◌, ◌++◌, ℕ, suc, ◌+◌, ◌≤◌, ◌<◌, get_or}
+use Rattle.std.specs.Prelude.{◌≡◌, refl, Bool, true, false, not, cond, ◌&&◌, List, [], ◌∷◌, ◌++◌, ℕ, suc, ◌+◌, ◌≤◌, ◌<◌, get_or, Result, Ok, Err}
 use Rattle.std.proofs.Math.Path.{ap}
 use Rattle.std.proofs.Common.{sym, ◌∙◌, arith, eqb→eq, length-append, take-take, take_at, drop_at, get_or-drop, ne_eqb, eq-eqb}
 use Rattle.std.proofs.Math.Bool.{and-false}
@@ -16,8 +16,6 @@ use Rattle.utf8.specs.Utf8.{utf8}
 use Rattle.letter_case.specs.LetterCase.{bytes, lower, same_any_case}
 use Rattle.rules.specs.declared.Rules.{Rules}
 use Rattle.rules.specs.Rules.{allows_alternative}
-use Rattle.address.specs.declared.Scan.{Scan}
-use Rattle.address.specs.declared.Scan.TheVariants.{To, Stop}
 use Rattle.address.specs.Address.{is_atext, is_atom_byte, scan_then, dot_atom_from, dot_atom_scan, local_scan, address_scan}
 use Rattle.address.specs.Grammar.{DotAtom, LocalPart}
 use Rattle.address.specs.AddressLaws.{byte_within}
@@ -95,7 +93,7 @@ letter_atom y =
 
 -- ---- path
 
-no_to : {n m : ℕ} → Stop n ≡ To m → ⊥
+no_to : {n m : ℕ} → Err n ≡ Ok m → ⊥
 no_to e = let z : ◌≡◌ {A = ℕ} 0 1 = cc in omega arith
 
 mark_closed : (rest : List ℕ) → Closed (62 ∷ rest)
@@ -134,32 +132,32 @@ module _ (s : List ℕ) (t : T (same_any_case (bytes "Postmaster>") (take 11 s))
   }))
 
   -- is no address
-  word_stops : address_scan s ≡ Stop (length word.front)
+  word_stops : address_scan s ≡ Err (length word.front)
   word_stops = rw word_then at (local_alone word_local 62 (drop 11 s) (mark_closed (drop 11 s)) (λ e. omega (arith, e)))
 
 -- a path that is read is one of the grammar
-read_path : (mail : Bool) (s : List ℕ) (n : ℕ) → path_scan mail s ≡ To n → Path mail (take n s)
+read_path : (mail : Bool) (s : List ℕ) (n : ℕ) → path_scan mail s ≡ Ok n → Path mail (take n s)
 unfolding path_scan
 read_path true s n e =
-    cond_has (λ r. r ≡ To n → Path true (take n s)) (eqb (get_or s 0 0) 62) (To 0) (address_scan s)
+    cond_has (λ r. r ≡ Ok n → Path true (take n s)) (eqb (get_or s 0 0) 62) (Ok 0) (address_scan s)
     (λ t k. let z : n ≡ 0 = cc in rw z Path.empty)
     (λ t k. Path.address (address_sound s n k))
     e
 read_path false s n e =
-    cond_has (λ r. r ≡ To n → Path false (take n s)) (same_any_case (bytes "Postmaster>") (take 11 s)) (To 10) (address_scan s)
+    cond_has (λ r. r ≡ Ok n → Path false (take n s)) (same_any_case (bytes "Postmaster>") (take 11 s)) (Ok 10) (address_scan s)
     (λ t k. let z : n ≡ 10 = cc in rw (z, word_taken s t) (Path.postmaster (word s t).same))
     (λ t k. Path.address (address_sound s n k))
     e
 
-mark_stops : (rest : List ℕ) → address_scan (62 ∷ rest) ≡ Stop 0
+mark_stops : (rest : List ℕ) → address_scan (62 ∷ rest) ≡ Err 0
 unfolding address_scan local_scan dot_atom_scan dot_atom_from is_atom_byte is_atext scan_then
 mark_stops rest = refl
 
-address_unmarked : (s : List ℕ) (n : ℕ) → address_scan s ≡ To n → eqb (get_or s 0 0) 62 ≡ false
+address_unmarked : (s : List ℕ) (n : ℕ) → address_scan s ≡ Ok n → eqb (get_or s 0 0) 62 ≡ false
 address_unmarked [] n e = refl
 address_unmarked (b ∷ s) n e = ne_eqb b 62 (λ k. no_to (sym (mark_stops s) ∙ rw k at e))
 
-address_read : (mail : Bool) (s : List ℕ) (n : ℕ) → address_scan s ≡ To n → path_scan mail s ≡ To n
+address_read : (mail : Bool) (s : List ℕ) (n : ℕ) → address_scan s ≡ Ok n → path_scan mail s ≡ Ok n
 unfolding path_scan
 address_read true s n e = rw (address_unmarked s n e) e
 address_read false s n e =
@@ -168,7 +166,7 @@ address_read false s n e =
     (λ t. rw (no_false (same_any_case (bytes "Postmaster>") (take 11 s)) t) e)
 
 -- a path of the grammar is read
-path_read : {mail : Bool} {p : List ℕ} → Path mail p → (rest : List ℕ) → path_scan mail (p ++ (62 ∷ rest)) ≡ To (length p)
+path_read : {mail : Bool} {p : List ℕ} → Path mail p → (rest : List ℕ) → path_scan mail (p ++ (62 ∷ rest)) ≡ Ok (length p)
 unfolding path_scan bytes
 path_read (Path.address {mail} {path = p} a) rest = address_read mail (p ++ (62 ∷ rest)) (length p) (address_complete a (62 ∷ rest) (mark_closed rest))
 path_read Path.empty rest = refl
@@ -179,9 +177,9 @@ path_read (Path.postmaster {path = p} t) rest =
 
 -- ---- a line, read
 
-to_end : (r : Scan) → T (is_to r) → r ≡ To (scan_end r)
-to_end (To n) t = refl
-to_end (Stop n) t = absurd t
+to_end : (r : Result ℕ ℕ) → T (is_to r) → r ≡ Ok (scan_end r)
+to_end (Ok n) t = refl
+to_end (Err n) t = absurd t
 
 module _ (mail : Bool) (line : List ℕ) where
   -- the value of ALT-ADDRESS, if any
@@ -234,7 +232,7 @@ module _ (mail : Bool) (front : List ℕ) {p : List ℕ} (f : T (same_any_case (
   made_rest : drop (verb_len mail) made ≡ p ++ (62 ∷ t)
   made_rest = drop_at front (p ++ (62 ∷ t)) (verb_len mail) front_size
 
-  made_scan : path_scan mail (drop (verb_len mail) made) ≡ To (length p)
+  made_scan : path_scan mail (drop (verb_len mail) made) ≡ Ok (length p)
   made_scan = rw made_rest (path_read q t)
 
   made_length : path_len mail made ≡ length p

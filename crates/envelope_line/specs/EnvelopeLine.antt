@@ -2,15 +2,13 @@
 --
 -- `mail` says whether the line stands where the MAIL line does; every other line is due to be a RCPT line. The parts of a line are
 -- defined for every line, and mean what their names say where the line is well-formed.
-use Rattle.std.specs.Prelude.{Bool, true, false, not, cond, ◌&&◌, List, [], ◌∷◌, ◌++◌, ℕ, suc, ◌+◌, eqb, leb, length, take, drop, get_or}
+use Rattle.std.specs.Prelude.{Bool, true, false, not, cond, ◌&&◌, List, [], ◌∷◌, ◌++◌, ℕ, suc, ◌+◌, eqb, leb, length, take, drop, get_or, Result, Ok, Err}
 use Rattle.lists.specs.Lists.{all}
 use Rattle.lists.specs.Byte.{is_ascii}
 use Rattle.utf8.specs.Utf8.{utf8}
 use Rattle.letter_case.specs.LetterCase.{bytes, same_any_case}
 use Rattle.rules.specs.declared.Rules.{Rules}
 use Rattle.rules.specs.Rules.{allows_alternative}
-use Rattle.address.specs.declared.Scan.{Scan}
-use Rattle.address.specs.declared.Scan.TheVariants.{To, Stop}
 use Rattle.address.specs.Address.{address_scan}
 use Rattle.xtext.specs.Xtext.{decoded, is_alt_address}
 use Rattle.parameter.specs.Parameter.{params, spaced, value, is_param, alts, alts_ok, alt, alt_place, orcpt_clean}
@@ -36,17 +34,17 @@ has_verb mail line = same_any_case (verb mail) (take (verb_len mail) line)
 
 -- "A path is an address; MAIL may have an empty one, and RCPT may have the bare word Postmaster in any case." At the front of what
 -- follows the verb; `>` (62) closes the path.
-unfoldable pub path_scan : Bool → List ℕ → Scan
-path_scan true s = cond (eqb (get_or s 0 0) 62) (To 0) (address_scan s)
-path_scan false s = cond (same_any_case (bytes "Postmaster>") (take 11 s)) (To 10) (address_scan s)
+unfoldable pub path_scan : Bool → List ℕ → Result ℕ ℕ
+path_scan true s = cond (eqb (get_or s 0 0) 62) (Ok 0) (address_scan s)
+path_scan false s = cond (same_any_case (bytes "Postmaster>") (take 11 s)) (Ok 10) (address_scan s)
 
-abbrev pub scan_end : Scan → ℕ
-scan_end (To n) = n
-scan_end (Stop n) = n
+abbrev pub scan_end : Result ℕ ℕ → ℕ
+scan_end (Ok n) = n
+scan_end (Err n) = n
 
-abbrev pub is_to : Scan → Bool
-is_to (To n) = true
-is_to (Stop n) = false
+abbrev pub is_to : Result ℕ ℕ → Bool
+is_to (Ok n) = true
+is_to (Err n) = false
 
 unfoldable pub path_len : Bool → List ℕ → ℕ
 path_len mail line = scan_end (path_scan mail (drop (verb_len mail) line))

@@ -5,7 +5,6 @@ ghost use Rattle.envelope_line.specs.FaultLaws.{only_alt_fault, tail_fault};
 
 use crate::Fault;
 use crate::path::{has_verb, path, path_start};
-use address::Scan;
 use line::part;
 use parameter::{alt_place, are_params, is_spaced, keyword_len, param_end, value_start};
 use rules::{Rules, allows_alternative};
@@ -67,7 +66,7 @@ pub fn line_fault(rules: Rules, line: &[u8], mail: bool) -> Fault
     if !has_verb(line, mail) {
         return Fault::Malformed;
     }
-    let Scan::To(end) = path(line, mail) else {
+    let Ok(end) = path(line, mail) else {
         return Fault::Malformed;
     };
     if line::byte_at(line, end) != b'>' {

@@ -1,7 +1,7 @@
 -- Laws of words, phrases and addresses, as code finds them by position.
 use Rattle.std.proofs.Math.Path.{◌≡◌, refl}
 use Rattle.std.proofs.Common.{ap, sym, ◌∙◌, not-suc-le-zero, drop_of_length-le, drop-drop}
-use Rattle.std.specs.Prelude.{Bool, true, false, cond, ◌&&◌, ℕ, zero, suc, ◌+◌, ◌-◌, ◌≤◌, ◌<◌, ltb, leb, eqb, drop, get_or}
+use Rattle.std.specs.Prelude.{Bool, true, false, cond, ◌&&◌, ℕ, zero, suc, ◌+◌, ◌-◌, ◌≤◌, ◌<◌, ltb, leb, eqb, drop, get_or, Result, Ok, Err}
 use Rattle.std.proofs.Math.Bool.{and-false}
 use mathlib.Core.List.{List, [], ◌∷◌}
 use native.Mathlib.Omega.{arith}
@@ -11,8 +11,6 @@ use Rattle.lists.specs.ListsLaws.{cond_has}
 use Rattle.lists.specs.Run.{run}
 use Rattle.lists.specs.RunLaws.{run_le}
 use Rattle.line.specs.Line.{blank}
-use Rattle.address.specs.declared.Scan.{Scan}
-use Rattle.address.specs.declared.Scan.TheVariants.{To, Stop}
 use Rattle.address.specs.Address.{later, quoted_scan, address_scan}
 use Rattle.address.specs.AddressLaws.{front_byte}
 use Rattle.address.specs.TakenLaws.{Taken, taken_quoted}
@@ -36,24 +34,24 @@ capped_le {r} {n} {m} e h = rw e (go (leb n 900))
 
 -- ---- what a scan found, by position
 
-module _ {least : ℕ} (s : List ℕ) (at : ℕ) (r : Scan) (t : Taken (suc least) (drop at s) r) where
-  pub found_to : (n : ℕ) → To n ≡ later at r → (n - at ≡ found r) × ((at ≤ n) × (n - at ≤ length s - at))
+module _ {least : ℕ} (s : List ℕ) (at : ℕ) (r : Result ℕ ℕ) (t : Taken (suc least) (drop at s) r) where
+  pub found_to : (n : ℕ) → Ok n ≡ later at r → (n - at ≡ found r) × ((at ≤ n) × (n - at ≤ length s - at))
   unfolding later
   found_to n e = go r t e
     where
-      go : (r : Scan) → Taken (suc least) (drop at s) r → To n ≡ later at r → (n - at ≡ found r) × ((at ≤ n) × (n - at ≤ length s - at))
-      go (To m) t e =
+      go : (r : Result ℕ ℕ) → Taken (suc least) (drop at s) r → Ok n ≡ later at r → (n - at ≡ found r) × ((at ≤ n) × (n - at ≤ length s - at))
+      go (Ok m) t e =
           let place : n ≡ at + m = cc in
           (omega arith, (omega arith, omega (arith, t.covers.within, length-drop at s)))
-      go (Stop m) t e = absurd (let z : ◌≡◌ {A = ℕ} 0 1 = cc in omega arith)
+      go (Err m) t e = absurd (let z : ◌≡◌ {A = ℕ} 0 1 = cc in omega arith)
 
-  pub found_stop : (n : ℕ) → Stop n ≡ later at r → 0 ≡ found r
+  pub found_stop : (n : ℕ) → Err n ≡ later at r → 0 ≡ found r
   unfolding later
   found_stop n e = go r e
     where
-      go : (r : Scan) → Stop n ≡ later at r → 0 ≡ found r
-      go (To m) e = absurd (let z : ◌≡◌ {A = ℕ} 0 1 = cc in omega arith)
-      go (Stop m) e = refl
+      go : (r : Result ℕ ℕ) → Err n ≡ later at r → 0 ≡ found r
+      go (Ok m) e = absurd (let z : ◌≡◌ {A = ℕ} 0 1 = cc in omega arith)
+      go (Err m) e = refl
 
 pub address_of : (s : List ℕ) (n r : ℕ) → n ≡ found (address_scan s) → r ≡ capped n → r ≡ address_len s
 unfolding address_len
@@ -140,9 +138,9 @@ module _ (s : List ℕ) (w : ℕ) (q : w ≡ word_len (drop 0 s)) where
 
 -- ---- lengths within the text
 
-found_le : {least : ℕ} {s : List ℕ} (r : Scan) → Taken (suc least) s r → found r ≤ length s
-found_le (To n) t = t.covers.within
-found_le (Stop n) t = omega arith
+found_le : {least : ℕ} {s : List ℕ} (r : Result ℕ ℕ) → Taken (suc least) s r → found r ≤ length s
+found_le (Ok n) t = t.covers.within
+found_le (Err n) t = omega arith
 
 word_le : (s : List ℕ) → word_len s ≤ length s
 unfolding word_len

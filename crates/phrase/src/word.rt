@@ -4,7 +4,6 @@ ghost use Rattle.lists.specs.Run.{run};
 ghost use Rattle.address.specs.Address.{quoted_scan};
 ghost use Rattle.phrase.specs.Words.{found, capped, is_word_byte, address_len, word_len, next_word_len, phrase_len};
 
-use address::Scan;
 use line::blanks_end;
 
 // A length; none where it exceeds 900.
@@ -19,8 +18,8 @@ pub fn address_len(s: &[u8], at: usize) -> usize
     ensures { (result ≡ address_len (drop at s.now)) × (result ≤ length s.now - at) }
 {
     match address::address(s, at) {
-        Scan::To(n) => capped(n - at),
-        Scan::Stop(_) => 0,
+        Ok(n) => capped(n - at),
+        Err(_) => 0,
     }
 }
 
@@ -29,8 +28,8 @@ fn quoted_len(s: &[u8], at: usize) -> usize
     ensures { (result ≡ found (quoted_scan (drop at s.now))) × (result ≤ length s.now - at) }
 {
     match address::quoted::quoted(s, at) {
-        Scan::To(n) => n - at,
-        Scan::Stop(_) => 0,
+        Ok(n) => n - at,
+        Err(_) => 0,
     }
 }
 

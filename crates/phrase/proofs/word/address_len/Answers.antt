@@ -9,10 +9,10 @@ use borrow.Author.Rules.{rules}
 use Rattle.phrase.proofs.word.address_len.Goals as goal
 
 pub overflow_sub-n : goal.overflow_sub-n
-overflow_sub-n c = (found_to c.args.s.now c.args.at (address_scan (drop c.args.at c.args.s.now)) (taken_address _) _ (sym c.in-To.is ∙ c.address.ensures)).1.0
+overflow_sub-n c = (found_to c.args.s.now c.args.at (address_scan (drop c.args.at c.args.s.now)) (taken_address _) _ (sym c.in-Ok.is ∙ c.address.ensures)).1.0
 
-pub returns-in-To : goal.returns-in-To
-returns-in-To c = let f = found_to c.args.s.now c.args.at (address_scan (drop c.args.at c.args.s.now)) (taken_address _) _ (sym c.in-To.is ∙ c.address.ensures) in (address_of _ _ _ f.0 c.capped.ensures, capped_le c.capped.ensures f.1.1)
+pub returns-in-Ok : goal.returns-in-Ok
+returns-in-Ok c = let f = found_to c.args.s.now c.args.at (address_scan (drop c.args.at c.args.s.now)) (taken_address _) _ (sym c.in-Ok.is ∙ c.address.ensures) in (address_of _ _ _ f.0 c.capped.ensures, capped_le c.capped.ensures f.1.1)
 
-pub returns-in-Stop : goal.returns-in-Stop
-returns-in-Stop c = (address_of _ _ _ (found_stop c.args.s.now c.args.at (address_scan (drop c.args.at c.args.s.now)) (taken_address _) _ (sym c.in-Stop.is ∙ c.address.ensures)) (capped_in 0 (omega arith)), omega arith)
+pub returns-in-Err : goal.returns-in-Err
+returns-in-Err c = (address_of _ _ _ (found_stop c.args.s.now c.args.at (address_scan (drop c.args.at c.args.s.now)) (taken_address _) _ (sym c.in-Err.is ∙ c.address.ensures)) (capped_in 0 (omega arith)), omega arith)
