@@ -1,5 +1,5 @@
 -- Bounds of an outcome: every number fits 32 bits, what is written fits its buffer, and the rest of the buffer stays.
-use Rattle.std.specs.Prelude.{◌≡◌, ℕ, suc, ◌+◌, ◌≤◌, ◌<◌, ltb, eqb, take, drop}
+use Rattle.std.specs.Prelude.{◌≡◌, ℕ, suc, ◌+◌, ◌≤◌, ◌<◌, ltb, eqb, take, drop, Ok, Err}
 use Rattle.std.proofs.Math.Path.{refl}
 use Rattle.std.proofs.Common.{ap, length-append, length-take, length-drop}
 use mathlib.Core.List.{List, [], ◌∷◌}
@@ -24,9 +24,7 @@ use Rattle.envelope.specs.declared.Orcpt.TheVariants.{Clean, At}
 use Rattle.envelope.specs.Envelope.{lines, line_text, fault_of, fault_number, is_fine, counted, checked_from, checked, texts, orcpt_from, orcpt_line, written}
 use Rattle.envelope.proofs.CheckLaws.{fine_few}
 use Rattle.envelope.proofs.LengthLaws.{written_le}
-use Rattle.header_line.specs.declared.LineCheck.{LineCheck}
-use Rattle.header_line.specs.declared.LineCheck.TheVariants.{WellFormed, Malformed as MalformedLine}
-use Rattle.header_line.specs.Lines.{line_ok, lines_of, lines_from, checked_lines}
+use Rattle.header_line.specs.Lines.{line_ok, lines_of, lines_from, checked_lines, bad_line, LineCheck}
 use Rattle.header.specs.Fields.{field_len, fields_of, line_count}
 use Rattle.rules.specs.declared.Rules.{Rules}
 use Rattle.outgoing_field.specs.declared.HeldField.{HeldField}
@@ -132,15 +130,15 @@ module _ (rules : Rules) (P : Verdict → Type 0) (more : List Verdict) where
       (λ t. let k = ltb_yes {a = room} {b = size} t in rw (room_short room size k) (g k))
       (λ t. let k = ltb_no {a = room} {b = size} t in rw (room_enough room size k) (f k))
 
-  first_lines : (h : List ℕ) → (checked_lines h ≡ WellFormed → P (first_of more))
-      → ((line at : ℕ) → checked_lines h ≡ MalformedLine line at → P (Refuse (Header (Line line (header_line_offset h line at)))))
+  first_lines : (h : List ℕ) → (checked_lines h ≡ Ok tt → P (first_of more))
+      → ((line at : ℕ) → checked_lines h ≡ bad_line line at → P (Refuse (Header (Line line (header_line_offset h line at)))))
       → P (first_of (of_header (of_lines h (checked_lines h)) ∷ more))
   unfolding first_of of_lines of_header
   first_lines h f g = go (checked_lines h) refl
     where
       go : (r : LineCheck) → checked_lines h ≡ r → P (first_of (of_header (of_lines h r) ∷ more))
-      go WellFormed q = f q
-      go (MalformedLine line at) q = g line at q
+      go (Ok tt) q = f q
+      go (Err bad) q = g bad.line bad.at q
 
   first_orcpt : (e : List ℕ) → P (first_of more) → ((line : ℕ) → orcpt_line e ≡ At line → P (Refuse (OrcptLine line (orcpt_offset e line)))) → P (first_of (of_orcpt e (orcpt_line e) ∷ more))
   unfolding first_of of_orcpt
@@ -186,7 +184,7 @@ module _ (rules : Rules) (e h : List ℕ) (room₁ room₂ : ℕ) where
   Bounds v = Bound rules e h room₁ room₂ v
 
   -- where the envelope and the header pass
-  rooms_bound : length e ≤ 16384 → length h ≤ 32768 → (count : ℕ) → checked rules e ≡ Passed count → checked_lines h ≡ WellFormed
+  rooms_bound : length e ≤ 16384 → length h ≤ 32768 → (count : ℕ) → checked rules e ≡ Passed count → checked_lines h ≡ Ok tt
       → Bounds (first_of (over room₁ (length (written e)) (EnvelopeNeeds (length (written e))) ∷ of_header (of_room room₂ (length (outgoing_header rules e h))) ∷ []))
   unfolding first_of number_of place_of offset_of header_number header_place header_offset new_fields_most
   rooms_bound k l count p w =

@@ -24,8 +24,6 @@ use Rattle.envelope.specs.declared.Orcpt.TheVariants.{Clean, At}
 use Rattle.envelope.specs.Envelope.{lines, line_text, fault_of, fault_number, is_fine, counted, checked_from, checked, texts, orcpt_from, orcpt_line, written}
 use Rattle.envelope.proofs.CheckLaws.{fine_few}
 use Rattle.envelope.proofs.LengthLaws.{written_le}
-use Rattle.header_line.specs.declared.LineCheck.{LineCheck}
-use Rattle.header_line.specs.declared.LineCheck.TheVariants.{WellFormed, Malformed as MalformedLine}
 use Rattle.header_line.specs.Lines.{line_ok, lines_of, lines_from, checked_lines}
 use Rattle.header.specs.Fields.{field_len, fields_of, line_count}
 use Rattle.rules.specs.declared.Rules.{Rules}

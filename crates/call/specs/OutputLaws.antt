@@ -16,8 +16,6 @@ use Rattle.envelope.specs.LineStarts.{EnvelopeChecked, texts_at}
 use Rattle.envelope.proofs.WrittenLaws.{stored}
 use Rattle.envelope.proofs.LengthLaws.{written_le}
 use Rattle.envelope.proofs.ReplacementLaws.{mail_replacement_short, rcpt_replacement_short}
-use Rattle.header_line.specs.declared.LineCheck.{LineCheck}
-use Rattle.header_line.specs.declared.LineCheck.TheVariants.{WellFormed, Malformed}
 use Rattle.header_line.specs.Lines.{checked_lines}
 use Rattle.rules.specs.declared.Rules.{Rules}
 use Rattle.outgoing_field.specs.declared.HeldField.{HeldField}

@@ -1,5 +1,5 @@
 -- The three demands hold of the outcome.
-use Rattle.std.specs.Prelude.{◌≡◌, ◌≢◌, Bool, true, not, List, [], ◌∷◌, ◌++◌, T, eqb, ltb, take}
+use Rattle.std.specs.Prelude.{◌≡◌, ◌≢◌, Bool, true, not, List, [], ◌∷◌, ◌++◌, T, eqb, ltb, take, Ok, Err}
 use Rattle.std.proofs.Math.Path.{refl, sym, ap}
 use Rattle.std.proofs.Common.{◌∙◌, append-nil, arith, eqb→eq}
 use Prim.Native.Nat.{ℕ, suc, pred, ◌≤◌}
@@ -25,11 +25,9 @@ use Rattle.envelope.proofs.PassedLaws.{checked_not_fine}
 use Rattle.envelope.proofs.AsciiLaws.{written_ascii}
 use Rattle.envelope.proofs.ReplacementLaws.{mail_replacement_utf8, rcpt_replacement_utf8, mail_replacement_none, rcpt_replacement_none}
 use Rattle.envelope_line.specs.EnvelopeLine.{replacement}
-use Rattle.header_line.specs.declared.LineCheck.{LineCheck}
-use Rattle.header_line.specs.declared.LineCheck.TheVariants.{WellFormed, Malformed as MalformedLine}
 use Rattle.outgoing_field.specs.declared.HeldField.{HeldField}
 use Rattle.outgoing_field.specs.declared.HeldField.TheVariants.{Absent, At as HeldAt}
-use Rattle.header_line.specs.Lines.{checked_lines}
+use Rattle.header_line.specs.Lines.{checked_lines, LineCheck}
 use Rattle.header.specs.Fields.{fields_of}
 use Rattle.rules.specs.declared.Rules.{Rules}
 use Rattle.rules.specs.Rules.{allows_alternative}
@@ -97,7 +95,7 @@ module _ (rules : Rules) (e h : List ℕ) where
     pub limits : (length e ≤ 16384) × (length h ≤ 32768)
     pub recipients : ℕ
     pub envelope : checked rules e ≡ Passed recipients
-    pub header : checked_lines h ≡ WellFormed
+    pub header : checked_lines h ≡ Ok tt
     pub orcpt : orcpt_line e ≡ Clean
     pub held : held_of rules h ≡ Absent
 
@@ -229,7 +227,7 @@ module _ (rules : Rules) (e h b c : List ℕ) where
           let enough : 2 ≤ suc m = let k = x.0 in omega arith in
           none_refused s.0 s.1 enough x.1
 
-      module _ (q : checked_lines h ≡ WellFormed) where
+      module _ (q : checked_lines h ≡ Ok tt) where
         module _ (r : orcpt_line e ≡ Clean) where
           clean : EnvelopePasses rules Ascii e h (written e) (replacements e)
           clean =
@@ -248,8 +246,8 @@ module _ (rules : Rules) (e h b c : List ℕ) where
             found (orcpt_non_ascii x.more passed (header_lines h q).1 x.is x.lines x.l x.high)
 
       some_header : (check : LineCheck) → checked_lines h ≡ check → Some
-      some_header WellFormed k = some_orcpt k (orcpt_line e) refl
-      some_header (MalformedLine line at) k = found (header_malformed passed (header_malformed_found h line at k))
+      some_header (Ok tt) k = some_orcpt k (orcpt_line e) refl
+      some_header (Err bad) k = found (header_malformed passed (header_malformed_found h bad.line bad.at k))
 
     some_refused : (fault : Fault) (line : ℕ) → (fault ≡ Malformed → ⊥) → checked rules e ≡ Refused fault line → Some
     some_refused fault line n k =

@@ -18,8 +18,7 @@ use Rattle.utf8.specs.WindowLaws.{placed_first, to_whole, all_at_here, all_at_ma
 use Rattle.line.specs.Line.{crlf, not_cr, cr_run}
 use Rattle.line.specs.LineLaws.{crlf_at_lem, cr_there}
 use Rattle.line.specs.CrLaws.{CrStep}
-use Rattle.header_line.specs.declared.LineCheck.TheVariants.{Malformed}
-use Rattle.header_line.specs.Lines.{line_byte, checked_lines}
+use Rattle.header_line.specs.Lines.{line_byte, checked_lines, bad_line}
 use Rattle.header_line.specs.LineLaws.{passed_part, crlf_text, TextEnd, Stopped, text_end_lem, shaped_to, Lined, lined_shape, lined_good, Left, left_all, left_bad, left_next}
 use Rattle.header_line.specs.Clean.{line_after, line_placed, line_placed3, calm, lines_start, lines_end, Clean}
 
@@ -339,7 +338,7 @@ module _ {h : List ℕ} {n at i end next : ℕ} {found : Bool} (clean : Clean h)
   lined : found ≡ true → shaped_to 76 (eqb n 0) (take (end - at) (drop at h)) ≡ true → Lined 76 h at (eqb n 0) (end + 2)
   lined f k = lined_good (clean_text clean l.begins inside end (cr_here f)) (clean_crlf clean l.begins inside end (cr_here f)) k
 
-  pub lines_bad : found ≡ true → shaped_to 76 (eqb n 0) (take (end - at) (drop at h)) ≡ false → Malformed n at ≡ checked_lines h
+  pub lines_bad : found ≡ true → shaped_to 76 (eqb n 0) (take (end - at) (drop at h)) ≡ false → bad_line n at ≡ checked_lines h
   lines_bad f k =
       left_bad l.left inside (lined_shape (clean_text clean l.begins inside end (cr_here f)) (clean_crlf clean l.begins inside end (cr_here f)) k) refl
 

@@ -1,5 +1,5 @@
 -- Laws of lines by position, as code tests them.
-use Rattle.std.specs.Prelude.{◌≡◌, Bool, cond, not, ◌&&◌, ◌||◌, List, [], ◌∷◌, ◌++◌, ℕ, zero, suc, ◌+◌, ◌-◌, ◌≤◌, ◌<◌, T, leb, ltb, eqb, length, take, get_or}
+use Rattle.std.specs.Prelude.{◌≡◌, Bool, cond, not, ◌&&◌, ◌||◌, List, [], ◌∷◌, ◌++◌, ℕ, zero, suc, ◌+◌, ◌-◌, ◌≤◌, ◌<◌, T, leb, ltb, eqb, length, take, get_or, Ok}
 use Rattle.std.proofs.Math.Path.{refl, sym}
 use Rattle.std.proofs.Common.{ap, ◌∙◌, not-suc-le-zero, add-zero, suc-add, add-one, arith, le→leb, length-drop, length-take, take-append-drop, drop_of_length-le, drop-cons, drop-drop, get_or-drop, get_or-take, take-take, length-take-le, ne_eqb}
 use Rattle.std.proofs.Math.Bool.{true, false, and-false, or-false}
@@ -15,12 +15,10 @@ use Rattle.lists.specs.RunLaws.{run_le, run_all, run_step}
 use Rattle.utf8.specs.Utf8.{char_len, is_char, char_at, utf8}
 use Rattle.utf8.specs.Utf8Laws.{char_len_some, char_high, utf8_right, utf8_ascii, utf8_char, utf8_of}
 use Rattle.utf8.specs.Utf8AtLaws.{whole_char, char_at_some, char_at_within, utf8_stop}
-use Rattle.header_line.specs.Lines.{line_byte, name_byte, name_len, named, named_to, continuation, formed_by, well_formed, line_ok, line_ok_to, line_after, lines_of, lines_from, checked_lines}
+use Rattle.header_line.specs.Lines.{line_byte, name_byte, name_len, named, named_to, continuation, formed_by, well_formed, line_ok, line_ok_to, line_after, lines_of, lines_from, checked_lines, bad_line, LineCheck}
 use Rattle.line.specs.Line.{blank, crlf, line_len}
 use Rattle.lists.specs.CutByLaws.{cut_nil, cut_front}
 use Rattle.line.specs.LineLaws.{crlf_inside, line_front, crlf_front}
-use Rattle.header_line.specs.declared.LineCheck.{LineCheck}
-use Rattle.header_line.specs.declared.LineCheck.TheVariants.{WellFormed, Malformed}
 
 -- ---- the text of a line
 
@@ -359,7 +357,7 @@ ok_76 first h = refl
 abbrev pub lines_at : ℕ → ℕ → List ℕ → LineCheck
 lines_at n at h = lines_from n at (lines_of h)
 
-pub lines_none : (n at : ℕ) → lines_at n at [] ≡ WellFormed
+pub lines_none : (n at : ℕ) → lines_at n at [] ≡ Ok tt
 unfolding lines_of lines_from
 lines_none n at = rw (cut_nil (λ rest. line_len rest + 2))
 
@@ -390,7 +388,7 @@ front_good n at xs h e =
     lines_front n at xs h
     ∙ rw (ok_front (eqb n 0) xs, e, length-take-le (line_len xs + 2) xs (ended (eqb n 0) xs e), add-one)
 
-pub front_bad : (n at : ℕ) (xs : List ℕ) → 0 < length xs → line_ok (eqb n 0) xs ≡ false → lines_at n at xs ≡ Malformed n at
+pub front_bad : (n at : ℕ) (xs : List ℕ) → 0 < length xs → line_ok (eqb n 0) xs ≡ false → lines_at n at xs ≡ bad_line n at
 unfolding lines_from
 front_bad n at xs h e = lines_front n at xs h ∙ rw (ok_front (eqb n 0) xs, e)
 
@@ -403,11 +401,11 @@ pub left_all : (h : List ℕ) → Left h 0 0
 unfolding checked_lines
 left_all h = record { count = omega arith; same = refl }
 
-pub left_end : {h : List ℕ} {n at : ℕ} → Left h n at → length h ≤ at → WellFormed ≡ checked_lines h
+pub left_end : {h : List ℕ} {n at : ℕ} → Left h n at → length h ≤ at → Ok tt ≡ checked_lines h
 left_end {h} {n} {at} l k = sym (l.same ∙ rw (drop_of_length-le h {i = at} k) (lines_none n at))
 
 module _ {h : List ℕ} {n at r : ℕ} (l : Left h n at) where
-  pub left_bad : at < length h → Lined 76 h at (eqb n 0) r → r ≡ at → Malformed n at ≡ checked_lines h
+  pub left_bad : at < length h → Lined 76 h at (eqb n 0) r → r ≡ at → bad_line n at ≡ checked_lines h
   left_bad k d e = sym (l.same ∙ front_bad n at (drop at h) (rw length-drop (omega arith)) (sym (ok_76 (eqb n 0) (drop at h)) ∙ d.malformed e))
 
   pub left_next : at < length h → Lined 76 h at (eqb n 0) r → (r ≡ at → ⊥) → Left h (n + 1) r

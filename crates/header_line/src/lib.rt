@@ -14,11 +14,11 @@ ghost use Rattle.header_line.specs.NameLaws.{Weighed};
 
 use line::is_blank;
 
-// Whether every line of a header is well formed; else the number of the first malformed line, and the byte where it starts.
-#[derive(Clone, Copy)]
-pub enum LineCheck {
-    WellFormed,
-    Malformed(usize, usize),
+// The first malformed line of a header: its number, and the byte where it starts.
+#[derive(Clone, Copy, Debug, PartialEq, Eq)]
+pub struct MalformedLine {
+    pub line: usize,
+    pub at: usize,
 }
 
 pub fn is_name_byte(b: u8) -> bool
@@ -131,7 +131,7 @@ pub fn line_after(h: &[u8], at: usize, first: bool, limit: usize) -> usize
 }
 
 // Checks the lines of a header, byte by byte.
-fn check_slowly(h: &[u8]) -> LineCheck
+fn check_slowly(h: &[u8]) -> Result<(), MalformedLine>
     ensures { result ≡ checked_lines h.now }
 {
     let mut at: usize = 0;
@@ -139,16 +139,16 @@ fn check_slowly(h: &[u8]) -> LineCheck
     while at < h.len() {
         let next = line_end(h, at, n == 0, 76);
         if next == at {
-            return LineCheck::Malformed(n, at);
+            return Err(MalformedLine { line: n, at });
         }
         at = next;
         n += 1;
     }
-    LineCheck::WellFormed
+    Ok(())
 }
 
 // Checks the lines of a clean header. CRs are searched in blocks from i on: the next CR from i is the end of the line at `at`.
-fn check_clean(h: &[u8]) -> LineCheck
+fn check_clean(h: &[u8]) -> Result<(), MalformedLine>
     requires { Clean h.now }
     ensures { result ≡ checked_lines h.now }
 {
@@ -162,17 +162,17 @@ fn check_clean(h: &[u8]) -> LineCheck
         i = c.next;
         if found {
             if !is_shaped(n == 0, &h[at..e], 76) {
-                return LineCheck::Malformed(n, at);
+                return Err(MalformedLine { line: n, at });
             }
             at = e + 2;
             n += 1;
         }
     }
-    LineCheck::WellFormed
+    Ok(())
 }
 
 // Checks the lines of a header.
-pub fn check(h: &[u8]) -> LineCheck
+pub fn check(h: &[u8]) -> Result<(), MalformedLine>
     ensures { result ≡ checked_lines h.now }
 {
     if clean::is_clean(h) {
