@@ -19,7 +19,7 @@ use Rattle.line.specs.Line.{crlf, not_cr, cr_run}
 use Rattle.line.specs.LineLaws.{crlf_at_lem, cr_there}
 use Rattle.line.specs.CrLaws.{CrStep}
 use Rattle.header_line.specs.Lines.{line_byte, checked_lines, bad_line}
-use Rattle.header_line.specs.LineLaws.{passed_part, crlf_text, TextEnd, Stopped, text_end_lem, shaped_to, Lined, lined_shape, lined_good, Left, left_all, left_bad, left_next}
+use Rattle.header_line.specs.LineLaws.{passed_part, crlf_text, TextEnd, Stopped, text_end_lem, shaped_to, GoodLine, lined_shape, lined_good, Left, left_all, left_bad, left_next}
 use Rattle.header_line.specs.Clean.{line_after, line_placed, line_placed3, calm, lines_start, lines_end, Clean}
 
 -- ---- a byte after another
@@ -335,12 +335,12 @@ module _ {h : List ℕ} {n at i end next : ℕ} {found : Bool} (clean : Clean h)
       let e = cr_here f in
       (omega (arith, e), omega (arith, lf_inside clean l.begins inside end e))
 
-  lined : found ≡ true → shaped_to 76 (eqb n 0) (take (end - at) (drop at h)) ≡ true → Lined 76 h at (eqb n 0) (end + 2)
-  lined f k = lined_good (clean_text clean l.begins inside end (cr_here f)) (clean_crlf clean l.begins inside end (cr_here f)) k
+  lined : found ≡ true → shaped_to 76 (eqb n 0) (take (end - at) (drop at h)) ≡ true → GoodLine 76 h at (eqb n 0) (end + 2)
+  lined f k = lined_good 76 (eqb n 0) (clean_text clean l.begins inside end (cr_here f)) (clean_crlf clean l.begins inside end (cr_here f)) k
 
   pub lines_bad : found ≡ true → shaped_to 76 (eqb n 0) (take (end - at) (drop at h)) ≡ false → bad_line n at ≡ checked_lines h
   lines_bad f k =
-      left_bad l.left inside (lined_shape (clean_text clean l.begins inside end (cr_here f)) (clean_crlf clean l.begins inside end (cr_here f)) k) refl
+      left_bad l.left inside (lined_shape 76 (eqb n 0) (clean_text clean l.begins inside end (cr_here f)) (clean_crlf clean l.begins inside end (cr_here f)) k)
 
   pub lines_next : found ≡ true → shaped_to 76 (eqb n 0) (take (end - at) (drop at h)) ≡ true → Lines h (n + 1) (end + 2) next
   lines_next f k =
@@ -350,7 +350,7 @@ module _ {h : List ℕ} {n at i end next : ℕ} {found : Bool} (clean : Clean h)
       let past : end + 1 + cr_run (drop (end + 1) h) ≡ end + 2 + cr_run (drop (end + 2) h) =
       rw two at (run_step not_cr h (end + 1) (lf_inside clean l.begins inside end e) (rw lf)) in
       record {
-        left = left_next l.left inside (lined f k) (λ z. omega (arith, z, e));
+        left = left_next l.left inside (lined f k);
         begins = clean_next clean l.begins inside end e;
         same = sym past ∙ s.after f (cr_inside clean l.begins inside end e);
       }
