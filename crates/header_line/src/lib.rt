@@ -39,6 +39,7 @@ impl Class for NameByte {
 }
 
 // The length of the name at the front of a line or a field.
+#[tactic(auto, unfolding(crate::specs::Lines::name_len))]
 pub fn name_len(line: &[u8]) -> usize
     ensures { result ≡ name_len line.now }
 {
