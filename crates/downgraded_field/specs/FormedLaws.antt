@@ -18,7 +18,7 @@ use Rattle.header.specs.Fields.{value_of}
 use Rattle.header.specs.FieldShapeLaws.{crlf_front}
 use Rattle.header_line.specs.Lines.{name_len}
 use Rattle.downgraded_field.specs.Shown.{continues, lines_formed, is_formed, spacing, solid}
-use Rattle.downgraded_field.specs.ShownLaws.{ShortRuns}
+use Rattle.downgraded_field.specs.ShownLaws.{ShortRuns, short_rest, text_part}
 
 -- ---- line after line
 
@@ -195,11 +195,14 @@ run_part f (suc i) zero s = omega arith
 run_part f (suc i) (suc n) [] = omega arith
 run_part f (suc i) (suc n) (b ∷ s) = run_part f i n s
 
-pub formed_short : {value : List ℕ} (field : List ℕ) → value ≡ value_of field → is_formed field ≡ true → ShortRuns value
+value_short : (field : List ℕ) → is_formed field ≡ true → ShortRuns (value_of field)
 unfolding value_of
-formed_short field e t = record {
+value_short field t = record {
   short = λ i.
       let f = formed_folds field (true_yes (is_formed field) t) in
       let k = name_len field + 1 in
-      rw (e, drop-drop) (omega (arith, run_part solid (k + i) (length field - 2) field, run_anywhere f (k + i)));
+      rw drop-drop (omega (arith, run_part solid (k + i) (length field - 2) field, run_anywhere f (k + i)));
 }
+
+pub formed_short : {s : List ℕ} (field : List ℕ) → s ≡ text_part field → is_formed field ≡ true → ShortRuns s
+formed_short field e t = rw e (short_rest (run spacing (value_of field)) (value_short field t))
