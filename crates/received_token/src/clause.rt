@@ -3,8 +3,6 @@ ghost use Rattle.std.specs.Prelude.{◌≡◌, drop};
 ghost use Rattle.received_token.specs.Clause.{white_len, is_for, angled_len, clause_len};
 ghost use Rattle.structured_token.specs.Tokens.{is_white};
 
-use address::Scan;
-
 // Whether a byte is a space, a TAB or of a fold.
 fn is_white(b: u8) -> bool
     ensures { result ≡ is_white b }
@@ -52,14 +50,14 @@ fn angled_len(s: &[u8]) -> usize
         return 0;
     }
     match address::address(s, 1) {
-        Scan::To(n) => {
+        Ok(n) => {
             if line::byte_at(s, n) == b'>' {
                 n + 1
             } else {
                 0
             }
         }
-        Scan::Stop(_) => 0,
+        Err(_) => 0,
     }
 }
 
