@@ -1,5 +1,5 @@
 -- Laws of the outcome where the input is accepted: measured, then written.
-use Rattle.std.specs.Prelude.{◌≡◌, refl, List, [], ◌∷◌, ◌++◌, ℕ, ◌+◌, ◌*◌, ◌≤◌, ◌<◌, min, Ok, Err}
+use Rattle.std.specs.Prelude.{◌≡◌, refl, List, [], ◌∷◌, ◌++◌, ℕ, ◌+◌, ◌*◌, ◌≤◌, ◌<◌, min, Ok, Err, Result}
 use Rattle.std.proofs.Common.{sym, ◌∙◌, arith, length-append, lt-ltb, le-ltb}
 use Rattle.std.proofs.Math.Path.{ap}
 use Rattle.std.proofs.Math.ListN.{length}
@@ -9,9 +9,8 @@ use Rattle.letter_case.specs.LetterCase.{bytes}
 use Rattle.encoded_word.specs.Segments.{rendered}
 use Rattle.encoded_word.specs.SegmentsLaws.{rendered_append}
 use Rattle.envelope_line.specs.declared.Fault.{Fault}
-use Rattle.envelope.specs.declared.Checked.{Checked}
-use Rattle.envelope.specs.declared.Checked.TheVariants.{Passed, Refused}
-use Rattle.envelope.specs.Envelope.{checked, texts, written_of, written, orcpt_line, mail_replacement, only_rcpt_of, rcpt_replacement}
+use Rattle.envelope.specs.declared.FaultAt.{FaultAt}
+use Rattle.envelope.specs.Envelope.{checked, texts, written_of, written, orcpt_line, mail_replacement, only_rcpt_of, rcpt_replacement, refused}
 use Rattle.envelope.specs.LineStarts.{EnvelopeChecked, texts_at}
 use Rattle.envelope.proofs.WrittenLaws.{stored}
 use Rattle.envelope.proofs.LengthLaws.{written_le}
@@ -67,11 +66,11 @@ module _ (rules : Rules) (e h : List ℕ) (room₁ room₂ : ℕ) where
     header_over k = rw (over_no 16384 (length e) EnvelopeOver short₁, size_over h k)
 
     module _ (short₂ : length h ≤ 32768) where
-      pub envelope_line_lem : (fault : Fault) (line offset : ℕ) → checked rules e ≡ Refused fault line → offset ≡ fault_offset e fault line → verdict rules e h room₁ room₂ ≡ Refuse (EnvelopeLine fault line offset)
+      pub envelope_line_lem : (fault : Fault) (line offset : ℕ) → checked rules e ≡ refused fault line → offset ≡ fault_offset e fault line → verdict rules e h room₁ room₂ ≡ Refuse (EnvelopeLine fault line offset)
       unfolding verdict first_of of_envelope of_header
       envelope_line_lem fault line offset k q = rw (over_no 16384 (length e) EnvelopeOver short₁, size_within h short₂, k, q)
 
-      module _ (count : ℕ) (passed : checked rules e ≡ Passed count) where
+      module _ (count : ℕ) (passed : checked rules e ≡ Ok count) where
         past_envelope : verdict rules e h room₁ room₂
             ≡ first_of
             (of_header (of_lines h (checked_lines h))
@@ -210,7 +209,7 @@ unfolding header_of outgoing_header outgoing_segments new_fields
 header_of_lem rules t h = rw (t.of_mail, t.of_rcpt)
 
 -- the outgoing header has at most the most of a well-formed header, and that of the new first fields
-pub outgoing_le : (rules : Rules) (e h : List ℕ) (count : ℕ) → checked rules e ≡ Passed count → length h ≤ 32768 → checked_lines h ≡ Ok tt
+pub outgoing_le : (rules : Rules) (e h : List ℕ) (count : ℕ) → checked rules e ≡ Ok count → length h ≤ 32768 → checked_lines h ≡ Ok tt
     → length (outgoing_header rules e h) ≤ most_of rules h + new_fields_most
 outgoing_le rules e h count p k w =
     let t : Texts e (mail_replacement e) (rcpt_replacement e) = record { of_mail = refl; of_rcpt = refl } in
@@ -218,7 +217,7 @@ outgoing_le rules e h count p k w =
     record { of_mail = omega (arith, mail_replacement_short rules e count p); of_rcpt = omega (arith, rcpt_replacement_short rules e count p) } in
     rw (header_of_lem rules t h) at (header_of_le rules h s w)
 
-pub to_ready : {rules : Rules} {e h before after : List ℕ} {count : ℕ} {r : Checked} → length e ≤ 16384 → length h ≤ 32768 → EnvelopeChecked rules e before after r → r ≡ Passed count → length before ≡ 100
+pub to_ready : {rules : Rules} {e h before after : List ℕ} {count : ℕ} {r : Result ℕ FaultAt} → length e ≤ 16384 → length h ≤ 32768 → EnvelopeChecked rules e before after r → r ≡ Ok count → length before ≡ 100
     → Ready rules e h after count
 to_ready s t c k l = let d = rw k at c in record { short₁ = s; short₂ = t; passed = sym d.answer; starts = stored d l }
 

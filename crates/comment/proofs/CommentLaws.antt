@@ -299,14 +299,24 @@ end_after i (suc n) zero none some beyond = absurd (omega (arith, none refl))
 end_after i zero (suc m) none some beyond = absurd (omega (arith, some (λ z. omega arith), beyond (λ z. omega arith)))
 end_after i (suc n) (suc m) none some beyond = let k : suc m ≡ i + suc n = sym (some (λ z. omega arith)) in rw k
 
--- what is found at an end of a comment
-pub end_none : (at n : ℕ) → None ≡ end_of at n → n ≡ 0
-end_none at zero e = refl
-end_none at (suc n) e = absurd (let z : ◌≡◌ {A = ℕ} 0 1 = cc in omega arith)
+no_end : (at n : ℕ) → None ≡ end_of at n → n ≡ 0
+no_end at zero e = refl
+no_end at (suc n) e = absurd (let z : ◌≡◌ {A = ℕ} 0 1 = cc in omega arith)
 
-pub end_some : (at n e : ℕ) → Some e ≡ end_of at n → (e ≡ at + n) × (0 < n)
-end_some at zero e q = absurd (let z : ◌≡◌ {A = ℕ} 0 1 = cc in omega arith)
-end_some at (suc n) e q = (cc, omega arith)
+an_end : (at n e : ℕ) → Some e ≡ end_of at n → (e ≡ at + n) × (0 < n)
+an_end at zero e q = absurd (let z : ◌≡◌ {A = ℕ} 0 1 = cc in omega arith)
+an_end at (suc n) e q = (cc, omega arith)
+
+-- what is found is the end of a comment of n bytes
+module _ {o : Option ℕ} (at n : ℕ) (r : o ≡ end_of at n) where
+  pub not_ended : o ≡ None → n ≡ 0
+  not_ended e = no_end at n (sym e ∙ r)
+
+  pub ended_at : {e : ℕ} → o ≡ Some e → e ≡ at + n
+  ended_at {e} q = (an_end at n e (sym q ∙ r)).0
+
+  pub ended_some : {e : ℕ} → o ≡ Some e → 0 < n
+  ended_some {e} q = (an_end at n e (sym q ∙ r)).1
 
 module _ (s : List ℕ) (i : ℕ) where
   pub comment_over : length s ≤ i → None ≡ end_of i (comment_len (drop i s))

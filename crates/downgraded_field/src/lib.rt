@@ -36,18 +36,16 @@ impl From<WordFault> for FieldFault {
 fn is_formed(field: &[u8]) -> bool
     ensures { result ≡ is_formed field.now }
 {
-    let mut at = header_line::line_after(field, 0, true, 87);
-    if at == 0 {
+    let Some(mut at) = header_line::line_after(field, 0, true, 87) else {
         return false;
-    }
+    };
     while at < field.len() {
         if !line::is_blank(field[at]) {
             return false;
         }
-        let next = header_line::line_after(field, at, false, 87);
-        if next == at {
+        let Some(next) = header_line::line_after(field, at, false, 87) else {
             return false;
-        }
+        };
         at = next;
     }
     true

@@ -41,7 +41,6 @@ use Rattle.outgoing_field.specs.Fate.{Fate, comments_or_encapsulated, holds, met
 use Rattle.outgoing_field.specs.Fate.Fate.{held, written}
 use Rattle.envelope.specs.Envelope.{checked, mail_replacement, rcpt_replacement}
 use Rattle.envelope.proofs.ReplacementLaws.{mail_replacement_utf8, rcpt_replacement_utf8}
-use Rattle.envelope.specs.declared.Checked.TheVariants.{Passed}
 use Rattle.call.specs.OutgoingHeader.{new_field, new_fields, outgoing_segments}
 use Rattle.downgraded_row.specs.RowLinesLaws.{Label}
 use Rattle.downgraded_row.specs.ReadBackLaws.{unlabelled, WrittenFields, written_then, name_not_blank}
@@ -201,7 +200,7 @@ rcpt_label : Label (bytes "Downgraded-Rcpt-To:")
 unfolding bytes name_byte
 rcpt_label = record { name = bytes "Downgraded-Rcpt-To"; is = refl; bytes = tt; some = omega arith; few = omega arith }
 
-pub outgoing_written : (rules : Rules) (e h : List ℕ) (n : ℕ) → checked rules e ≡ Passed n → checked_lines h ≡ Ok tt → WrittenFields (outgoing_segments rules e h)
+pub outgoing_written : (rules : Rules) (e h : List ℕ) (n : ℕ) → checked rules e ≡ Ok n → checked_lines h ≡ Ok tt → WrittenFields (outgoing_segments rules e h)
 unfolding outgoing_segments new_fields
 outgoing_written rules e h n p w =
     written_then
