@@ -1,4 +1,4 @@
-use Rattle.std.proofs.Common.{arith, sym, ap, ◌∙◌, rules}
+use Rattle.std.proofs.Common.{arith, sym, ap, ◌∙◌}
 use Rattle.parameter.specs.ParameterLaws.{one_alt, two_alts, no_alts, param_part}
 use Rattle.parameter.specs.FirstLaws.{alt_found, alt_missing, alt_some, alt_none}
 use Rattle.envelope_line.specs.FaultLaws.{only_alt_fault}

@@ -1,4 +1,4 @@
-use Rattle.std.proofs.Common.{arith, sym, ◌∙◌, rules}
+use Rattle.std.proofs.Common.{arith, sym, ◌∙◌}
 use Rattle.envelope_line.proofs.WriteLaws.{decoded_none, decoded_some}
 use Rattle.parameter.specs.ParameterLaws.{param_part}
 use Rattle.parameter.specs.FirstLaws.{alt_found, alt_missing}

@@ -1,4 +1,4 @@
-use Rattle.std.proofs.Common.{arith, sym, ◌∙◌, rules}
+use Rattle.std.proofs.Common.{arith, sym, ◌∙◌}
 use Rattle.parameter.specs.FirstLaws.{alt_found, alt_missing}
 use Rattle.envelope_line.proofs.WriteLaws.{without_none, without_some}
 use Rattle.line.specs.LineLaws.{part_rest}
