@@ -1,5 +1,5 @@
 -- Header lines: what a well-formed line is, and the first malformed line of a header.
-use Rattle.std.specs.Prelude.{⊤, Result, Ok, Err, Bool, cond, not, ◌&&◌, ◌||◌, List, [], ◌∷◌, ℕ, suc, ◌+◌, eqb, length, take, drop, get_or}
+use Rattle.std.specs.Prelude.{⊤, Option, Some, None, Result, Ok, Err, Bool, cond, not, ◌&&◌, ◌||◌, List, [], ◌∷◌, ℕ, suc, ◌+◌, eqb, length, take, drop, get_or}
 use Rattle.lists.specs.Lists.{all}
 use Rattle.lists.specs.Byte.{within}
 use Rattle.lists.specs.Run.{run}
@@ -56,9 +56,9 @@ line_ok first line = ended_by (well_formed first) line
 unfoldable pub line_ok_to : ℕ → Bool → List ℕ → Bool
 line_ok_to limit first line = ended_by (formed_by (named_to limit) first) line
 
--- the place after the line at `at`; `at` itself where it is malformed
-unfoldable pub line_after : ℕ → Bool → List ℕ → ℕ → ℕ
-line_after limit first h at = cond (line_ok_to limit first (drop at h)) (at + (line_len (drop at h) + 2)) at
+-- the place after the line at `at`, where it is well formed
+unfoldable pub after_line : ℕ → Bool → List ℕ → ℕ → Option ℕ
+after_line limit first h at = cond (line_ok_to limit first (drop at h)) (Some (at + (line_len (drop at h) + 2))) None
 
 -- a check of lines: well formed, or the number of the first malformed line and the byte where it starts
 abbrev pub LineCheck : Type 0
