@@ -40,10 +40,9 @@ fn path_byte(line: &[u8], mail: bool) -> usize
 fn alt_value_byte(line: &[u8], mail: bool) -> usize
     ensures { result ≡ alt_value_byte mail line.now }
 {
-    let place = alt_place(line, envelope_line::tail_start(line, mail));
-    if line.len() <= place {
+    let Some(place) = alt_place(line, envelope_line::tail_start(line, mail)) else {
         return line.len();
-    }
+    };
     let start = place + 1;
     let size = keyword_len(part(line, start, param_end(line, start)));
     buffer::clip(

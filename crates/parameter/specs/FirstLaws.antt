@@ -98,3 +98,12 @@ module _ {s : List ℕ} {at : ℕ} where
 
   pub alt_missing : None ≡ in_line s (at + alt_place (params (drop at s))) → AltFrom s at (at + alt_place (params (drop at s))) × (length s ≤ at + alt_place (params (drop at s)))
   alt_missing e = (alt_from refl, in_line_none s (at + alt_place (params (drop at s))) e)
+
+  -- whether there is one
+  pub alt_some : {o : Option ℕ} → o ≡ in_line s (at + alt_place (params (drop at s))) → is_some o ≡ true → AltFrom s at (at + alt_place (params (drop at s))) × (at + alt_place (params (drop at s)) < length s)
+  alt_some {o = Some r} e q = (alt_from refl, (in_line_some s (at + alt_place (params (drop at s))) e).1)
+  alt_some {o = None} e q = absurd (cc)
+
+  pub alt_none : {o : Option ℕ} → o ≡ in_line s (at + alt_place (params (drop at s))) → is_some o ≡ false → AltFrom s at (at + alt_place (params (drop at s))) × (length s ≤ at + alt_place (params (drop at s)))
+  alt_none {o = Some r} e q = absurd (cc)
+  alt_none {o = None} e q = alt_missing e
