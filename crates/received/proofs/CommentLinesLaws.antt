@@ -7,7 +7,7 @@ use Rattle.lists.specs.Byte.{is_ascii}
 use Rattle.encoded_word.specs.Segments.{rendered}
 use Rattle.comment.specs.Parts.{part_len, parts, run_text}
 use Rattle.structured_field.specs.StructuredField.{part_segments}
-use Rattle.structured_field.proofs.WritingLaws.{part_stays, comment_next, comment_none}
+use Rattle.structured_field.specs.WritingLaws.{part_stays, comment_next, comment_none}
 use Rattle.received.specs.Received.{column_after}
 use Rattle.received.proofs.LinesLaws.{column_append}
 use Rattle.received.proofs.RowLinesLaws.{row_column}

@@ -10,7 +10,7 @@ use Rattle.encoded_word.specs.SegmentsLaws.{rendered_append}
 use Rattle.structured_token.specs.Tokens.{is_white, is_plain, ends_space, calm_len}
 use Rattle.structured_token.specs.Walk.{clear_all, becoming}
 use Rattle.structured_token.proofs.WalkLaws.{At, clear_over, becoming_over, clear_at, becoming_at}
-use Rattle.structured_field.proofs.CalmLaws.{Calm, calm_clear, calm_bytes, lone_space, structured_calm}
+use Rattle.structured_field.specs.CalmLaws.{Calm, calm_clear, calm_bytes, lone_space, structured_calm}
 use Rattle.received_token.specs.Clause.{white_len}
 use Rattle.received_token.specs.Tokens.{starts_for, received_size, goes_on, Took}
 use Rattle.received_token.proofs.TokensLaws.{no_for}

@@ -20,10 +20,12 @@ pub trait ValueRule {
     ghost took: { Self.State → List ℕ → ℕ → Self.Kind → ℕ → Type 0 };
     ghost passed: { List ℕ → ℕ };
 
-    // Whether a part may stand in a field that is not held, and whether all parts from a place on may; what scratch that test needs.
+    // What a part of a kind is; whether it may stand in a field that is not held, and whether all parts from a place on may; the lengths
+    // of a part and of a scratch for that test.
+    ghost fits: { Self.Kind → List ℕ → Type 0 };
     ghost clear: { Self.Kind → List ℕ → Bool };
     ghost clear_from: { Self.State → List ℕ → ℕ → Bool };
-    ghost can_test: { List ℕ → ℕ → Type 0 };
+    ghost can_test: { ℕ → ℕ → Type 0 };
 
     // What becomes of a part before what follows it, and of all parts from a place on.
     ghost bytes: { Self.State → Self.Kind → List ℕ → List ℕ → List ℕ };
@@ -46,37 +48,30 @@ pub trait ValueRule {
         ensures is { result ≡ at + passed (drop at value.now) }
         ensures within { result ≤ length value.now };
 
-    fn is_clear(
-        value: &[u8],
-        at: usize,
-        state: Self::State,
-        part: Token<Self::Kind>,
-        scratch: &mut [u8],
-    ) -> bool
-        requires what { took state value.now at part.kind part.end }
-        requires some { at < part.end }
-        requires within { part.end ≤ length value.now }
-        requires room { can_test value.now (length scratch.old) }
-        ensures is { result ≡ clear part.kind (take (part.end - at) (drop at value.now)) }
+    fn is_clear(kind: Self::Kind, part: &[u8], scratch: &mut [u8]) -> bool
+        requires what { fits kind part.now }
+        requires room { can_test (length part.now) (length scratch.old) }
+        ensures is { result ≡ clear kind part.now }
         ensures kept { length scratch.new ≡ length scratch.old };
 
+    // Writes what becomes of a part, as far as it fits; answers the place after it.
     fn add_part(
         out: &mut [u8],
-        place: usize,
-        value: &[u8],
         at: usize,
         state: Self::State,
-        part: Token<Self::Kind>,
+        kind: Self::Kind,
+        part: &[u8],
+        after: &[u8],
         scratch: &mut [u8],
     ) -> usize
-        requires what { took state value.now at part.kind part.end }
-        requires some { at < part.end }
-        requires within { part.end ≤ length value.now }
-        requires small { length value.now ≤ 32768 }
-        requires room { 2 * length value.now ≤ length scratch.old }
-        ensures is { AppendedCapped (bytes state part.kind (take (part.end - at) (drop at value.now)) (drop part.end value.now)) place out.old out.new result }
+        requires what { fits kind part.now }
+        requires small { length part.now ≤ 32768 }
+        requires room { 2 * length part.now ≤ length scratch.old }
+        ensures is { AppendedCapped (bytes state kind part.now after.now) at out.old out.new result }
         ensures kept { length scratch.new ≡ length scratch.old };
 
+    ghost fits_part: { (state : Self.State) (s : List ℕ) (i : ℕ) (kind : Self.Kind) (e : ℕ) → i < length s → took state s i kind e → fits kind (take (e - i) (drop i s)) };
+    ghost can_less: { (m n room : ℕ) → m ≤ n → can_test n room → can_test m room };
     ghost clear_none: { (state : Self.State) (s : List ℕ) (i : ℕ) → length s ≤ i → clear_from state s i ≡ true };
     ghost clear_step: { (state : Self.State) (s : List ℕ) (i : ℕ) (kind : Self.Kind) (e k : ℕ) → i < length s → took state s i kind e → k ≡ e + passed (drop e s) → clear_from state s i ≡ clear kind (take (e - i) (drop i s)) && clear_from (next state kind) s k };
     ghost bytes_none: { (state : Self.State) (s : List ℕ) (i : ℕ) → length s ≤ i → rendered (segments_from state s i) ≡ [] };
@@ -86,19 +81,19 @@ pub trait ValueRule {
 
 // Whether all parts of a value may stand in a field that is not held.
 pub fn all_clear<R: ValueRule>(value: &[u8], scratch: &mut [u8]) -> bool
-    requires { R.can_test value.now (length scratch.old) }
+    requires { R.can_test (length value.now) (length scratch.old) }
     ensures is { result ≡ R.clear_from R.begun value.now 0 }
     ensures kept { length scratch.new ≡ length scratch.old }
 {
     let mut state = R::begin();
     let mut i: usize = 0;
     while i < value.len() {
-        let part = R::part_at(value, i, state);
-        if !R::is_clear(value, i, state, part, scratch) {
+        let Token { kind, end } = R::part_at(value, i, state);
+        if !R::is_clear(kind, &value[i..end], scratch) {
             return false;
         }
-        i = R::passed_end(value, part.end);
-        state = R::next_state(state, part.kind);
+        i = R::passed_end(value, end);
+        state = R::next_state(state, kind);
     }
     true
 }
@@ -112,12 +107,11 @@ fn add_value<R: ValueRule>(out: &mut [u8], at: usize, value: &[u8], scratch: &mu
     let mut state = R::begin();
     let mut i: usize = 0;
     while i < value.len() {
-        let part = R::part_at(value, i, state);
-        let end = part.end;
+        let Token { kind, end } = R::part_at(value, i, state);
         let passed = R::passed_end(value, end);
-        let begun = R::add_part(out, next, value, i, state, part, scratch);
+        let begun = R::add_part(out, next, state, kind, &value[i..end], &value[end..], scratch);
         next = buffer::add_slice(out, begun, &value[end..passed]);
-        state = R::next_state(state, part.kind);
+        state = R::next_state(state, kind);
         i = passed;
     }
     next

@@ -6,15 +6,15 @@ loop-i-init g c = record { rest = rw c.begin-state.ensures refl; room = refl }
 
 pub returns-then-not-is_clear : goal.returns-then-not-is_clear
 returns-then-not-is_clear g c =
-    let step = g.met.R.ValueRule.clear_step _ _ _ _ _ _ c.loop-i-test.true c.part_at-part.ensures.what refl in
+    let step = g.met.R.ValueRule.clear_step _ _ _ _ _ _ c.loop-i-test.true c.part_at-kind.ensures.what refl in
     record { is = sym (c.loop-i.invariant.rest ∙ (step ∙ rw (← c.is_clear.ensures.is, c.if-not-is_clear.true) refl)); kept = c.is_clear.ensures.kept ∙ c.loop-i.invariant.room }
 
 pub loop-i-smaller : goal.loop-i-smaller
-loop-i-smaller g c = omega (arith, c.part_at-part.ensures.some, c.passed_end-i.ensures.is)
+loop-i-smaller g c = omega (arith, c.part_at-kind.ensures.some, c.passed_end-i.ensures.is)
 
 pub loop-i-preserved : goal.loop-i-preserved
 loop-i-preserved g c =
-    let step = g.met.R.ValueRule.clear_step _ _ _ _ _ _ c.loop-i-test.true c.part_at-part.ensures.what c.passed_end-i.ensures.is in
+    let step = g.met.R.ValueRule.clear_step _ _ _ _ _ _ c.loop-i-test.true c.part_at-kind.ensures.what c.passed_end-i.ensures.is in
     record { rest = c.loop-i.invariant.rest ∙ (step ∙ rw (← c.is_clear.ensures.is, c.if-not-is_clear.false, c.next_state-state.ensures) refl); room = c.is_clear.ensures.kept ∙ c.loop-i.invariant.room }
 
 pub returns : goal.returns

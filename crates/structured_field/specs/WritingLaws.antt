@@ -19,7 +19,7 @@ use Rattle.structured_token.specs.declared.Kind.{Kind}
 use Rattle.structured_token.specs.Tokens.{size_of, goes_on, calm_len, comment_kind, Took}
 use Rattle.structured_token.specs.Walk.{clear_all, becoming}
 use Rattle.structured_token.proofs.WalkLaws.{At, clear_over, becoming_over, clear_at, becoming_at}
-use Rattle.structured_field.proofs.CalmLaws.{calm_clear, calm_bytes, structured_calm}
+use Rattle.structured_field.specs.CalmLaws.{calm_clear, calm_bytes, structured_calm}
 use Rattle.structured_field.specs.StructuredField.{part_segments, clear, becomes, structured_front, value_segments, structured_field}
 
 -- a part is no longer than the whole
