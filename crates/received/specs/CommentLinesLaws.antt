@@ -9,8 +9,8 @@ use Rattle.comment.specs.Parts.{part_len, parts, run_text}
 use Rattle.structured_field.specs.StructuredField.{part_segments}
 use Rattle.structured_field.specs.WritingLaws.{part_stays, comment_next, comment_none}
 use Rattle.received.specs.Received.{column_after}
-use Rattle.received.proofs.LinesLaws.{column_append}
-use Rattle.received.proofs.RowLinesLaws.{row_column}
+use Rattle.received.specs.LinesLaws.{column_append}
+use Rattle.received.specs.RowLinesLaws.{row_column}
 
 module _ (column : ℕ) (part : List ℕ) {r : ℕ} where
   pub part_ascii : all is_ascii part ≡ true → r ≡ column_after column part → r ≡ column_after column (rendered (part_segments part))

@@ -19,7 +19,7 @@ use Rattle.row.specs.Word.{opening_in, spell_in, word}
 use Rattle.row.specs.Row.{encodings, fits_room, runs, chosen, lines, row_in, row}
 use Rattle.row.proofs.FitsLaws.{length_word_in, short_fits, chosen_holds}
 use Rattle.received.specs.Received.{column_after}
-use Rattle.received.proofs.LinesLaws.{column_append, column_past, in_line, column_run, new_line, line_starts, line_past}
+use Rattle.received.specs.LinesLaws.{column_append, column_past, in_line, column_run, new_line, line_starts, line_past}
 
 digit_in_line : (v : ℕ) → T (in_line (hex_digit v))
 unfolding hex_digit

@@ -1,5 +1,5 @@
 -- What becomes of a Received field's value from a place on, token by token.
-use Rattle.std.proofs.Common.{ne_eqb, sym, ap, ◌∙◌, append-nil, not-suc-le-zero, arith}
+use Rattle.std.proofs.Common.{◌⊎◌, inl, inr, ne_eqb, sym, ap, ◌∙◌, append-nil, not-suc-le-zero, arith}
 use Rattle.std.specs.Prelude.{◌≡◌, refl, Bool, true, false, not, ◌&&◌, ◌||◌, List, [], ◌∷◌, ◌++◌, ℕ, ◌+◌, ◌-◌, ◌≤◌, ◌<◌, eqb, length, take, drop, get_or}
 use Rattle.lists.specs.Byte.{is_ascii}
 use Rattle.lists.specs.Lists.{all}
@@ -18,8 +18,8 @@ use Rattle.received_token.specs.declared.ReceivedKind.{ReceivedKind}
 use Rattle.received_token.specs.declared.ReceivedKind.TheVariants.{Comment, Clause, BareFor, Open, Other}
 use Rattle.received.specs.Received.{Place, clear, becomes, received_front, value_clear, value_segments}
 use Rattle.received.specs.Received.Place.{place}
-use Rattle.received.proofs.GrammarLaws.{begun, token_front_lem}
-use Rattle.received.proofs.CommentLinesLaws.{comment_bytes}
+use Rattle.received.specs.GrammarLaws.{begun, token_front_lem}
+use Rattle.received.specs.CommentLinesLaws.{comment_bytes}
 
 -- ---- bytes that stay as they came may be passed over together, past the start of the value
 
@@ -121,14 +121,9 @@ module _ (what : ReceivedKind) (token : List ℕ) where
     unfolding becomes rendered
     clause_removed a = rw (e, a)
 
-  pub bytes_bare : what ≡ BareFor → token ≡ rendered (becomes what token)
+  pub bytes_kept : (what ≡ BareFor) ⊎ ((what ≡ Open) ⊎ (what ≡ Other)) → token ≡ rendered (becomes what token)
   unfolding becomes rendered
-  bytes_bare e = rw e (sym (append-nil token))
-
-  pub bytes_open : what ≡ Open → token ≡ rendered (becomes what token)
-  unfolding becomes rendered
-  bytes_open e = rw e (sym (append-nil token))
-
-  pub bytes_other : what ≡ Other → token ≡ rendered (becomes what token)
-  unfolding becomes rendered
-  bytes_other e = rw e (sym (append-nil token))
+  bytes_kept h = elim h [
+    | inl e ↦ rw e (sym (append-nil token))
+    | inr k ↦ elim k [ inl e ↦ rw e (sym (append-nil token)) | inr e ↦ rw e (sym (append-nil token)) ]
+  ]
