@@ -1,5 +1,5 @@
 -- Laws of the outcome, case by case.
-use Rattle.std.specs.Prelude.{◌≡◌, refl, List, [], ◌∷◌, ℕ, ◌≤◌, length}
+use Rattle.std.specs.Prelude.{◌≡◌, refl, List, [], ◌∷◌, ℕ, ◌≤◌, length, Option, None}
 use Rattle.std.proofs.Common.{sym, ap, ◌∙◌, arith}
 use Rattle.rules.specs.declared.Rules.{Rules}
 use Rattle.outgoing_field.specs.Fate.{limited, held_of}
@@ -11,8 +11,6 @@ use Rattle.outgoing_header.specs.declared.HeaderContent.{HeaderContent}
 use Rattle.outgoing_header.specs.declared.HeaderContent.TheVariants.{Passes as HeaderPasses, Fails as HeaderFails}
 use Rattle.outgoing_header.specs.HeaderContent.{with_most as header_with_most}
 use Rattle.outgoing_header.specs.HeaderOutcome.{of_held}
-use Rattle.envelope.specs.declared.Orcpt.{Orcpt}
-use Rattle.envelope.specs.declared.Orcpt.TheVariants.{Clean}
 use Rattle.envelope.specs.Envelope.{orcpt_line}
 use Rattle.call.specs.declared.Verdict.{Verdict}
 use Rattle.call.specs.declared.Verdict.TheVariants.{Accept, Refuse}
@@ -50,7 +48,7 @@ pub held_content : (rules : Rules) (h : List ℕ) {c : HeaderContent} {r : Conte
 held_content rules h s p q = q ∙ rw (p, limited_short h s) (header_content (of_held h (held_of rules h)) (most_of rules h))
 
 -- where no ORCPT is refused the next verdict decides
-pub past_orcpt : (e : List ℕ) (n : ℕ) (next : Verdict) {o : Orcpt} {c : Content} → o ≡ orcpt_line e → o ≡ Clean → c ≡ with_most next n
+pub past_orcpt : (e : List ℕ) (n : ℕ) (next : Verdict) {o : Option ℕ} {c : Content} → o ≡ orcpt_line e → o ≡ None → c ≡ with_most next n
     → c ≡ with_most (first_of (of_orcpt e (orcpt_line e) ∷ next ∷ [])) n
 unfolding first_of of_orcpt
 past_orcpt e n next p k q = q ∙ rw (← p, k) (ap (λ v. with_most v n) (sym (first_one next)))

@@ -1,5 +1,5 @@
 -- Laws of the outcome where the input is accepted: measured, then written.
-use Rattle.std.specs.Prelude.{◌≡◌, refl, List, [], ◌∷◌, ◌++◌, ℕ, ◌+◌, ◌*◌, ◌≤◌, ◌<◌, min}
+use Rattle.std.specs.Prelude.{◌≡◌, refl, List, [], ◌∷◌, ◌++◌, ℕ, ◌+◌, ◌*◌, ◌≤◌, ◌<◌, min, Ok, Err, Result}
 use Rattle.std.proofs.Common.{sym, ◌∙◌, arith, length-append, lt-ltb, le-ltb}
 use Rattle.std.proofs.Math.Path.{ap}
 use Rattle.std.proofs.Math.ListN.{length}
@@ -9,16 +9,13 @@ use Rattle.letter_case.specs.LetterCase.{bytes}
 use Rattle.encoded_word.specs.Segments.{rendered}
 use Rattle.encoded_word.specs.SegmentsLaws.{rendered_append}
 use Rattle.envelope_line.specs.declared.Fault.{Fault}
-use Rattle.envelope.specs.declared.Checked.{Checked}
-use Rattle.envelope.specs.declared.Checked.TheVariants.{Passed, Refused}
-use Rattle.envelope.specs.Envelope.{checked, texts, written_of, written, orcpt_line, mail_replacement, only_rcpt_of, rcpt_replacement}
+use Rattle.envelope.specs.declared.FaultAt.{FaultAt}
+use Rattle.envelope.specs.Envelope.{checked, texts, written_of, written, orcpt_line, mail_replacement, only_rcpt_of, rcpt_replacement, refused}
 use Rattle.envelope.specs.LineStarts.{EnvelopeChecked, texts_at}
 use Rattle.envelope.proofs.WrittenLaws.{stored}
 use Rattle.envelope.proofs.LengthLaws.{written_le}
 use Rattle.envelope.proofs.ReplacementLaws.{mail_replacement_short, rcpt_replacement_short}
-use Rattle.header_line.specs.declared.LineCheck.{LineCheck}
-use Rattle.header_line.specs.declared.LineCheck.TheVariants.{WellFormed, Malformed}
-use Rattle.header_line.specs.Lines.{checked_lines}
+use Rattle.header_line.specs.Lines.{checked_lines, LineCheck}
 use Rattle.rules.specs.declared.Rules.{Rules}
 use Rattle.outgoing_field.specs.declared.HeldField.{HeldField}
 use Rattle.outgoing_field.specs.declared.HeldField.TheVariants.{Absent, At}
@@ -69,11 +66,11 @@ module _ (rules : Rules) (e h : List ℕ) (room₁ room₂ : ℕ) where
     header_over k = rw (over_no 16384 (length e) EnvelopeOver short₁, size_over h k)
 
     module _ (short₂ : length h ≤ 32768) where
-      pub envelope_line_lem : (fault : Fault) (line offset : ℕ) → checked rules e ≡ Refused fault line → offset ≡ fault_offset e fault line → verdict rules e h room₁ room₂ ≡ Refuse (EnvelopeLine fault line offset)
+      pub envelope_line_lem : (fault : Fault) (line offset : ℕ) → checked rules e ≡ refused fault line → offset ≡ fault_offset e fault line → verdict rules e h room₁ room₂ ≡ Refuse (EnvelopeLine fault line offset)
       unfolding verdict first_of of_envelope of_header
       envelope_line_lem fault line offset k q = rw (over_no 16384 (length e) EnvelopeOver short₁, size_within h short₂, k, q)
 
-      module _ (count : ℕ) (passed : checked rules e ≡ Passed count) where
+      module _ (count : ℕ) (passed : checked rules e ≡ Ok count) where
         past_envelope : verdict rules e h room₁ room₂
             ≡ first_of
             (of_header (of_lines h (checked_lines h))
@@ -143,13 +140,13 @@ last_accepted Accept Accept (Refuse r) k = k
 last_accepted Accept (Refuse r) v k = absurd (let z : ◌≡◌ {A = ℕ} 0 1 = cc in omega arith)
 last_accepted (Refuse r) b v k = absurd (let z : ◌≡◌ {A = ℕ} 0 1 = cc in omega arith)
 
-accepted_lines : {rules : Rules} {e h : List ℕ} {most : ℕ} → Accepted rules e h most → checked_lines h ≡ WellFormed
+accepted_lines : {rules : Rules} {e h : List ℕ} {most : ℕ} → Accepted rules e h most → checked_lines h ≡ Ok tt
 unfolding first_of of_lines of_header
 accepted_lines {rules} {e} {h} ok = go (checked_lines h) refl ok.content
   where
-    go : (l : LineCheck) → checked_lines h ≡ l → first_of (of_header (of_lines h l) ∷ of_orcpt e (orcpt_line e) ∷ of_header (of_held h (held_of rules h)) ∷ []) ≡ Accept → checked_lines h ≡ WellFormed
-    go WellFormed q k = q
-    go (Malformed line at) q k = absurd (let z : ◌≡◌ {A = ℕ} 0 1 = cc in omega arith)
+    go : (l : LineCheck) → checked_lines h ≡ l → first_of (of_header (of_lines h l) ∷ of_orcpt e (orcpt_line e) ∷ of_header (of_held h (held_of rules h)) ∷ []) ≡ Accept → checked_lines h ≡ Ok tt
+    go (Ok tt) q k = q
+    go (Err bad) q k = absurd (let z : ◌≡◌ {A = ℕ} 0 1 = cc in omega arith)
 
 accepted_none : {rules : Rules} {e h : List ℕ} {most : ℕ} → Accepted rules e h most → held_of rules h ≡ Absent
 unfolding of_held of_header
@@ -159,11 +156,11 @@ accepted_none {rules} {e} {h} ok = by_held (held_of rules h) refl (last_accepted
     by_held Absent q k = q
     by_held (At line at) q k = absurd (let z : ◌≡◌ {A = ℕ} 0 1 = cc in omega arith)
 
-header_le : (rules : Rules) (h : List ℕ) → checked_lines h ≡ WellFormed → length (rendered (header_segments rules h)) ≤ most_of rules h
+header_le : (rules : Rules) (h : List ℕ) → checked_lines h ≡ Ok tt → length (rendered (header_segments rules h)) ≤ most_of rules h
 unfolding segments_of
 header_le rules h w = (owed_header rules h w).short
 
-header_of_le : (rules : Rules) {mail rcpt : List ℕ} (h : List ℕ) → Short mail rcpt → checked_lines h ≡ WellFormed → length (header_of rules mail rcpt h) ≤ most_of rules h + new_fields_most
+header_of_le : (rules : Rules) {mail rcpt : List ℕ} (h : List ℕ) → Short mail rcpt → checked_lines h ≡ Ok tt → length (header_of rules mail rcpt h) ≤ most_of rules h + new_fields_most
 unfolding header_of bytes new_fields_most
 header_of_le rules {mail} {rcpt} h s w =
     let first = new_field (bytes "Downgraded-Mail-From:") mail in
@@ -212,7 +209,7 @@ unfolding header_of outgoing_header outgoing_segments new_fields
 header_of_lem rules t h = rw (t.of_mail, t.of_rcpt)
 
 -- the outgoing header has at most the most of a well-formed header, and that of the new first fields
-pub outgoing_le : (rules : Rules) (e h : List ℕ) (count : ℕ) → checked rules e ≡ Passed count → length h ≤ 32768 → checked_lines h ≡ WellFormed
+pub outgoing_le : (rules : Rules) (e h : List ℕ) (count : ℕ) → checked rules e ≡ Ok count → length h ≤ 32768 → checked_lines h ≡ Ok tt
     → length (outgoing_header rules e h) ≤ most_of rules h + new_fields_most
 outgoing_le rules e h count p k w =
     let t : Texts e (mail_replacement e) (rcpt_replacement e) = record { of_mail = refl; of_rcpt = refl } in
@@ -220,7 +217,7 @@ outgoing_le rules e h count p k w =
     record { of_mail = omega (arith, mail_replacement_short rules e count p); of_rcpt = omega (arith, rcpt_replacement_short rules e count p) } in
     rw (header_of_lem rules t h) at (header_of_le rules h s w)
 
-pub to_ready : {rules : Rules} {e h before after : List ℕ} {count : ℕ} {r : Checked} → length e ≤ 16384 → length h ≤ 32768 → EnvelopeChecked rules e before after r → r ≡ Passed count → length before ≡ 100
+pub to_ready : {rules : Rules} {e h before after : List ℕ} {count : ℕ} {r : Result ℕ FaultAt} → length e ≤ 16384 → length h ≤ 32768 → EnvelopeChecked rules e before after r → r ≡ Ok count → length before ≡ 100
     → Ready rules e h after count
 to_ready s t c k l = let d = rw k at c in record { short₁ = s; short₂ = t; passed = sym d.answer; starts = stored d l }
 

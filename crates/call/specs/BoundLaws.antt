@@ -16,16 +16,11 @@ use Rattle.buffer.specs.BufferLaws.{length_overlay, overlay_past}
 use Rattle.line.specs.Line.{crlf, line_len}
 use Rattle.envelope_line.specs.EnvelopeLine.{orcpt_fault}
 use Rattle.envelope_line.specs.declared.Fault.{Fault}
-use Rattle.envelope_line.specs.declared.Fault.TheVariants.{Fine, Malformed, NoAlternative, BadAlternative, RetiredAlternative}
-use Rattle.envelope.specs.declared.Checked.{Checked}
-use Rattle.envelope.specs.declared.Checked.TheVariants.{Passed, Refused}
-use Rattle.envelope.specs.declared.Orcpt.{Orcpt}
-use Rattle.envelope.specs.declared.Orcpt.TheVariants.{Clean, At}
-use Rattle.envelope.specs.Envelope.{lines, line_text, fault_of, fault_number, is_fine, counted, checked_from, checked, texts, orcpt_from, orcpt_line, written}
+use Rattle.envelope_line.specs.declared.Fault.TheVariants.{Malformed, NoAlternative, BadAlternative, RetiredAlternative}
+use Rattle.envelope.specs.declared.FaultAt.{FaultAt}
+use Rattle.envelope.specs.Envelope.{lines, line_text, fault_of, fault_number, counted, checked_from, checked, texts, orcpt_from, orcpt_line, written}
 use Rattle.envelope.proofs.CheckLaws.{fine_few}
 use Rattle.envelope.proofs.LengthLaws.{written_le}
-use Rattle.header_line.specs.declared.LineCheck.{LineCheck}
-use Rattle.header_line.specs.declared.LineCheck.TheVariants.{WellFormed, Malformed as MalformedLine}
 use Rattle.header_line.specs.Lines.{line_ok, lines_of, lines_from, checked_lines}
 use Rattle.header.specs.Fields.{field_len, fields_of, line_count}
 use Rattle.rules.specs.declared.Rules.{Rules}

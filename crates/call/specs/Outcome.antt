@@ -1,10 +1,7 @@
 -- What one call answers, and both buffers afterwards.
-use Rattle.std.specs.Prelude.{cond, List, [], ◌∷◌, ℕ, ltb, length}
+use Rattle.std.specs.Prelude.{cond, List, [], ◌∷◌, ℕ, ltb, length, Result, Ok, Err, Option, Some, None}
 use Rattle.buffer.specs.Buffer.{overlay}
-use Rattle.envelope.specs.declared.Checked.{Checked}
-use Rattle.envelope.specs.declared.Checked.TheVariants.{Passed, Refused}
-use Rattle.envelope.specs.declared.Orcpt.{Orcpt}
-use Rattle.envelope.specs.declared.Orcpt.TheVariants.{Clean, At}
+use Rattle.envelope.specs.declared.FaultAt.{FaultAt}
 use Rattle.envelope.specs.Envelope.{checked, fault_number, orcpt_line, written}
 use Rattle.header_line.specs.Lines.{checked_lines}
 use Rattle.rules.specs.declared.Rules.{Rules}
@@ -61,14 +58,14 @@ unfoldable pub over : ℕ → ℕ → Refusal → Verdict
 over limit size refusal = cond (ltb limit size) (Refuse refusal) Accept
 
 -- 2, 3, 4 and 10: "the first envelope line at fault"
-unfoldable pub of_envelope : List ℕ → Checked → Verdict
-of_envelope e (Passed count) = Accept
-of_envelope e (Refused fault line) = Refuse (EnvelopeLine fault line (fault_offset e fault line))
+unfoldable pub of_envelope : List ℕ → Result ℕ FaultAt → Verdict
+of_envelope e (Ok count) = Accept
+of_envelope e (Err at) = Refuse (EnvelopeLine at.fault at.line (fault_offset e at.fault at.line))
 
 -- 6 of an ORCPT
-unfoldable pub of_orcpt : List ℕ → Orcpt → Verdict
-of_orcpt e Clean = Accept
-of_orcpt e (At line) = Refuse (OrcptLine line (orcpt_offset e line))
+unfoldable pub of_orcpt : List ℕ → Option ℕ → Verdict
+of_orcpt e None = Accept
+of_orcpt e (Some line) = Refuse (OrcptLine line (orcpt_offset e line))
 
 -- 1, 5, 6 and 8 of the header
 unfoldable pub of_header : HeaderVerdict → Verdict

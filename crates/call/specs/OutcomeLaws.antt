@@ -11,8 +11,6 @@ use Rattle.outgoing_header.specs.declared.HeaderContent.{HeaderContent}
 use Rattle.outgoing_header.specs.declared.HeaderContent.TheVariants.{Passes as HeaderPasses, Fails as HeaderFails}
 use Rattle.outgoing_header.specs.HeaderContent.{with_most as header_with_most}
 use Rattle.outgoing_header.specs.HeaderOutcome.{of_held}
-use Rattle.envelope.specs.declared.Orcpt.{Orcpt}
-use Rattle.envelope.specs.declared.Orcpt.TheVariants.{Clean}
 use Rattle.envelope.specs.Envelope.{orcpt_line}
 use Rattle.call.specs.declared.Verdict.{Verdict}
 use Rattle.call.specs.declared.Verdict.TheVariants.{Accept, Refuse}

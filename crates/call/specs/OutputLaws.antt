@@ -1,5 +1,5 @@
 -- Laws of the outcome where the input is accepted: measured, then written.
-use Rattle.std.specs.Prelude.{◌≡◌, refl, List, [], ◌∷◌, ◌++◌, ℕ, ◌+◌, ◌*◌, ◌≤◌, ◌<◌, min}
+use Rattle.std.specs.Prelude.{◌≡◌, refl, List, [], ◌∷◌, ◌++◌, ℕ, ◌+◌, ◌*◌, ◌≤◌, ◌<◌, min, Ok}
 use Rattle.std.proofs.Common.{sym, ◌∙◌, arith, length-append, lt-ltb, le-ltb}
 use Rattle.std.proofs.Math.Path.{ap}
 use Rattle.std.proofs.Math.ListN.{length}
@@ -9,15 +9,12 @@ use Rattle.letter_case.specs.LetterCase.{bytes}
 use Rattle.encoded_word.specs.Segments.{rendered}
 use Rattle.encoded_word.specs.SegmentsLaws.{rendered_append}
 use Rattle.envelope_line.specs.declared.Fault.{Fault}
-use Rattle.envelope.specs.declared.Checked.{Checked}
-use Rattle.envelope.specs.declared.Checked.TheVariants.{Passed, Refused}
+use Rattle.envelope.specs.declared.FaultAt.{FaultAt}
 use Rattle.envelope.specs.Envelope.{checked, texts, written_of, written, orcpt_line, mail_replacement, only_rcpt_of, rcpt_replacement}
 use Rattle.envelope.specs.LineStarts.{EnvelopeChecked, texts_at}
 use Rattle.envelope.proofs.WrittenLaws.{stored}
 use Rattle.envelope.proofs.LengthLaws.{written_le}
 use Rattle.envelope.proofs.ReplacementLaws.{mail_replacement_short, rcpt_replacement_short}
-use Rattle.header_line.specs.declared.LineCheck.{LineCheck}
-use Rattle.header_line.specs.declared.LineCheck.TheVariants.{WellFormed, Malformed}
 use Rattle.header_line.specs.Lines.{checked_lines}
 use Rattle.rules.specs.declared.Rules.{Rules}
 use Rattle.outgoing_field.specs.declared.HeldField.{HeldField}
@@ -69,7 +66,7 @@ pub record Texts (e mail rcpt : List ℕ) : Type 0 where
 pub record Ready (rules : Rules) (e h array : List ℕ) (count : ℕ) : Type 0 where
   pub short₁ : length e ≤ 16384
   pub short₂ : length h ≤ 32768
-  pub passed : checked rules e ≡ Passed count
+  pub passed : checked rules e ≡ Ok count
   pub starts : texts_at count array e ≡ texts e
 
 -- The first `count` entries of an array are the starts of the RCPT lines of an envelope, and what is written for it is short.

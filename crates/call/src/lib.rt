@@ -9,7 +9,6 @@ ghost use Rattle.std.specs.Prelude.{◌≡◌};
 ghost use Rattle.call.specs.Outcome.{observed, outcome};
 ghost use Rattle.call.specs.OutputLaws.{Ready};
 
-use envelope::Checked;
 use envelope_line::Fault;
 use outgoing_header::HeaderRefusal;
 use refusals::refused;
@@ -101,11 +100,11 @@ pub fn downgrade(
     }
     let mut starts = [0usize; 100];
     match envelope::check(rules, envelope, &mut starts) {
-        Checked::Refused(fault, line) => {
-            let offset = offset::of_fault(envelope, fault, line);
-            refused(Refusal::EnvelopeLine(fault, line, offset))
+        Err(at) => {
+            let offset = offset::of_fault(envelope, at.fault, at.line);
+            refused(Refusal::EnvelopeLine(at.fault, at.line, offset))
         }
-        Checked::Passed(count) => {
+        Ok(count) => {
             downgrade_checked(
                 rules,
                 envelope,

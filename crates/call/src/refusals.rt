@@ -9,7 +9,6 @@ ghost use Rattle.call.specs.Outcome.{number_of, place_of, offset_of, input_of, f
 ghost use Rattle.call.specs.OutcomeLaws.{RefusedBy, with_most, of_content};
 
 use crate::{Answer, Content, Refusal};
-use envelope::Orcpt;
 use envelope_line::Fault;
 use outgoing_header::{HeaderContent, HeaderVerdict};
 use rules::Rules;
@@ -18,7 +17,6 @@ fn fault_number(fault: Fault) -> u32
     ensures { result ≡ fault_number fault }
 {
     match fault {
-        Fault::Fine => 0,
         Fault::Malformed => 2,
         Fault::NoAlternative => 3,
         Fault::BadAlternative => 4,
@@ -106,8 +104,8 @@ fn non_ascii(rules: Rules, envelope: &[u8], header: &[u8]) -> Content
     ensures { result ≡ with_most (first_of (of_orcpt envelope.now (orcpt_line envelope.now) ∷ of_header (of_held header.now (held_of rules header.now)) ∷ [])) (most_of rules header.now) }
 {
     match envelope::orcpt_line(envelope) {
-        Orcpt::Clean => of_header(outgoing_header::of_held(rules, header)),
-        Orcpt::At(line) => {
+        None => of_header(outgoing_header::of_held(rules, header)),
+        Some(line) => {
             Content::Fails(Refusal::OrcptLine(line, offset::of_orcpt(envelope, line)))
         }
     }

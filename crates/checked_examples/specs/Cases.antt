@@ -14,7 +14,7 @@ use Rattle.base64_digits.specs.Base64.{digit64, in_base64}
 use Rattle.row.specs.declared.Encoding.TheVariants.{Q}
 use Rattle.row.specs.Word.{word}
 use Rattle.row.specs.Row.{runs, chosen, lines, row_in, row, runs_after, lines_after, row_after_in}
-use Rattle.envelope.specs.Envelope.{lines as envelope_lines, line_text, ended_fault, fault_of, fault_number, is_fine, counted, checked_from, checked, texts, orcpt_from, orcpt_line, written_ended, written_of, written, mail_of, mail_replacement, only_rcpt_of, rcpt_replacement}
+use Rattle.envelope.specs.Envelope.{lines as envelope_lines, line_text, ended_fault, fault_of, fault_number, counted, checked_from, checked, texts, orcpt_from, orcpt_line, written_ended, written_of, written, mail_of, mail_replacement, only_rcpt_of, rcpt_replacement}
 use Rattle.header_line.specs.Lines.{checked_lines, line_byte, name_byte, name_len, named, continuation, well_formed, line_ok, lines_of, lines_from}
 use Rattle.line.specs.Line.{blank, crlf, line_len}
 use Rattle.address.specs.Address.{later, byte_then, scan_then, is_atext, is_atom_byte, is_quoted_byte, is_literal_byte, dot_atom_from, dot_atom_scan, quoted_from, quoted_scan, literal_from, literal_scan, domain_scan, local_scan, address_scan, is_address, is_ascii_address}

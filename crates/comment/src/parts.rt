@@ -2,29 +2,20 @@
 ghost use Rattle.std.specs.Prelude.{◌≡◌, ◌+◌, drop};
 ghost use Rattle.lists.specs.Lists.{all};
 ghost use Rattle.buffer.specs.Buffer.{AppendedCapped};
-ghost use Rattle.lists.specs.Run.{run};
 ghost use Rattle.comment.specs.Comment.{is_paren, is_text, run_len};
 ghost use Rattle.comment.specs.Parts.{part_len, parts, run_text, is_blank_run, fits};
 
-// Whether a byte of a comment is neither a parenthesis nor a backslash.
-fn is_text(b: u8) -> bool
-    ensures { result ≡ is_text is_paren b }
-{
-    !((b == b'(') | (b == b')') | (b == b'\\'))
-}
+use byte_class::Class;
 
-// The place of the first parenthesis or backslash from `at` on.
-fn text_end(s: &[u8], at: usize) -> usize
-    ensures { result ≡ at + run (is_text is_paren) (drop at s.now) }
-{
-    let mut i = at;
-    while i < s.len() {
-        if !is_text(s[i]) {
-            return i;
-        }
-        i += 1;
+// The bytes of a comment that are neither a parenthesis nor a backslash.
+struct Text;
+
+impl Class for Text {
+    ghost member = { is_text is_paren };
+
+    fn holds(b: u8) -> bool {
+        !((b == b'(') | (b == b')') | (b == b'\\'))
     }
-    i
 }
 
 // Where the run of text from `at` ends: at the first parenthesis that is not escaped, or at the end.
@@ -33,7 +24,7 @@ pub fn run_end(s: &[u8], at: usize) -> usize
 {
     let mut i = at;
     while i < s.len() {
-        let p = text_end(s, i);
+        let p = byte_class::run_end::<Text>(s, i);
         if s.len() <= p {
             return p;
         }

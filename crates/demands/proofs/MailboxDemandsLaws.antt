@@ -1,5 +1,5 @@
 -- The demands on the call for a mailbox hold of its outcome, and of nothing else.
-use Rattle.std.specs.Prelude.{◌≡◌, List, ◌∷◌, ℕ, ◌≤◌, T, ltb, eqb, take}
+use Rattle.std.specs.Prelude.{◌≡◌, List, ◌∷◌, ℕ, ◌≤◌, T, ltb, eqb, take, Ok, Err}
 use Rattle.std.proofs.Math.Path.{refl, ap}
 use Rattle.std.proofs.Common.{sym, ◌∙◌, arith, eqb→eq}
 use Rattle.std.proofs.Math.ListN.{length}
@@ -9,9 +9,7 @@ use Rattle.lists.specs.ListsLaws.{by_test}
 use Rattle.buffer.specs.BufferLaws.{overlay_front}
 use Rattle.encoded_word.specs.Segments.{Segment, rendered, sound}
 use Rattle.encoded_word.specs.SegmentsLaws.{rendered_ascii}
-use Rattle.header_line.specs.declared.LineCheck.{LineCheck}
-use Rattle.header_line.specs.declared.LineCheck.TheVariants.{WellFormed, Malformed}
-use Rattle.header_line.specs.Lines.{checked_lines}
+use Rattle.header_line.specs.Lines.{checked_lines, LineCheck}
 use Rattle.rules.specs.declared.Rules.TheVariants.{Mailbox}
 use Rattle.outgoing_field.specs.declared.HeldField.{HeldField}
 use Rattle.outgoing_field.specs.declared.HeldField.TheVariants.{Absent, At}
@@ -37,7 +35,7 @@ use Rattle.demands.specs.MailboxDemands.MailboxGiven.{over, malformed, held, lon
 module _ (h : List ℕ) where
   record Passes : Type 0 where
     pub short : length h ≤ 32768
-    pub lines : checked_lines h ≡ WellFormed
+    pub lines : checked_lines h ≡ Ok tt
     pub unheld : held_of Mailbox h ≡ Absent
 
   module _ {segments : List Segment} (b : HeaderBecomes Mailbox h segments) where
@@ -107,13 +105,13 @@ module _ (h c : List ℕ) where
       (λ u. found (none_holds p.short b (ltb_no {a = length c} {b = length (header_out Mailbox h)} u)))
 
   module _ (s : length h ≤ 32768) where
-    some_held : checked_lines h ≡ WellFormed → (f : HeldField) → held_of Mailbox h ≡ f → Some
+    some_held : checked_lines h ≡ Ok tt → (f : HeldField) → held_of Mailbox h ≡ f → Some
     some_held q Absent k = some_room (record { short = s; lines = q; unheld = k })
     some_held q (At line at) k = found (held s (header_lines h q).1 (field_held Mailbox h line at k))
 
     some_lines : (check : LineCheck) → checked_lines h ≡ check → Some
-    some_lines WellFormed k = some_held k (held_of Mailbox h) refl
-    some_lines (Malformed line at) k = found (malformed s (header_malformed_found h line at k))
+    some_lines (Ok tt) k = some_held k (held_of Mailbox h) refl
+    some_lines (Err bad) k = found (malformed s (header_malformed_found h bad.line bad.at k))
 
   some : Some
   some =

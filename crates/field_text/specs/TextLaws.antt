@@ -1,5 +1,5 @@
 -- Laws of a field's text by position, as code finds it.
-use Rattle.std.specs.Prelude.{◌≡◌, ◌&&◌, ◌||◌, ltb, eqb, take, drop}
+use Rattle.std.specs.Prelude.{◌≡◌, ◌&&◌, ◌||◌, ltb, eqb, take, drop, Option, Some, None}
 use Rattle.std.proofs.Math.Path.{refl, ap, sym}
 use Rattle.std.proofs.Common.{◌∙◌, add-zero, add-one, eqb→eq, length-append, take-append-drop, drop_of_length-le, take-suc, take_all}
 use Rattle.std.proofs.Math.Bool.{true, false, and-false}
@@ -23,8 +23,8 @@ use Rattle.line.specs.LineLaws.{crlf_inside}
 use Rattle.header.specs.Fields.{fold, name_of, value_of, unfolded_after, trimmed, text_of}
 use Rattle.header.specs.FieldShape.{Shaped}
 use Rattle.header.specs.FieldLaws.{drop_take}
-use Rattle.field_text.specs.TextPlace.{text_place}
-use Rattle.field_text.specs.declared.TextPlace.TheVariants.{InPlace, Folded}
+use Rattle.field_text.specs.declared.TextPlace.{TextPlace}
+use Rattle.field_text.specs.TextPlace.{text_place, in_place}
 
 -- ---- a fold at a place
 
@@ -316,7 +316,7 @@ some_cr : (s : List ℕ) → cr_run s < length s → all not_cr s ≡ false
 some_cr s h = by_test (all not_cr s) (λ t. absurd (rw (run_after not_cr s h) at (all_at_lem not_cr s (cr_run s) 0 t h))) (λ t. no_false (all not_cr s) t)
 
 module _ (field : List ℕ) (n : ℕ) (e : n ≡ name_len field) where
-  pub place_short : length field - n < 3 → InPlace n n ≡ text_place field
+  pub place_short : length field - n < 3 → in_place n n ≡ text_place field
   unfolding text_place
   place_short k = rw (e, lt-ltb (length field - name_len field) 3 (rw e at k))
 
@@ -328,21 +328,29 @@ module _ (field : List ℕ) (n : ℕ) (e : n ≡ name_len field) where
     length_value : length (value_of field) ≡ length field - 2 - (n + 1)
     length_value = rw (← value_there, length-drop, length-take) (omega arith)
 
-    pub place_folded : (r : ℕ) → r ≡ n + 1 + cr_run (drop (n + 1) (take (length field - 2) field)) → r < length field - 2 → Folded ≡ text_place field
+    pub place_folded : (r : ℕ) → r ≡ n + 1 + cr_run (drop (n + 1) (take (length field - 2) field)) → r < length field - 2 → None ≡ text_place field
     unfolding text_place
     place_folded r q h =
         let some : cr_run (value_of field) < length (value_of field) = omega (arith, rw value_there at q, length_value) in
         rw (le-ltb (length field - name_len field) 3 (rw e at k), some_cr (value_of field) some)
 
     pub place_there : (r a : ℕ) → r ≡ n + 1 + cr_run (drop (n + 1) (take (length field - 2) field)) → length field - 2 ≤ r
-        → a ≡ n + 1 + run blank (drop (n + 1) (take (length field - 2) field)) → InPlace a (length field - 2) ≡ text_place field
+        → a ≡ n + 1 + run blank (drop (n + 1) (take (length field - 2) field)) → in_place a (length field - 2) ≡ text_place field
     unfolding text_place
     place_there r a q h p =
         let none : length (value_of field) ≤ cr_run (value_of field) = omega (arith, rw value_there at q, length_value) in
         rw (le-ltb (length field - name_len field) 3 (rw e at k), yes_true (all not_cr (value_of field)) (no_cr_lem (value_of field) none), p, value_there, e)
 
+abbrev from_of : Option TextPlace → ℕ
+from_of None = 0
+from_of (Some there) = there.from
+
+abbrev to_of : Option TextPlace → ℕ
+to_of None = 0
+to_of (Some there) = there.to
+
 -- what stands there is the text
-pub text_there : (field : List ℕ) (a b : ℕ) → text_place field ≡ InPlace a b → take (b - a) (drop a field) ≡ text_of field
+pub text_there : (field : List ℕ) (a b : ℕ) → text_place field ≡ in_place a b → take (b - a) (drop a field) ≡ text_of field
 unfolding text_place text_of trimmed value_of
 text_there field a b q =
     by_test (ltb (length field - name_len field) 3)
@@ -351,22 +359,22 @@ text_there field a b q =
     (λ u. whole (rw (no_false (ltb (length field - name_len field) 3) t, yes_true (all not_cr (value_of field)) u) at q) u)
     (λ u. never (rw (no_false (ltb (length field - name_len field) 3) t, no_false (all not_cr (value_of field)) u) at q)))
   where
-    short : InPlace (name_len field) (name_len field) ≡ InPlace a b → length field - name_len field < 3 → take (b - a) (drop a field) ≡ text_of field
+    short : in_place (name_len field) (name_len field) ≡ in_place a b → length field - name_len field < 3 → take (b - a) (drop a field) ≡ text_of field
     short p k =
-        let one : name_len field ≡ a = cc in
-        let two : name_len field ≡ b = cc in
+        let one : name_len field ≡ a = ap from_of p in
+        let two : name_len field ≡ b = ap to_of p in
         let none : b - a ≡ 0 = omega arith in
         rw none (sym (text_none field (name_len field) refl k))
 
-    whole : InPlace (name_len field + 1 + run blank (value_of field)) (length field - 2) ≡ InPlace a b → T (all not_cr (value_of field)) → take (b - a) (drop a field) ≡ text_of field
+    whole : in_place (name_len field + 1 + run blank (value_of field)) (length field - 2) ≡ in_place a b → T (all not_cr (value_of field)) → take (b - a) (drop a field) ≡ text_of field
     whole p u =
-        let one : name_len field + 1 + run blank (value_of field) ≡ a = cc in
-        let two : length field - 2 ≡ b = cc in
+        let one : name_len field + 1 + run blank (value_of field) ≡ a = ap from_of p in
+        let two : length field - 2 ≡ b = ap to_of p in
         let m = name_len field + 1 in
         let n = run blank (value_of field) in
         rw (unfold_none (value_of field) u, ← one, ← two, drop-drop n m (take (length field - 2) field), drop_take (m + n) (length field - 2) field)
 
-    never : Folded ≡ InPlace a b → take (b - a) (drop a field) ≡ text_of field
+    never : None ≡ in_place a b → take (b - a) (drop a field) ≡ text_of field
     never p = let z : ◌≡◌ {A = ℕ} 0 1 = cc in absurd (omega arith)
 
 -- what stands in a field besides its name and its text: a colon and CRLF at least

@@ -9,12 +9,11 @@ ghost use Rattle.field_text.specs.TextLaws.{BlankStep, TextStart, PieceEnd};
 
 use line::is_blank;
 
-// Where the text of a field stands: from a place in the field up to another; or nowhere in one part, where the value has a CR, as
-// a fold does.
-#[derive(Clone, Copy)]
-pub enum TextPlace {
-    InPlace(usize, usize),
-    Folded,
+// Where the text of a field stands in one part: from a place in the field up to another.
+#[derive(Clone, Copy, Debug, PartialEq, Eq)]
+pub struct TextPlace {
+    pub from: usize,
+    pub to: usize,
 }
 
 // Whether a fold stands at i: CRLF before a space or TAB.
@@ -107,18 +106,21 @@ pub fn put(out: &mut [u8], field: &[u8]) -> usize
     put_value_text(out, &field[from..to])
 }
 
-// Where the text of a field stands in it.
-pub fn place(field: &[u8]) -> TextPlace
+// Where the text of a field stands in it; nowhere in one part where the value has a CR, as a fold does.
+pub fn place(field: &[u8]) -> Option<TextPlace>
     ensures { result ≡ text_place field.now }
 {
     let n = header_line::name_len(field);
     if field.len() - n < 3 {
-        return TextPlace::InPlace(n, n);
+        return Some(TextPlace { from: n, to: n });
     }
     let from = n + 1;
     let to = field.len() - 2;
     if line::next_cr(&field[..to], from) < to {
-        return TextPlace::Folded;
+        return None;
     }
-    TextPlace::InPlace(line::blanks_end(&field[..to], from), to)
+    Some(TextPlace {
+        from: line::blanks_end(&field[..to], from),
+        to,
+    })
 }

@@ -3,7 +3,6 @@
 // cases stand in `stdin`.
 #![tactic(auto)]
 
-use header_line::LineCheck;
 use header_name::Kind;
 use outgoing_field::HeldField;
 use rules::Rules;
@@ -113,8 +112,8 @@ fn show(rt: &impl Print, label: &[u8], h: &[u8]) -> io::Result<()> {
     say(rt, label)?;
     say(rt, b": ")?;
     match header_line::check(h) {
-        LineCheck::WellFormed => show_well_formed(rt, h),
-        LineCheck::Malformed(line, _) => refused(rt, b"5 at line ", line),
+        Ok(()) => show_well_formed(rt, h),
+        Err(bad) => refused(rt, b"5 at line ", bad.line),
     }
 }
 

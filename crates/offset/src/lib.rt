@@ -74,7 +74,6 @@ fn fault_byte(line: &[u8], fault: Fault, n: usize) -> usize
     ensures { result ≡ fault_byte fault n line.now }
 {
     match fault {
-        Fault::Fine => 0,
         Fault::Malformed => envelope_stop::stop(line, 0, n),
         Fault::NoAlternative => path_byte(line_text(line), n == 0),
         Fault::BadAlternative => alt_value_byte(line_text(line), n == 0),

@@ -24,9 +24,8 @@ use Rattle.header_line.specs.Lines.{name_len}
 use Rattle.header.specs.Fields.{field_len, fields_of, name_of, value_of, text_of, line_count}
 use Rattle.header.specs.FieldLaws.{field_le, fields_nil, fields_next, name_part, length_value}
 use Rattle.header.specs.AsciiFieldsLaws.{AsciiFields, value_ascii}
-use Rattle.field_text.specs.TextPlace.{text_place}
+use Rattle.field_text.specs.TextPlace.{text_place, in_place}
 use Rattle.field_text.specs.TextLaws.{wrote_front, length_text, text_there}
-use Rattle.field_text.specs.declared.TextPlace.TheVariants.{InPlace}
 use Rattle.header_name.specs.Names.{kind_of}
 use Rattle.header_name.specs.declared.Kind.{Kind}
 use Rattle.field_method.specs.declared.Method.{Method}
@@ -232,7 +231,7 @@ module _ {field made scratch : List ℕ} (s : Roomy field made scratch) where
   made_size {after} {n} w = sym (length-take-le n after (made_within w))
 
 -- a text that stands in the field
-pub text_placed : (field : List ℕ) {text : List ℕ} {a b : ℕ} → text_place field ≡ InPlace a b → text ≡ take (b - a) (drop a field) → text ≡ text_of field
+pub text_placed : (field : List ℕ) {text : List ℕ} {a b : ℕ} → text_place field ≡ in_place a b → text ≡ take (b - a) (drop a field) → text ≡ text_of field
 text_placed field {text} {a} {b} e q = q ∙ text_there field a b e
 
 pub served_placed : (method : Method) (field : List ℕ) {text scratch : List ℕ} → needs_scratch method ≡ false → length field ≤ 32768 → text ≡ text_of field → Served method field text scratch

@@ -26,7 +26,6 @@ use Rattle.header.specs.FieldLaws.{field_le, fields_nil, fields_next, name_part,
 use Rattle.header.specs.AsciiFieldsLaws.{AsciiFields, value_ascii}
 use Rattle.field_text.specs.TextPlace.{text_place}
 use Rattle.field_text.specs.TextLaws.{wrote_front, length_text, text_there}
-use Rattle.field_text.specs.declared.TextPlace.TheVariants.{InPlace}
 use Rattle.header_name.specs.Names.{kind_of}
 use Rattle.header_name.specs.declared.Kind.{Kind}
 use Rattle.field_method.specs.declared.Method.{Method}

@@ -88,7 +88,7 @@ fn add_with(
     ensures { AppendedCapped (rendered (method_written rules method field.now)) at out.old out.new result }
 {
     match field_text::place(field) {
-        TextPlace::InPlace(from, to) => {
+        Some(TextPlace { from, to }) => {
             add_by_method(
                 out,
                 at,
@@ -99,7 +99,7 @@ fn add_with(
                 scratch,
             )
         }
-        TextPlace::Folded => {
+        None => {
             let size = field_text::put(made, field);
             add_by_method(out, at, rules, method, field, &made[..size], scratch)
         }
@@ -147,7 +147,7 @@ fn add_non_ascii(out: &mut [u8], at: usize, rules: Rules, method: Method, field:
     ensures { AppendedCapped (rendered (method_written rules method field.now)) at out.old out.new result }
 {
     if !needs_scratch(method) {
-        if let TextPlace::InPlace(from, to) = field_text::place(field) {
+        if let Some(TextPlace { from, to }) = field_text::place(field) {
             let mut none = [0u8; 0];
             return add_by_method(
                 out,

@@ -1,7 +1,7 @@
 -- Laws of a header's outcome, case by case.
 use Rattle.std.proofs.Math.Path.{◌≡◌, refl, sym}
 use Rattle.std.proofs.Common.{ap, ◌∙◌, not-suc-le-zero, lt-ltb, le-ltb}
-use Rattle.std.specs.Prelude.{true, false, List, [], ◌∷◌, ◌++◌, ℕ, ◌*◌, ◌≤◌, ◌<◌, ltb}
+use Rattle.std.specs.Prelude.{true, false, List, [], ◌∷◌, ◌++◌, ℕ, ◌*◌, ◌≤◌, ◌<◌, ltb, Ok, Err}
 use native.Mathlib.Omega.{arith}
 use Rattle.std.proofs.Math.ListN.{length}
 use Rattle.std.proofs.Math.Facts.{ltb_yes, ltb_no}
@@ -9,9 +9,7 @@ use Rattle.lists.specs.ListsLaws.{by_test}
 use Rattle.buffer.specs.Buffer.{Wrote, AppendedCapped}
 use Rattle.buffer.specs.BufferLaws.{wrote_of}
 use Rattle.encoded_word.specs.Segments.{rendered}
-use Rattle.header_line.specs.declared.LineCheck.{LineCheck}
-use Rattle.header_line.specs.declared.LineCheck.TheVariants.{WellFormed, Malformed}
-use Rattle.header_line.specs.Lines.{checked_lines}
+use Rattle.header_line.specs.Lines.{checked_lines, LineCheck}
 use Rattle.rules.specs.declared.Rules.{Rules}
 use Rattle.outgoing_field.specs.declared.HeldField.{HeldField}
 use Rattle.outgoing_field.specs.declared.HeldField.TheVariants.{Absent, At}
@@ -155,9 +153,9 @@ module _ (rules : Rules) (h : List ℕ) (room : ℕ) where
 module _ (rules : Rules) (h : List ℕ) where
   by_content : length h ≤ 32768 → (l : LineCheck) → checked_lines h ≡ l → (f : HeldField) → held_of rules h ≡ f → first_of (of_lines h l ∷ of_held h f ∷ []) ≡ Accept → Passed rules h
   unfolding first_of of_lines of_held
-  by_content s WellFormed l Absent f k = record { short = s; lines = l; none = f }
-  by_content s WellFormed l (At line at) f k = absurd (let z : ◌≡◌ {A = ℕ} 0 1 = cc in omega arith)
-  by_content s (Malformed line at) l held f k = absurd (let z : ◌≡◌ {A = ℕ} 0 1 = cc in omega arith)
+  by_content s (Ok tt) l Absent f k = record { short = s; lines = l; none = f }
+  by_content s (Ok tt) l (At line at) f k = absurd (let z : ◌≡◌ {A = ℕ} 0 1 = cc in omega arith)
+  by_content s (Err bad) l held f k = absurd (let z : ◌≡◌ {A = ℕ} 0 1 = cc in omega arith)
 
   pub content : first_of (of_content rules h) ≡ Accept → Passed rules h
   unfolding first_of

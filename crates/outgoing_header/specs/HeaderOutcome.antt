@@ -1,11 +1,9 @@
 -- What a header on its own is answered by the rules, and its buffer afterwards: the refusals of a header, their order, and what is written.
 -- The call adds an envelope to it; for a mailbox it is all.
-use Rattle.std.specs.Prelude.{cond, List, [], ◌∷◌, ℕ, ltb, length}
+use Rattle.std.specs.Prelude.{cond, List, [], ◌∷◌, ℕ, ltb, length, Ok, Err}
 use Rattle.buffer.specs.Buffer.{overlay}
 use Rattle.encoded_word.specs.Segments.{rendered}
-use Rattle.header_line.specs.declared.LineCheck.{LineCheck}
-use Rattle.header_line.specs.declared.LineCheck.TheVariants.{WellFormed, Malformed}
-use Rattle.header_line.specs.Lines.{checked_lines}
+use Rattle.header_line.specs.Lines.{checked_lines, LineCheck}
 use Rattle.rules.specs.declared.Rules.{Rules}
 use Rattle.outgoing_field.specs.declared.HeldField.{HeldField}
 use Rattle.outgoing_field.specs.declared.HeldField.TheVariants.{Absent, At}
@@ -46,8 +44,8 @@ of_size h = cond (ltb 32768 (length h)) (Refuse Over) Accept
 
 -- "the first 5"
 unfoldable pub of_lines : List ℕ → LineCheck → HeaderVerdict
-of_lines h WellFormed = Accept
-of_lines h (Malformed line at) = Refuse (Line line (header_line_offset h line at))
+of_lines h (Ok ok) = Accept
+of_lines h (Err bad) = Refuse (Line bad.line (header_line_offset h bad.line bad.at))
 
 -- 6 of a held field
 unfoldable pub of_held : List ℕ → HeldField → HeaderVerdict

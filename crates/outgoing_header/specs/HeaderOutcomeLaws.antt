@@ -1,7 +1,7 @@
 -- Laws of a header's outcome, case by case.
 use Rattle.std.proofs.Math.Path.{◌≡◌, refl, sym}
 use Rattle.std.proofs.Common.{ap, ◌∙◌, not-suc-le-zero, lt-ltb, le-ltb}
-use Rattle.std.specs.Prelude.{true, false, List, [], ◌∷◌, ◌++◌, ℕ, ◌*◌, ◌≤◌, ◌<◌, ltb}
+use Rattle.std.specs.Prelude.{true, false, List, [], ◌∷◌, ◌++◌, ℕ, ◌*◌, ◌≤◌, ◌<◌, ltb, Ok}
 use native.Mathlib.Omega.{arith}
 use Rattle.std.proofs.Math.ListN.{length}
 use Rattle.std.proofs.Math.Facts.{ltb_yes, ltb_no}
@@ -9,8 +9,6 @@ use Rattle.lists.specs.ListsLaws.{by_test}
 use Rattle.buffer.specs.Buffer.{Wrote, AppendedCapped}
 use Rattle.buffer.specs.BufferLaws.{wrote_of}
 use Rattle.encoded_word.specs.Segments.{rendered}
-use Rattle.header_line.specs.declared.LineCheck.{LineCheck}
-use Rattle.header_line.specs.declared.LineCheck.TheVariants.{WellFormed, Malformed}
 use Rattle.header_line.specs.Lines.{checked_lines}
 use Rattle.rules.specs.declared.Rules.{Rules}
 use Rattle.outgoing_field.specs.declared.HeldField.{HeldField}
@@ -48,5 +46,5 @@ pub record Needed (size room r : ℕ) : Type 0 where
 -- a header within its limit whose lines are well formed and no field of which is held
 pub record Passed (rules : Rules) (h : List ℕ) : Type 0 where
   pub short : length h ≤ 32768
-  pub lines : checked_lines h ≡ WellFormed
+  pub lines : checked_lines h ≡ Ok tt
   pub none : held_of rules h ≡ Absent

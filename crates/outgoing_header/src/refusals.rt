@@ -8,7 +8,7 @@ ghost use Rattle.outgoing_header.specs.HeaderContent.{with_most};
 ghost use Rattle.outgoing_header.specs.HeaderOutcomeLaws.{RefusedBy};
 
 use crate::{HeaderAnswer, HeaderContent, HeaderRefusal, HeaderVerdict};
-use header_line::LineCheck;
+use header_line::MalformedLine;
 use outgoing_field::HeldField;
 use rules::Rules;
 
@@ -65,8 +65,8 @@ pub fn of_lines(header: &[u8]) -> HeaderVerdict
     ensures { result ≡ of_lines header.now (checked_lines header.now) }
 {
     match header_line::check(header) {
-        LineCheck::WellFormed => HeaderVerdict::Accept,
-        LineCheck::Malformed(line, at) => {
+        Ok(()) => HeaderVerdict::Accept,
+        Err(MalformedLine { line, at }) => {
             let offset = offset::of_header_line(header, line, at);
             HeaderVerdict::Refuse(HeaderRefusal::Line(line, offset))
         }

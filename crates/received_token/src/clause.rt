@@ -3,7 +3,6 @@ ghost use Rattle.std.specs.Prelude.{◌≡◌, drop};
 ghost use Rattle.lists.specs.Lists.{nonzero};
 ghost use Rattle.received_token.specs.Clause.{is_for, angled_len, clause_len};
 
-use address::Scan;
 use structured_token::{White, is_white};
 
 // Whether the word for stands at a place.
@@ -32,14 +31,14 @@ fn angled_len(s: &[u8]) -> Option<usize>
         return None;
     }
     match address::address(s, 1) {
-        Scan::To(n) => {
+        Ok(n) => {
             if line::byte_at(s, n) == b'>' {
                 Some(n + 1)
             } else {
                 None
             }
         }
-        Scan::Stop(_) => None,
+        Err(_) => None,
     }
 }
 

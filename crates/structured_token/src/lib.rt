@@ -33,17 +33,20 @@ fn opened(value: &[u8], at: usize, comments: bool) -> Token<Kind>
     requires { (at < length value.now) × (get_or value.now at 0 ≡ 40) }
     ensures { Took comments value.now at result.kind result.end }
 {
-    let kind = Kind::Open;
-    let after = at + 1;
+    let open = Token {
+        kind: Kind::Open,
+        end: at + 1,
+    };
     if !comments {
-        return Token { kind, end: after };
+        return open;
     }
-    let end = comment::comment_end(value, at);
-    if end == at {
-        return Token { kind, end: after };
+    match comment::comment_end(value, at) {
+        Some(end) => {
+            let kind = Kind::Comment;
+            Token { kind, end }
+        }
+        None => open,
     }
-    let kind = Kind::Comment;
-    Token { kind, end }
 }
 
 // The token at a place of a value. A parenthesis that nothing closes is a token by itself, `Open`: "nothing after it is a comment", so

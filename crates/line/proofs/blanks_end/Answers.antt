@@ -13,10 +13,10 @@ pub loop-i-init : goal.loop-i-init
 loop-i-init c = refl
 
 pub returns-then-not-is_blank : goal.returns-then-not-is_blank
-returns-then-not-is_blank c = sym (c.loop-i.invariant ∙ run_stop blank _ _ c.loop-i-test.true (sym c.is_blank.ensures ∙ not-true _ c.if-not-is_blank.true-raw))
+returns-then-not-is_blank c = sym (c.loop-i.invariant ∙ run_stop blank _ _ c.loop-i-test.true (sym c.is_blank.ensures ∙ c.if-not-is_blank.true))
 
 pub loop-i-preserved : goal.loop-i-preserved
-loop-i-preserved c = c.loop-i.invariant ∙ run_step blank _ _ c.loop-i-test.true (sym c.is_blank.ensures ∙ not-false _ c.if-not-is_blank.false-raw)
+loop-i-preserved c = c.loop-i.invariant ∙ run_step blank _ _ c.loop-i-test.true (sym c.is_blank.ensures ∙ c.if-not-is_blank.false)
 
 pub returns : goal.returns
 returns c = sym (c.loop-i.invariant ∙ run_end blank _ _ c.loop-i-test.false)

@@ -14,7 +14,7 @@ pub returns-then-not-no_cr32 : goal.returns-then-not-no_cr32
 returns-then-not-no_cr32 c = c.loop-i.invariant
 
 pub loop-i-preserved : goal.loop-i-preserved
-loop-i-preserved c = (omega arith, c.loop-i.invariant.1 ∙ run_block not_cr _ _ 32 (omega arith) (sym c.no_cr32.ensures ∙ not-false _ c.if-not-no_cr32.false-raw))
+loop-i-preserved c = (omega arith, c.loop-i.invariant.1 ∙ run_block not_cr _ _ 32 (omega arith) (sym c.no_cr32.ensures ∙ c.if-not-no_cr32.false))
 
 pub returns : goal.returns
 returns c = c.loop-i.invariant

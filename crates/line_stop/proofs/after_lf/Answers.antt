@@ -1,5 +1,4 @@
 use Rattle.line_stop.proofs.PlaceLaws.{lf_yes, lf_no, lf_end}
-use borrow.Author.Rules.{rules}
 use Rattle.line_stop.proofs.after_lf.Goals as goal
 
 pub returns-then-s-i-eq10 : goal.returns-then-s-i-eq10

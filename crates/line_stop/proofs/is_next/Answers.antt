@@ -1,5 +1,4 @@
 use Rattle.line_stop.proofs.WordLaws.{next_past, next_inside}
-use borrow.Author.Rules.{rules}
 use Rattle.line_stop.proofs.is_next.Goals as goal
 
 pub returns-then-word-n : goal.returns-then-word-n

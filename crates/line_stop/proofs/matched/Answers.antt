@@ -2,7 +2,6 @@ use Rattle.lists.specs.ListsLaws.{true_yes}
 use Rattle.line_stop.proofs.WordLaws.{matched_more, matched_other, next_within}
 use native.Mathlib.Omega.{arith}
 use mathlib.Core.Path.{sym, ◌∙◌}
-use borrow.Author.Rules.{rules}
 use Rattle.line_stop.proofs.matched.Goals as goal
 
 pub overflow_add-result : goal.overflow_add-result

@@ -1,7 +1,6 @@
 use native.Mathlib.Omega.{arith}
 use Rattle.utf8.specs.Utf8Laws.{char_len_some, char_len_le}
 use Rattle.line_stop.specs.CharScan.{tail_count}
-use borrow.Author.Rules.{rules}
 use Rattle.line_stop.proofs.tail_count.Goals as goal
 
 pub overflow_sub-result : goal.overflow_sub-result

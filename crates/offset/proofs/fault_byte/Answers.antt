@@ -4,10 +4,6 @@ use Rattle.offset.specs.Offset.{fault_byte}
 use borrow.Author.Rules.{rules}
 use Rattle.offset.proofs.fault_byte.Goals as goal
 
-pub returns-in-Fine : goal.returns-in-Fine
-unfolding fault_byte
-returns-in-Fine c = rw c.in-Fine.is refl
-
 pub returns-in-Malformed : goal.returns-in-Malformed
 unfolding fault_byte
 returns-in-Malformed c = rw c.in-Malformed.is (c.stop.ensures ∙ omega arith)

@@ -3,10 +3,6 @@ use Rattle.envelope.specs.Envelope.{fault_number}
 use borrow.Author.Rules.{rules}
 use Rattle.call.proofs.refusals.fault_number.Goals as goal
 
-pub returns-in-Fine : goal.returns-in-Fine
-unfolding fault_number
-returns-in-Fine c = ap fault_number (sym c.in-Fine.is)
-
 pub returns-in-Malformed : goal.returns-in-Malformed
 unfolding fault_number
 returns-in-Malformed c = ap fault_number (sym c.in-Malformed.is)

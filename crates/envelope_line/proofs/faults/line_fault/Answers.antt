@@ -22,11 +22,11 @@ returns-in_default c = line_no_path _ _ _ c.if-line-gt998.false (sym c.is_utf8.e
 
 pub returns-then-byte_at-ne62 : goal.returns-then-byte_at-ne62
 unfolding path_at
-returns-then-byte_at-ne62 c = line_open _ _ _ c.if-line-gt998.false (sym c.is_utf8.ensures ∙ not-false _ c.if-not-is_utf8.false-raw) (sym c.has_verb.ensures ∙ not-false _ c.if-not-has_verb.false-raw) _ (sym c.in-To.is ∙ c.path.ensures) (λ e. c.if-byte_at-ne62.true (c.byte_at.ensures ∙ e))
+returns-then-byte_at-ne62 c = line_open _ _ _ c.if-line-gt998.false (sym c.is_utf8.ensures ∙ not-false _ c.if-not-is_utf8.false-raw) (sym c.has_verb.ensures ∙ not-false _ c.if-not-has_verb.false-raw) _ (sym c.in-Ok.is ∙ c.path.ensures) (λ e. c.if-byte_at-ne62.true (c.byte_at.ensures ∙ e))
 
 pub overflow_add-end : goal.overflow_add-end
-overflow_add-end c = omega (arith, byte_within c.args.line.now c.in-To.end 61 (sym c.byte_at.ensures ∙ c.if-byte_at-ne62.false))
+overflow_add-end c = omega (arith, byte_within c.args.line.now c.in-Ok.end 61 (sym c.byte_at.ensures ∙ c.if-byte_at-ne62.false))
 
 pub returns : goal.returns
 unfolding path_at
-returns c = line_tail _ _ _ c.if-line-gt998.false (sym c.is_utf8.ensures ∙ not-false _ c.if-not-is_utf8.false-raw) (sym c.has_verb.ensures ∙ not-false _ c.if-not-has_verb.false-raw) _ (sym c.in-To.is ∙ c.path.ensures) (sym c.byte_at.ensures ∙ c.if-byte_at-ne62.false) (c.part.ensures ∙ rw c.path_start.ensures) c.is_ascii.ensures c.tail_fault.ensures
+returns c = line_tail _ _ _ c.if-line-gt998.false (sym c.is_utf8.ensures ∙ not-false _ c.if-not-is_utf8.false-raw) (sym c.has_verb.ensures ∙ not-false _ c.if-not-has_verb.false-raw) _ (sym c.in-Ok.is ∙ c.path.ensures) (sym c.byte_at.ensures ∙ c.if-byte_at-ne62.false) (c.part.ensures ∙ rw c.path_start.ensures) c.is_ascii.ensures c.tail_fault.ensures

@@ -2,10 +2,10 @@ use Rattle.outgoing_header.specs.HeaderOutcome.{of_lines}
 use borrow.Author.Rules.{rules}
 use Rattle.outgoing_header.proofs.refusals.of_lines.Goals as goal
 
-pub returns-in-WellFormed : goal.returns-in-WellFormed
+pub returns-in-Ok : goal.returns-in-Ok
 unfolding of_lines
-returns-in-WellFormed c = rw (← c.check.ensures, c.in-WellFormed.is)
+returns-in-Ok c = rw (← c.check.ensures, c.in-Ok.is)
 
-pub returns-in-Malformed : goal.returns-in-Malformed
+pub returns-in-Err : goal.returns-in-Err
 unfolding of_lines
-returns-in-Malformed c = rw (← c.check.ensures, c.in-Malformed.is, c.of_header_line-offset.ensures)
+returns-in-Err c = rw (← c.check.ensures, c.in-Err.is, c.of_header_line-offset.ensures)
