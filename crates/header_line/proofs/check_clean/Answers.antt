@@ -15,12 +15,6 @@ pub returns-then-not-is_shaped : goal.returns-then-not-is_shaped
 returns-then-not-is_shaped c =
     lines_bad c.requires c.loop-at-test.true c.loop-at.invariant (rw c.in-Some.is at c.find_cr-step.ensures) refl (sym c.is_shaped.ensures ∙ c.if-not-is_shaped.true)
 
-pub loop-at-smaller-in-Some : goal.loop-at-smaller-in-Some
-loop-at-smaller-in-Some c =
-    let s = rw c.in-Some.is at c.find_cr-step.ensures in
-    let k = line_inside c.requires c.loop-at-test.true c.loop-at.invariant s refl in
-    omega (arith, k.0, k.1, s.up)
-
 pub loop-at-preserved-in-Some : goal.loop-at-preserved-in-Some
 loop-at-preserved-in-Some c =
     lines_next c.requires c.loop-at-test.true c.loop-at.invariant (rw c.in-Some.is at c.find_cr-step.ensures) refl (sym c.is_shaped.ensures ∙ c.if-not-is_shaped.false)
