@@ -142,13 +142,8 @@ fn put_next(out: &mut [u8], at: usize, left: usize, s: &[u8], i: usize) -> Spot
 }
 
 // As many characters from the start of the text on as a word in Q holds.
-pub(crate) fn put_in_q(
-    out: &mut [u8],
-    start: usize,
-    room: usize,
-    s: &[u8],
-) -> Put
-    requires { (start + room + 2 ≤ length out.old) }
+pub(crate) fn put_in_q(out: &mut [u8], start: usize, room: usize, s: &[u8]) -> Put
+    requires { start + room + 2 ≤ length out.old }
     ensures { PutInQ room s.now start out.old out.new result.end result.at }
 {
     let mut i = 0;

@@ -11,9 +11,9 @@ pub(crate) fn put_bytes<const N: usize>(out: &mut [u8], at: usize, bytes: &[u8; 
     requires { at + N ≤ length out.old }
     ensures { Appended bytes.now at out.old out.new result }
 {
-    let next = at + N;
-    out[at..next].copy_from_slice(bytes);
-    next
+    let end = at + N;
+    out[at..end].copy_from_slice(bytes);
+    end
 }
 
 // Writes `=` and two hex digits.

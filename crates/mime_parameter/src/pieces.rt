@@ -122,7 +122,11 @@ fn limited_room(name: &[u8], text: &[u8]) -> bool
 fn limited(text: &[u8]) -> &[u8]
     ensures { (result.now ≡ limited text.now) × (length result.now ≤ 32768) }
 {
-    if text.len() <= 32768 { text } else { &text[..0] }
+    if text.len() <= 32768 {
+        text
+    } else {
+        &text[..0]
+    }
 }
 
 // Writes the pieces of a parameter, each on its own line, from a place on, as far as they fit; answers the place after them. The value is

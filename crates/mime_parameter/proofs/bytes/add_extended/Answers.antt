@@ -14,8 +14,5 @@ loop-b-init c = capped_start _ _ _ (omega arith)
 pub loop-b-preserved : goal.loop-b-preserved
 loop-b-preserved c = capped_turn c.loop-b.invariant (extended_at _ _ c.loop-b-test.true) c.add_extended_byte-next.ensures (omega arith)
 
-pub shape_of-out : goal.shape_of-out
-shape_of-out c = length_capped c.loop-b.invariant
-
 pub returns : goal.returns
 returns c = capped_end c.loop-b.invariant (extended_end _ _ c.loop-b-test.false)

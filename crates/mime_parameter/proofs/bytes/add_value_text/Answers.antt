@@ -17,8 +17,5 @@ loop-b-init c = capped_start _ _ _ (omega arith)
 pub loop-b-preserved : goal.loop-b-preserved
 loop-b-preserved c = capped_turn c.loop-b.invariant (kept_step stays_in_value c.args.standing.now c.loop-b.b-index c.loop-b.escaped c.loop-b-test.true ∙ rw c.escapes-escaped.ensures) c.add_kept-next.ensures (omega arith)
 
-pub shape_of-out : goal.shape_of-out
-shape_of-out c = length_capped c.loop-b.invariant
-
 pub returns : goal.returns
 returns c = capped_end c.loop-b.invariant (kept_end _ _ _ _ c.loop-b-test.false)

@@ -8,12 +8,6 @@ use lib.ListN.{length, drop}
 use borrow.Author.Rules.{rules}
 use Rattle.mime_parameter.proofs.bytes.extended_len.Goals as goal
 
-pub loop-b-init : goal.loop-b-init
-loop-b-init c = (omega arith, omega arith, omega arith)
-
-pub overflow_add-n : goal.overflow_add-n
-overflow_add-n c = omega (arith, c.byte_len-n.ensures.1)
-
 pub loop-b-preserved : goal.loop-b-preserved
 loop-b-preserved c = (omega (arith, c.byte_len-n.ensures.1), omega arith, len_next _ _ _ _ _ c.loop-b-test.true c.loop-b.invariant.2 c.byte_len-n.ensures.0)
 
