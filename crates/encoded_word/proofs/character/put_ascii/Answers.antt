@@ -9,21 +9,6 @@ use mathlib.Core.Path.{◌≡◌, refl}
 use borrow.Author.Rules.{rules}
 use Rattle.encoded_word.proofs.character.put_ascii.Goals as goal
 
-pub bounds-s-j : goal.bounds-s-j
-bounds-s-j c = omega (arith, at_least 4 c.args.left (length c.args.s.now - c.args.i) c.if-left-s.true)
-
-pub bounds-s-k : goal.bounds-s-k
-bounds-s-k c = omega (arith, at_least 4 c.args.left (length c.args.s.now - c.args.i) c.if-left-s.true)
-
-pub bounds-s-l : goal.bounds-s-l
-bounds-s-l c = omega (arith, at_least 4 c.args.left (length c.args.s.now - c.args.i) c.if-left-s.true)
-
-pub put_bytes-after-requires : goal.put_bytes-after-requires
-put_bytes-after-requires c = omega (arith, (at_least 4 c.args.left (length c.args.s.now - c.args.i) c.if-left-s.true).0, c.requires.1)
-
-pub overflow_sub-rest : goal.overflow_sub-rest
-overflow_sub-rest c = (at_least 4 c.args.left (length c.args.s.now - c.args.i) c.if-left-s.true).0
-
 pub returns-then-a-b : goal.returns-then-a-b
 returns-then-a-b c = let known = c.type_inv.s in
     let i = c.args.i in
