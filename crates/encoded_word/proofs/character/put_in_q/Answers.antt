@@ -4,13 +4,14 @@ use native.Mathlib.Omega.{arith}
 use lib.ListN.{length}
 use mathlib.Core.Path.{◌∙◌}
 use Prim.Native.Nat.{◌-◌}
+use Rattle.std.proofs.Common.{refl}
 use Rattle.encoded_word.proofs.character.put_in_q.Goals as goal
 
 pub loop-i-init : goal.loop-i-init
 loop-i-init c = put_start _ _ _ _
 
-pub returns-then-e-i : goal.returns-then-e-i
-returns-then-e-i c = put_full c.loop-i.invariant c.put_next-r.ensures c.if-e-i.true
-
 pub loop-i-preserved : goal.loop-i-preserved
-loop-i-preserved c = put_on c.loop-i.invariant c.put_next-r.ensures
+loop-i-preserved c = put_on c.loop-i.invariant c.in-Some.ensures.1
+
+pub returns-in_default : goal.returns-in_default
+returns-in_default c = put_full c.loop-i.invariant c.in_default.ensures refl
