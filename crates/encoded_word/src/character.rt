@@ -1,5 +1,5 @@
 // The characters of a word in Q, written into an output buffer.
-ghost use Rattle.std.specs.Prelude.{◌≡◌, ◌+◌, ◌≤◌, ◌<◌, length, get_or};
+ghost use Rattle.std.specs.Prelude.{MatchOption, ◌+◌, ◌≤◌, ◌<◌, length, get_or};
 ghost use Rattle.word_spelling.specs.HighChar.{HighChar};
 ghost use Rattle.encoded_word.specs.Writing.{PutTurn, PutInQ};
 
@@ -22,28 +22,28 @@ pub(crate) struct Put {
 }
 
 // A character of any length, cut at the end of the text, where what is left holds it.
-fn put_any(out: &mut [u8], at: usize, left: usize, s: &[u8], i: usize) -> Spot
+fn put_any(out: &mut [u8], at: usize, left: usize, s: &[u8], i: usize) -> Option<Spot>
     requires { (i < length s.now) × (at + left + 2 ≤ length out.old) }
-    ensures { PutTurn s.now i left at out.old out.new result.i result.left result.at }
+    ensures { MatchOption result (PutTurn s.now i left at out.old out.new i left at) (λ r. (i < r.i) × PutTurn s.now i left at out.old out.new r.i r.left r.at) }
 {
     let c = cost_at(s, i);
     let e = c.end;
     let m = c.cost;
     if left < m {
-        return Spot { i, left, at };
+        return None;
     }
     let after = put_char(out, at, &s[i..e]);
-    Spot {
+    Some(Spot {
         i: e,
         left: left - m,
         at: after,
-    }
+    })
 }
 
 // An ASCII character, or four that take one character each, where what is left holds them.
-fn put_ascii(out: &mut [u8], at: usize, left: usize, s: &[u8], i: usize) -> Spot
+fn put_ascii(out: &mut [u8], at: usize, left: usize, s: &[u8], i: usize) -> Option<Spot>
     requires { (i < length s.now) × (at + left + 2 ≤ length out.old) × (get_or s.now i 0 < 128) }
-    ensures { PutTurn s.now i left at out.old out.new result.i result.left result.at }
+    ensures { MatchOption result (PutTurn s.now i left at out.old out.new i left at) (λ r. (i < r.i) × PutTurn s.now i left at out.old out.new r.i r.left r.at) }
 {
     let j = i + 1;
     if (4 <= left) & (4 <= s.len() - i) {
@@ -57,34 +57,34 @@ fn put_ascii(out: &mut [u8], at: usize, left: usize, s: &[u8], i: usize) -> Spot
             let after = put_bytes(out, at, &[a, b, c, d]);
             let next = l + 1;
             let rest = left - 4;
-            return Spot {
+            return Some(Spot {
                 i: next,
                 left: rest,
                 at: after,
-            };
+            });
         }
     }
     let b = s[i];
     let m = cost_of(b);
     if left < m {
-        return Spot { i, left, at };
+        return None;
     }
     let after = put_byte(out, at, b);
-    Spot {
+    Some(Spot {
         i: j,
         left: left - m,
         at: after,
-    }
+    })
 }
 
 // A character of n bytes, 2 to 4, none of them ASCII, where what is left holds it.
-fn put_whole(out: &mut [u8], at: usize, left: usize, s: &[u8], i: usize, n: usize) -> Spot
+fn put_whole(out: &mut [u8], at: usize, left: usize, s: &[u8], i: usize, n: usize) -> Option<Spot>
     requires { (2 ≤ n) × (n ≤ 4) × (i + n ≤ length s.now) × (at + left + 2 ≤ length out.old) × HighChar s.now i n }
-    ensures { PutTurn s.now i left at out.old out.new result.i result.left result.at }
+    ensures { MatchOption result (PutTurn s.now i left at out.old out.new i left at) (λ r. (i < r.i) × PutTurn s.now i left at out.old out.new r.i r.left r.at) }
 {
     let m = 3 * n;
     if left < m {
-        return Spot { i, left, at };
+        return None;
     }
     let rest = left - m;
     let next = i + n;
@@ -93,34 +93,34 @@ fn put_whole(out: &mut [u8], at: usize, left: usize, s: &[u8], i: usize, n: usiz
     let b = s[j];
     let third = put_escapes(out, at, a, b);
     if n == 2 {
-        return Spot {
+        return Some(Spot {
             i: next,
             left: rest,
             at: third,
-        };
+        });
     }
     let k = j + 1;
     let fourth = put_escape(out, third, s[k]);
     if n == 3 {
-        return Spot {
+        return Some(Spot {
             i: next,
             left: rest,
             at: fourth,
-        };
+        });
     }
     let l = k + 1;
     let after = put_escape(out, fourth, s[l]);
-    Spot {
+    Some(Spot {
         i: next,
         left: rest,
         at: after,
-    }
+    })
 }
 
 // A character that is not ASCII. Lengths are constants, so that the loop need not wait for size.
-fn put_high(out: &mut [u8], at: usize, left: usize, s: &[u8], i: usize) -> Spot
+fn put_high(out: &mut [u8], at: usize, left: usize, s: &[u8], i: usize) -> Option<Spot>
     requires { (i < length s.now) × (at + left + 2 ≤ length out.old) }
-    ensures { PutTurn s.now i left at out.old out.new result.i result.left result.at }
+    ensures { MatchOption result (PutTurn s.now i left at out.old out.new i left at) (λ r. (i < r.i) × PutTurn s.now i left at out.old out.new r.i r.left r.at) }
 {
     match high_size(s, i) {
         Some(2) => put_whole(out, at, left, s, i, 2),
@@ -130,10 +130,10 @@ fn put_high(out: &mut [u8], at: usize, left: usize, s: &[u8], i: usize) -> Spot
     }
 }
 
-// The next character, or characters, where what is left holds them; or none.
-fn put_next(out: &mut [u8], at: usize, left: usize, s: &[u8], i: usize) -> Spot
+// The next character, or characters; none where what is left does not hold the next.
+fn put_next(out: &mut [u8], at: usize, left: usize, s: &[u8], i: usize) -> Option<Spot>
     requires { (i < length s.now) × (at + left + 2 ≤ length out.old) }
-    ensures { PutTurn s.now i left at out.old out.new result.i result.left result.at }
+    ensures { MatchOption result (PutTurn s.now i left at out.old out.new i left at) (λ r. (i < r.i) × PutTurn s.now i left at out.old out.new r.i r.left r.at) }
 {
     if s[i] < 128 {
         return put_ascii(out, at, left, s, i);
@@ -150,14 +150,12 @@ pub(crate) fn put_in_q(out: &mut [u8], start: usize, room: usize, s: &[u8]) -> P
     let mut left = room;
     let mut at = start;
     while i < s.len() {
-        let r = put_next(out, at, left, s, i);
-        let e = r.i;
-        at = r.at;
-        if e == i {
+        let Some(next) = put_next(out, at, left, s, i) else {
             return Put { end: i, at };
-        }
-        i = e;
-        left = r.left;
+        };
+        i = next.i;
+        left = next.left;
+        at = next.at;
     }
     Put { end: i, at }
 }

@@ -11,12 +11,12 @@ returns-then-left-m c = put_stop (stepped_high (omega arith) c.requires.4) c.if-
 
 pub returns-then-n-eq2 : goal.returns-then-n-eq2
 returns-then-n-eq2 c = let size : c.args.n ≡ 2 = c.if-n-eq2.true in
-    put_high_lem _ _ _ _ _ (omega arith) c.requires.4 _ (rw size (escapes_two c.args.s.now c.args.i (omega arith))) c.if-left-m.false refl c.put_escapes-third.ensures
+    (omega arith, put_high_lem _ _ _ _ _ (omega arith) c.requires.4 _ (rw size (escapes_two c.args.s.now c.args.i (omega arith))) c.if-left-m.false refl c.put_escapes-third.ensures)
 
 pub returns-then-n-eq3 : goal.returns-then-n-eq3
 returns-then-n-eq3 c = let size : c.args.n ≡ 3 = c.if-n-eq3.true in
-    put_high_lem _ _ _ _ _ (omega arith) c.requires.4 _ (rw size (escapes_three c.args.s.now c.args.i (omega arith))) c.if-left-m.false refl (appended_then c.put_escapes-third.ensures c.put_escape-fourth.ensures)
+    (omega arith, put_high_lem _ _ _ _ _ (omega arith) c.requires.4 _ (rw size (escapes_three c.args.s.now c.args.i (omega arith))) c.if-left-m.false refl (appended_then c.put_escapes-third.ensures c.put_escape-fourth.ensures))
 
 pub returns : goal.returns
 returns c = let size : c.args.n ≡ 4 = omega arith in
-    put_high_lem _ _ _ _ _ (omega arith) c.requires.4 _ (rw size (escapes_four c.args.s.now c.args.i (omega arith))) c.if-left-m.false refl (appended_then (appended_then c.put_escapes-third.ensures c.put_escape-fourth.ensures) c.put_escape-after.ensures)
+    (omega arith, put_high_lem _ _ _ _ _ (omega arith) c.requires.4 _ (rw size (escapes_four c.args.s.now c.args.i (omega arith))) c.if-left-m.false refl (appended_then (appended_then c.put_escapes-third.ensures c.put_escape-fourth.ensures) c.put_escape-after.ensures))

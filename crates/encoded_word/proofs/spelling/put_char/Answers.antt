@@ -17,8 +17,5 @@ put_byte-next-requires c = omega (arith, reached_within c.loop-b.invariant.1, le
 pub loop-b-preserved : goal.loop-b-preserved
 loop-b-preserved c = (omega arith, reached_then _ _ c.loop-b.invariant.1 (spell_at _ _ c.loop-b-test.true) c.put_byte-next.ensures)
 
-pub shape_of-out : goal.shape_of-out
-shape_of-out c = length_reached c.loop-b.invariant.1
-
 pub returns : goal.returns
 returns c = reached_end c.loop-b.invariant.1 (spell_end _ _ c.loop-b-test.false)
