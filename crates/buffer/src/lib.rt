@@ -9,18 +9,14 @@ ghost use Rattle.buffer.specs.Buffer.{Wrote, AppendedCapped, greatest};
 pub fn clip(n: usize, m: usize) -> usize
     ensures { result ≡ min n m }
 {
-    if n < m { n } else { m }
+    n.min(m)
 }
 
 // The place n bytes after a place, at most the greatest usize.
 pub fn place_after(at: usize, n: usize) -> usize
     ensures { result ≡ min (at + n) greatest }
 {
-    if n <= 18446744073709551615 - at {
-        at + n
-    } else {
-        18446744073709551615
-    }
+    at.saturating_add(n)
 }
 
 // Writes a byte to the front of out, where it fits; answers 1.
@@ -38,11 +34,7 @@ pub fn put_slice(out: &mut [u8], src: &[u8]) -> usize
     ensures { Wrote src.now out.old out.new result }
 {
     let n = clip(src.len(), out.len());
-    let mut i = 0;
-    while i < n {
-        out[i] = src[i];
-        i += 1;
-    }
+    out[..n].copy_from_slice(&src[..n]);
     src.len()
 }
 

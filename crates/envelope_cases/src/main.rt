@@ -3,7 +3,6 @@
 // `stdin`, most with no column for the setting, which then is 0.
 #![tactic(auto)]
 
-use envelope::{Checked, Orcpt};
 use envelope_line::Fault;
 use rules::Rules;
 use std::io;
@@ -27,7 +26,6 @@ fn verdict(rt: &impl Print, ok: bool) -> io::Result<()> {
 // The scope paper's number of a fault.
 fn fault_number(fault: Fault) -> usize {
     match fault {
-        Fault::Fine => 0,
         Fault::Malformed => 2,
         Fault::NoAlternative => 3,
         Fault::BadAlternative => 4,
@@ -47,8 +45,8 @@ fn refused(rt: &impl Print, no: usize, line: usize) -> io::Result<()> {
 fn orcpt(rt: &impl Print, envelope: &[u8]) -> io::Result<()> {
     say(rt, b"ORCPT: ")?;
     match envelope::orcpt_line(envelope) {
-        Orcpt::Clean => say(rt, b"clean\r\n"),
-        Orcpt::At(line) => refused(rt, 6, line),
+        None => say(rt, b"clean\r\n"),
+        Some(line) => refused(rt, 6, line),
     }
 }
 
@@ -146,8 +144,8 @@ fn show(rt: &impl Print, label: &[u8], rules: Rules, envelope: &[u8]) -> io::Res
     say(rt, b": ")?;
     let mut starts = [0usize; 100];
     match envelope::check(rules, envelope, &mut starts) {
-        Checked::Refused(fault, line) => refused(rt, fault_number(fault), line),
-        Checked::Passed(count) => {
+        Err(at) => refused(rt, fault_number(at.fault), at.line),
+        Ok(count) => {
             say(rt, b"0, RCPT lines ")?;
             number(rt, count)?;
             say(rt, b"\r\n")?;

@@ -2,7 +2,7 @@
 --
 -- `mail` says whether the line stands where the MAIL line does; every other line is due to be a RCPT line. The parts of a line are
 -- defined for every line, and mean what their names say where the line is well-formed.
-use Rattle.std.specs.Prelude.{Bool, true, false, not, cond, ◌&&◌, List, [], ◌∷◌, ◌++◌, ℕ, suc, ◌+◌, eqb, leb, length, take, drop, get_or, Result, Ok, Err}
+use Rattle.std.specs.Prelude.{Bool, true, false, not, cond, ◌&&◌, List, [], ◌∷◌, ◌++◌, ℕ, suc, ◌+◌, eqb, leb, length, take, drop, get_or, Result, Ok, Err, ⊤}
 use Rattle.lists.specs.Lists.{all}
 use Rattle.lists.specs.Byte.{is_ascii}
 use Rattle.utf8.specs.Utf8.{utf8}
@@ -13,7 +13,7 @@ use Rattle.address.specs.Address.{address_scan}
 use Rattle.xtext.specs.Xtext.{decoded, is_alt_address}
 use Rattle.parameter.specs.Parameter.{params, spaced, value, is_param, alts, alts_ok, alt, alt_place, orcpt_clean}
 use Rattle.envelope_line.specs.declared.Fault.{Fault}
-use Rattle.envelope_line.specs.declared.Fault.TheVariants.{Fine, Malformed, NoAlternative, BadAlternative, RetiredAlternative}
+use Rattle.envelope_line.specs.declared.Fault.TheVariants.{Malformed, NoAlternative, BadAlternative, RetiredAlternative}
 
 -- ---- verb
 
@@ -60,7 +60,7 @@ has_path mail line = is_to (path_scan mail (drop (verb_len mail) line)) && eqb (
 unfoldable pub tail : Bool → List ℕ → List ℕ
 tail mail line = drop (verb_len mail + path_len mail line + 1) line
 
--- ---- the fault of a line
+-- ---- the fault of a line, or `Ok` where it has none
 
 -- "at most 998 bytes", UTF-8, verb, path, parameters
 unfoldable pub well_formed : Bool → List ℕ → Bool
@@ -75,17 +75,17 @@ well_formed mail line =
 
 -- 4: "ALT-ADDRESS beside an ASCII path, or not xtext of an ASCII address". 10: "ALT-ADDRESS in a current message, .. in place of 4". Given
 -- whether the path is ASCII, and the value of ALT-ADDRESS. The empty path and Postmaster are ASCII.
-unfoldable pub value_fault : Rules → Bool → List ℕ → Fault
-value_fault rules ascii v = cond (allows_alternative rules) (cond (not ascii && is_alt_address v) Fine BadAlternative) RetiredAlternative
+unfoldable pub value_fault : Rules → Bool → List ℕ → Result ⊤ Fault
+value_fault rules ascii v = cond (allows_alternative rules) (cond (not ascii && is_alt_address v) (Ok tt) (Err BadAlternative)) (Err RetiredAlternative)
 
 -- 3: "path not ASCII, no ALT-ADDRESS". Given the ALT-ADDRESS parameters.
-unfoldable pub alt_fault : Rules → Bool → List (List ℕ) → Fault
-alt_fault rules ascii [] = cond ascii Fine NoAlternative
+unfoldable pub alt_fault : Rules → Bool → List (List ℕ) → Result ⊤ Fault
+alt_fault rules ascii [] = cond ascii (Ok tt) (Err NoAlternative)
 alt_fault rules ascii (p ∷ ps) = value_fault rules ascii (value p)
 
 -- "the lowest number within one line"; 10 "on its line after 2"
-unfoldable pub line_fault : Rules → Bool → List ℕ → Fault
-line_fault rules mail line = cond (well_formed mail line) (alt_fault rules (all is_ascii (path mail line)) (alts (params (tail mail line)))) Malformed
+unfoldable pub line_fault : Rules → Bool → List ℕ → Result ⊤ Fault
+line_fault rules mail line = cond (well_formed mail line) (alt_fault rules (all is_ascii (path mail line)) (alts (params (tail mail line)))) (Err Malformed)
 
 -- "an ORCPT carries non-ASCII"
 unfoldable pub orcpt_fault : Bool → List ℕ → Bool

@@ -1,4 +1,4 @@
-use Rattle.std.proofs.Common.{◌≡◌, ◌+◌, sym, arith, drop}
+use Rattle.std.proofs.Common.{sym}
 use Rattle.lists.specs.RunLaws.{run_end}
 use Rattle.byte_class.proofs.long_run_end.Goals as goal
 

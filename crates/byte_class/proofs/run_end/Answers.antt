@@ -1,4 +1,4 @@
-use Rattle.std.proofs.Common.{◌≡◌, ◌+◌, ◌≤◌, sym, ◌∙◌, arith, length, drop}
+use Rattle.std.proofs.Common.{sym, ◌∙◌, arith}
 use Rattle.lists.specs.RunLaws.{run_step, run_stop, run_end}
 use Rattle.byte_class.proofs.run_end.Goals as goal
 

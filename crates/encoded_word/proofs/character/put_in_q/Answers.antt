@@ -10,7 +10,7 @@ pub loop-i-init : goal.loop-i-init
 loop-i-init c = put_start _ _ _ _
 
 pub put_next-r-requires : goal.put_next-r-requires
-put_next-r-requires c = (c.requires.0, c.loop-i-test.true, omega (arith, put_place c.loop-i.invariant, put_length c.loop-i.invariant, c.requires.1))
+put_next-r-requires c = (c.loop-i-test.true, omega (arith, put_place c.loop-i.invariant, put_length c.loop-i.invariant, c.requires))
 
 pub shape_of-out-then-e-i : goal.shape_of-out-then-e-i
 shape_of-out-then-e-i c = length_appended c.put_next-r.ensures.wrote ∙ put_length c.loop-i.invariant
