@@ -162,7 +162,7 @@ module _ (rules : Rules) (h : List ℕ) where
       (λ t. absurd (never (rw (size_over h (ltb_yes {a = 32768} {b = length h} t)) at k)))
       (λ t. let s = ltb_no {a = 32768} {b = length h} t in by_content s (checked_lines h) refl (held_of rules h) refl (rw (size_within h s) at k))
     where
-      never : Err Over ≡ (Ok tt) → ⊥
+      never : ◌≡◌ {A = HeaderVerdict} (Err Over) (Ok tt) → ⊥
       never e = let z : ◌≡◌ {A = ℕ} 0 1 = cc in omega arith
 
 -- ---- by the buffer
