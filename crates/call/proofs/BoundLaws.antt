@@ -1,4 +1,5 @@
 -- Bounds of an outcome: every number fits 32 bits, what is written fits its buffer, and the rest of the buffer stays.
+use Rattle.call.specs.Outcome.{Verdict}
 use Rattle.std.specs.Prelude.{◌≡◌, ℕ, suc, ◌+◌, ◌≤◌, ◌<◌, ltb, eqb, take, drop, Ok, Err, Result, Option, Some, None}
 use Rattle.std.proofs.Math.Path.{refl}
 use Rattle.std.proofs.Common.{ap, length-append, length-take, length-drop}
@@ -24,16 +25,14 @@ use Rattle.envelope.proofs.LengthLaws.{written_le}
 use Rattle.header_line.specs.Lines.{line_ok, lines_of, lines_from, checked_lines, bad_line, LineCheck}
 use Rattle.header.specs.Fields.{field_len, fields_of, line_count}
 use Rattle.rules.specs.declared.Rules.{Rules}
-use Rattle.outgoing_field.specs.declared.HeldField.{HeldField}
-use Rattle.outgoing_field.specs.declared.HeldField.TheVariants.{Absent, At as HeldAt}
+use Rattle.outgoing_field.specs.Fate.{FirstHeld}
+use Rattle.outgoing_field.specs.Fate.FirstHeld.{Absent, At as HeldAt}
 use Rattle.outgoing_field.specs.Fate.{fate_of, is_held, held_from, held_of}
 use Rattle.header_stop.specs.HeaderStopLaws.{line_stop_lem}
 use Rattle.offset.specs.Offset.{front_line, line_start, line_at, orcpt_byte, fault_byte, fault_offset, orcpt_offset, header_line_offset, field_offset}
 use Rattle.offset.specs.OffsetLaws.{front_within, fault_inside, orcpt_inside}
 use Rattle.call.specs.declared.Refusal.{Refusal}
 use Rattle.call.specs.declared.Refusal.TheVariants.{EnvelopeOver, EnvelopeLine, OrcptLine, EnvelopeNeeds, Header}
-use Rattle.call.specs.declared.Verdict.{Verdict}
-use Rattle.call.specs.declared.Verdict.TheVariants.{Accept, Refuse}
 use Rattle.outgoing_header.specs.declared.HeaderRefusal.TheVariants.{Over, Line, Held, Needs}
 use Rattle.outgoing_header.specs.HeaderOutcome.{of_size, of_lines, of_held, of_room, number_of as header_number, place_of as header_place, offset_of as header_offset}
 use Rattle.outgoing_header.proofs.HeaderOutcomeLaws.{size_over, size_within, room_short, room_enough}
@@ -93,7 +92,7 @@ orcpt_offset_le e n = orcpt_inside e n (line_start n e) refl refl refl (orcpt_by
 
 -- a first verdict either accepts, and the next ones decide, or is the answer
 module _ (rules : Rules) (P : Verdict → Type 0) (more : List Verdict) where
-  first_over : (limit size : ℕ) (refusal : Refusal) → (size ≤ limit → P (first_of more)) → (limit < size → P (Refuse refusal)) → P (first_of (over limit size refusal ∷ more))
+  first_over : (limit size : ℕ) (refusal : Refusal) → (size ≤ limit → P (first_of more)) → (limit < size → P (Err refusal)) → P (first_of (over limit size refusal ∷ more))
   unfolding first_of
   first_over limit size refusal f g =
       by_test (ltb limit size)
@@ -101,7 +100,7 @@ module _ (rules : Rules) (P : Verdict → Type 0) (more : List Verdict) where
       (λ t. let k = ltb_no {a = limit} {b = size} t in rw (over_no limit size refusal k) (f k))
 
   first_envelope : (e : List ℕ) → ((count : ℕ) → checked rules e ≡ Ok count → P (first_of more))
-      → ((fault : Fault) (line : ℕ) → checked rules e ≡ refused fault line → P (Refuse (EnvelopeLine fault line (fault_offset e fault line))))
+      → ((fault : Fault) (line : ℕ) → checked rules e ≡ refused fault line → P (Err (EnvelopeLine fault line (fault_offset e fault line))))
       → P (first_of (of_envelope e (checked rules e) ∷ more))
   unfolding first_of of_envelope
   first_envelope e f g = go (checked rules e) refl
@@ -110,14 +109,14 @@ module _ (rules : Rules) (P : Verdict → Type 0) (more : List Verdict) where
       go (Ok count) q = f count q
       go (Err at) q = g at.fault at.line q
 
-  first_size : (h : List ℕ) → (length h ≤ 32768 → P (first_of more)) → (32768 < length h → P (Refuse (Header Over))) → P (first_of (of_header (of_size h) ∷ more))
+  first_size : (h : List ℕ) → (length h ≤ 32768 → P (first_of more)) → (32768 < length h → P (Err (Header Over))) → P (first_of (of_header (of_size h) ∷ more))
   unfolding first_of of_header
   first_size h f g =
       by_test (ltb 32768 (length h))
       (λ t. let k = ltb_yes {a = 32768} {b = length h} t in rw (size_over h k) (g k))
       (λ t. let k = ltb_no {a = 32768} {b = length h} t in rw (size_within h k) (f k))
 
-  first_room : (room size : ℕ) → (size ≤ room → P (first_of more)) → (room < size → P (Refuse (Header (Needs size)))) → P (first_of (of_header (of_room room size) ∷ more))
+  first_room : (room size : ℕ) → (size ≤ room → P (first_of more)) → (room < size → P (Err (Header (Needs size)))) → P (first_of (of_header (of_room room size) ∷ more))
   unfolding first_of of_header
   first_room room size f g =
       by_test (ltb room size)
@@ -125,7 +124,7 @@ module _ (rules : Rules) (P : Verdict → Type 0) (more : List Verdict) where
       (λ t. let k = ltb_no {a = room} {b = size} t in rw (room_enough room size k) (f k))
 
   first_lines : (h : List ℕ) → (checked_lines h ≡ Ok tt → P (first_of more))
-      → ((line at : ℕ) → checked_lines h ≡ bad_line line at → P (Refuse (Header (Line line (header_line_offset h line at)))))
+      → ((line at : ℕ) → checked_lines h ≡ bad_line line at → P (Err (Header (Line line (header_line_offset h line at)))))
       → P (first_of (of_header (of_lines h (checked_lines h)) ∷ more))
   unfolding first_of of_lines of_header
   first_lines h f g = go (checked_lines h) refl
@@ -134,7 +133,7 @@ module _ (rules : Rules) (P : Verdict → Type 0) (more : List Verdict) where
       go (Ok tt) q = f q
       go (Err bad) q = g bad.line bad.at q
 
-  first_orcpt : (e : List ℕ) → P (first_of more) → ((line : ℕ) → orcpt_line e ≡ Some line → P (Refuse (OrcptLine line (orcpt_offset e line)))) → P (first_of (of_orcpt e (orcpt_line e) ∷ more))
+  first_orcpt : (e : List ℕ) → P (first_of more) → ((line : ℕ) → orcpt_line e ≡ Some line → P (Err (OrcptLine line (orcpt_offset e line)))) → P (first_of (of_orcpt e (orcpt_line e) ∷ more))
   unfolding first_of of_orcpt
   first_orcpt e f g = go (orcpt_line e) refl
     where
@@ -142,11 +141,11 @@ module _ (rules : Rules) (P : Verdict → Type 0) (more : List Verdict) where
       go None q = f
       go (Some line) q = g line q
 
-  first_held_lem : (h : List ℕ) → P (first_of more) → ((line at : ℕ) → held_of rules h ≡ HeldAt line at → P (Refuse (Header (Held line (field_offset h at))))) → P (first_of (of_header (of_held h (held_of rules h)) ∷ more))
+  first_held_lem : (h : List ℕ) → P (first_of more) → ((line at : ℕ) → held_of rules h ≡ HeldAt line at → P (Err (Header (Held line (field_offset h at))))) → P (first_of (of_header (of_held h (held_of rules h)) ∷ more))
   unfolding first_of of_held of_header
   first_held_lem h f g = go (held_of rules h) refl
     where
-      go : (r : HeldField) → held_of rules h ≡ r → P (first_of (of_header (of_held h r) ∷ more))
+      go : (r : FirstHeld) → held_of rules h ≡ r → P (first_of (of_header (of_held h r) ∷ more))
       go Absent q = f
       go (HeldAt line at) q = g line at q
 
@@ -162,8 +161,8 @@ record Fitting (rules : Rules) (e h : List ℕ) (room₁ room₂ : ℕ) : Type 0
   small₂ : length (outgoing_header rules e h) ≤ greatest32
 
 data Bound (rules : Rules) (e h : List ℕ) (room₁ room₂ : ℕ) : Verdict → Type 0 where
-  fitting : Fitting rules e h room₁ room₂ → Bound rules e h room₁ room₂ Accept
-  small : {refusal : Refusal} → SmallRefusal refusal → Bound rules e h room₁ room₂ (Refuse refusal)
+  fitting : Fitting rules e h room₁ room₂ → Bound rules e h room₁ room₂ (Ok tt)
+  small : {refusal : Refusal} → SmallRefusal refusal → Bound rules e h room₁ room₂ (Err refusal)
 
 fault_number_le : (fault : Fault) → fault_number fault ≤ 10
 unfolding fault_number
@@ -276,4 +275,4 @@ outcome_bounded rules e h b c = go (verdict rules e h (length b) (length c)) (ve
       past₂ = overlay_past (outgoing_header rules e h) c;
       refused = λ z. absurd (z refl);
     }
-    go (Refuse refusal) (small s) = refused_bounded (number_of refusal) (input_of refusal) (place_of refusal) (offset_of refusal) b c (omega (arith, s.number)) s.place s.offset
+    go (Err refusal) (small s) = refused_bounded (number_of refusal) (input_of refusal) (place_of refusal) (offset_of refusal) b c (omega (arith, s.number)) s.place s.offset

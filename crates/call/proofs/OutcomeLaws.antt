@@ -1,21 +1,18 @@
 -- Laws of the outcome, case by case.
+use Rattle.std.specs.Prelude.{Ok, Err}
+use Rattle.call.specs.OutcomeLaws.{Content}
+use Rattle.call.specs.Outcome.{Verdict}
+use Rattle.outgoing_header.specs.HeaderContent.{HeaderContent}
+use Rattle.outgoing_header.specs.HeaderOutcome.{HeaderVerdict}
 use Rattle.std.specs.Prelude.{◌≡◌, refl, List, [], ◌∷◌, ℕ, ◌≤◌, length, Option, None}
 use Rattle.std.proofs.Common.{sym, ap, ◌∙◌, arith}
 use Rattle.rules.specs.declared.Rules.{Rules}
 use Rattle.outgoing_field.specs.Fate.{limited, held_of}
 use Rattle.outgoing_field.proofs.FateLaws.{limited_short}
 use Rattle.outgoing_field.specs.Most.{most_of}
-use Rattle.outgoing_header.specs.declared.HeaderVerdict.{HeaderVerdict}
-use Rattle.outgoing_header.specs.declared.HeaderVerdict.TheVariants.{Accept as HeaderAccept, Refuse as HeaderRefuse}
-use Rattle.outgoing_header.specs.declared.HeaderContent.{HeaderContent}
-use Rattle.outgoing_header.specs.declared.HeaderContent.TheVariants.{Passes as HeaderPasses, Fails as HeaderFails}
 use Rattle.outgoing_header.specs.HeaderContent.{with_most as header_with_most}
 use Rattle.outgoing_header.specs.HeaderOutcome.{of_held}
 use Rattle.envelope.specs.Envelope.{orcpt_line}
-use Rattle.call.specs.declared.Verdict.{Verdict}
-use Rattle.call.specs.declared.Verdict.TheVariants.{Accept, Refuse}
-use Rattle.call.specs.declared.Content.{Content}
-use Rattle.call.specs.declared.Content.TheVariants.{Passes, Fails}
 use Rattle.call.specs.declared.Refusal.{Refusal}
 use Rattle.call.specs.declared.Refusal.TheVariants.{Header}
 use Rattle.call.specs.declared.Answer.{Answer}
@@ -24,23 +21,23 @@ use Rattle.call.specs.OutcomeLaws.{of_content, with_most}
 
 first_one : (v : Verdict) → first_of (v ∷ []) ≡ v
 unfolding first_of
-first_one Accept = refl
-first_one (Refuse refusal) = refl
+first_one (Ok tt) = refl
+first_one (Err refusal) = refl
 
 header_content : (v : HeaderVerdict) (n : ℕ) → of_content (header_with_most v n) ≡ with_most (of_header v) n
 unfolding of_content header_with_most with_most of_header
-header_content HeaderAccept n = refl
-header_content (HeaderRefuse refusal) n = refl
+header_content (Ok tt) n = refl
+header_content (Err refusal) n = refl
 
-pub with_passes : (v : Verdict) (n : ℕ) {m : ℕ} → with_most v n ≡ Passes m → (v ≡ Accept) × (m ≡ n)
+pub with_passes : (v : Verdict) (n : ℕ) {m : ℕ} → with_most v n ≡ Ok m → (v ≡ (Ok tt)) × (m ≡ n)
 unfolding with_most
-with_passes Accept n {m} e = (refl, let k : m ≡ n = cc in k)
-with_passes (Refuse refusal) n e = absurd (let z : ◌≡◌ {A = ℕ} 0 1 = cc in omega arith)
+with_passes (Ok tt) n {m} e = (refl, let k : m ≡ n = cc in k)
+with_passes (Err refusal) n e = absurd (let z : ◌≡◌ {A = ℕ} 0 1 = cc in omega arith)
 
-pub with_fails : (v : Verdict) (n : ℕ) {refusal : Refusal} → with_most v n ≡ Fails refusal → v ≡ Refuse refusal
+pub with_fails : (v : Verdict) (n : ℕ) {refusal : Refusal} → with_most v n ≡ Err refusal → v ≡ Err refusal
 unfolding with_most
-with_fails Accept n e = absurd (let z : ◌≡◌ {A = ℕ} 0 1 = cc in omega arith)
-with_fails (Refuse r) n {refusal} e = let k : r ≡ refusal = cc in ap Refuse k
+with_fails (Ok tt) n e = absurd (let z : ◌≡◌ {A = ℕ} 0 1 = cc in omega arith)
+with_fails (Err r) n {refusal} e = let k : r ≡ refusal = cc in ap Err k
 
 -- held fields of a header within its limit
 pub held_content : (rules : Rules) (h : List ℕ) {c : HeaderContent} {r : Content} → length h ≤ 32768

@@ -1,4 +1,5 @@
 -- Laws of the outcome where the input is accepted: measured, then written.
+use Rattle.call.specs.Outcome.{Verdict}
 use Rattle.std.specs.Prelude.{◌≡◌, refl, List, [], ◌∷◌, ◌++◌, ℕ, ◌+◌, ◌*◌, ◌≤◌, ◌<◌, min, Ok, Err, Result}
 use Rattle.std.proofs.Common.{sym, ◌∙◌, arith, length-append, lt-ltb, le-ltb}
 use Rattle.std.proofs.Math.Path.{ap}
@@ -17,8 +18,8 @@ use Rattle.envelope.proofs.LengthLaws.{written_le}
 use Rattle.envelope.proofs.ReplacementLaws.{mail_replacement_short, rcpt_replacement_short}
 use Rattle.header_line.specs.Lines.{checked_lines, LineCheck}
 use Rattle.rules.specs.declared.Rules.{Rules}
-use Rattle.outgoing_field.specs.declared.HeldField.{HeldField}
-use Rattle.outgoing_field.specs.declared.HeldField.TheVariants.{Absent, At}
+use Rattle.outgoing_field.specs.Fate.{FirstHeld}
+use Rattle.outgoing_field.specs.Fate.FirstHeld.{Absent, At}
 use Rattle.outgoing_field.specs.Fate.{segments_of, header_segments, header_written, limited, held_of}
 use Rattle.outgoing_field.proofs.FateLaws.{limited_short, unheld_header}
 use Rattle.outgoing_field.specs.Most.{most_of}
@@ -26,8 +27,6 @@ use Rattle.outgoing_field.proofs.MostLaws.{most_le}
 use Rattle.outgoing_field.proofs.OwedLaws.{owed_header}
 use Rattle.call.specs.declared.Refusal.{Refusal}
 use Rattle.call.specs.declared.Refusal.TheVariants.{EnvelopeOver, EnvelopeLine, EnvelopeNeeds, Header}
-use Rattle.call.specs.declared.Verdict.{Verdict}
-use Rattle.call.specs.declared.Verdict.TheVariants.{Accept, Refuse}
 use Rattle.call.specs.declared.Answer.{Answer}
 use Rattle.call.specs.OutgoingHeader.{new_field, new_fields, new_fields_most, outgoing_segments, outgoing_header}
 use Rattle.call.specs.Outcome.{over, of_envelope, of_header, of_orcpt, first_of, verdict, outcome_of, outcome, observed}
@@ -43,30 +42,30 @@ use Rattle.call.specs.OutputLaws.{Accepted, Ready, Short, StartsOf, Texts, heade
 -- ---- refusals
 
 -- where a verdict refuses, so does the call
-pub refused_observed : (rules : Rules) (e h b c : List ℕ) {refusal : Refusal} {r : Answer} → verdict rules e h (length b) (length c) ≡ Refuse refusal → RefusedBy refusal r → observed r b c ≡ outcome rules e h b c
+pub refused_observed : (rules : Rules) (e h b c : List ℕ) {refusal : Refusal} {r : Answer} → verdict rules e h (length b) (length c) ≡ Err refusal → RefusedBy refusal r → observed r b c ≡ outcome rules e h b c
 unfolding outcome outcome_of
 refused_observed rules e h b c v a = rw (v, a.number, a.input, a.place, a.offset, a.none₁, a.none₂)
 
-pub over_yes : (limit size : ℕ) (refusal : Refusal) → limit < size → over limit size refusal ≡ Refuse refusal
+pub over_yes : (limit size : ℕ) (refusal : Refusal) → limit < size → over limit size refusal ≡ Err refusal
 unfolding over
 over_yes limit size refusal k = rw (lt-ltb limit size k)
 
-pub over_no : (limit size : ℕ) (refusal : Refusal) → size ≤ limit → over limit size refusal ≡ Accept
+pub over_no : (limit size : ℕ) (refusal : Refusal) → size ≤ limit → over limit size refusal ≡ (Ok tt)
 unfolding over
 over_no limit size refusal k = rw (le-ltb limit size k)
 
 module _ (rules : Rules) (e h : List ℕ) (room₁ room₂ : ℕ) where
-  pub envelope_over : 16384 < length e → verdict rules e h room₁ room₂ ≡ Refuse EnvelopeOver
+  pub envelope_over : 16384 < length e → verdict rules e h room₁ room₂ ≡ Err EnvelopeOver
   unfolding verdict first_of
   envelope_over k = rw (over_yes 16384 (length e) EnvelopeOver k)
 
   module _ (short₁ : length e ≤ 16384) where
-    pub header_over : 32768 < length h → verdict rules e h room₁ room₂ ≡ Refuse (Header Over)
+    pub header_over : 32768 < length h → verdict rules e h room₁ room₂ ≡ Err (Header Over)
     unfolding verdict first_of of_header
     header_over k = rw (over_no 16384 (length e) EnvelopeOver short₁, size_over h k)
 
     module _ (short₂ : length h ≤ 32768) where
-      pub envelope_line_lem : (fault : Fault) (line offset : ℕ) → checked rules e ≡ refused fault line → offset ≡ fault_offset e fault line → verdict rules e h room₁ room₂ ≡ Refuse (EnvelopeLine fault line offset)
+      pub envelope_line_lem : (fault : Fault) (line offset : ℕ) → checked rules e ≡ refused fault line → offset ≡ fault_offset e fault line → verdict rules e h room₁ room₂ ≡ Err (EnvelopeLine fault line offset)
       unfolding verdict first_of of_envelope of_header
       envelope_line_lem fault line offset k q = rw (over_no 16384 (length e) EnvelopeOver short₁, size_within h short₂, k, q)
 
@@ -83,17 +82,17 @@ module _ (rules : Rules) (e h : List ℕ) (room₁ room₂ : ℕ) where
         past_envelope = rw (over_no 16384 (length e) EnvelopeOver short₁, size_within h short₂, passed)
 
 -- of verdicts one after another
-first_refused : (a b : List Verdict) (refusal : Refusal) → first_of a ≡ Refuse refusal → first_of (a ++ b) ≡ Refuse refusal
+first_refused : (a b : List Verdict) (refusal : Refusal) → first_of a ≡ Err refusal → first_of (a ++ b) ≡ Err refusal
 unfolding first_of
 first_refused [] b refusal k = absurd (let z : ◌≡◌ {A = ℕ} 0 1 = cc in omega arith)
-first_refused (Accept ∷ a) b refusal k = first_refused a b refusal k
-first_refused (Refuse r ∷ a) b refusal k = k
+first_refused ((Ok tt) ∷ a) b refusal k = first_refused a b refusal k
+first_refused (Err r ∷ a) b refusal k = k
 
-first_accepted : (a b : List Verdict) → first_of a ≡ Accept → first_of (a ++ b) ≡ first_of b
+first_accepted : (a b : List Verdict) → first_of a ≡ (Ok tt) → first_of (a ++ b) ≡ first_of b
 unfolding first_of
 first_accepted [] b k = refl
-first_accepted (Accept ∷ a) b k = first_accepted a b k
-first_accepted (Refuse r ∷ a) b k = absurd (let z : ◌≡◌ {A = ℕ} 0 1 = cc in omega arith)
+first_accepted ((Ok tt) ∷ a) b k = first_accepted a b k
+first_accepted (Err r ∷ a) b k = absurd (let z : ◌≡◌ {A = ℕ} 0 1 = cc in omega arith)
 
 -- 1 to 6: the refusals that the buffers do not decide
 abbrev pub of_input : Rules → List ℕ → List ℕ → List Verdict
@@ -107,7 +106,7 @@ of_input rules e h =
     ∷ []
 
 -- an input that none of them refuses is decided by the buffers
-module _ (rules : Rules) (e h : List ℕ) (room₁ room₂ : ℕ) (q : first_of (of_input rules e h) ≡ Accept) where
+module _ (rules : Rules) (e h : List ℕ) (room₁ room₂ : ℕ) (q : first_of (of_input rules e h) ≡ (Ok tt)) where
   by_rooms : verdict rules e h room₁ room₂
       ≡ first_of
       (over room₁ (length (written e)) (EnvelopeNeeds (length (written e)))
@@ -116,35 +115,35 @@ module _ (rules : Rules) (e h : List ℕ) (room₁ room₂ : ℕ) (q : first_of 
   unfolding verdict
   by_rooms = first_accepted (of_input rules e h) _ q
 
-  pub envelope_short : room₁ < length (written e) → verdict rules e h room₁ room₂ ≡ Refuse (EnvelopeNeeds (length (written e)))
+  pub envelope_short : room₁ < length (written e) → verdict rules e h room₁ room₂ ≡ Err (EnvelopeNeeds (length (written e)))
   unfolding first_of
   envelope_short l = by_rooms ∙ rw (over_yes room₁ (length (written e)) (EnvelopeNeeds (length (written e))) l)
 
   module _ (k : length (written e) ≤ room₁) where
-    pub both_fit : length (outgoing_header rules e h) ≤ room₂ → verdict rules e h room₁ room₂ ≡ Accept
+    pub both_fit : length (outgoing_header rules e h) ≤ room₂ → verdict rules e h room₁ room₂ ≡ (Ok tt)
     unfolding first_of of_header
     both_fit l =
         by_rooms
         ∙ rw (over_no room₁ (length (written e)) (EnvelopeNeeds (length (written e))) k, room_enough room₂ (length (outgoing_header rules e h)) l)
 
-    pub header_short : room₂ < length (outgoing_header rules e h) → verdict rules e h room₁ room₂ ≡ Refuse (Header (Needs (length (outgoing_header rules e h))))
+    pub header_short : room₂ < length (outgoing_header rules e h) → verdict rules e h room₁ room₂ ≡ Err (Header (Needs (length (outgoing_header rules e h))))
     unfolding first_of of_header
     header_short l =
         by_rooms
         ∙ rw (over_no room₁ (length (written e)) (EnvelopeNeeds (length (written e))) k, room_short room₂ (length (outgoing_header rules e h)) l)
 
-last_accepted : (a b v : Verdict) → first_of (a ∷ b ∷ v ∷ []) ≡ Accept → v ≡ Accept
+last_accepted : (a b v : Verdict) → first_of (a ∷ b ∷ v ∷ []) ≡ (Ok tt) → v ≡ (Ok tt)
 unfolding first_of
-last_accepted Accept Accept Accept k = refl
-last_accepted Accept Accept (Refuse r) k = k
-last_accepted Accept (Refuse r) v k = absurd (let z : ◌≡◌ {A = ℕ} 0 1 = cc in omega arith)
-last_accepted (Refuse r) b v k = absurd (let z : ◌≡◌ {A = ℕ} 0 1 = cc in omega arith)
+last_accepted (Ok tt) (Ok tt) (Ok tt) k = refl
+last_accepted (Ok tt) (Ok tt) (Err r) k = k
+last_accepted (Ok tt) (Err r) v k = absurd (let z : ◌≡◌ {A = ℕ} 0 1 = cc in omega arith)
+last_accepted (Err r) b v k = absurd (let z : ◌≡◌ {A = ℕ} 0 1 = cc in omega arith)
 
 accepted_lines : {rules : Rules} {e h : List ℕ} {most : ℕ} → Accepted rules e h most → checked_lines h ≡ Ok tt
 unfolding first_of of_lines of_header
 accepted_lines {rules} {e} {h} ok = go (checked_lines h) refl ok.content
   where
-    go : (l : LineCheck) → checked_lines h ≡ l → first_of (of_header (of_lines h l) ∷ of_orcpt e (orcpt_line e) ∷ of_header (of_held h (held_of rules h)) ∷ []) ≡ Accept → checked_lines h ≡ Ok tt
+    go : (l : LineCheck) → checked_lines h ≡ l → first_of (of_header (of_lines h l) ∷ of_orcpt e (orcpt_line e) ∷ of_header (of_held h (held_of rules h)) ∷ []) ≡ (Ok tt) → checked_lines h ≡ Ok tt
     go (Ok tt) q k = q
     go (Err bad) q k = absurd (let z : ◌≡◌ {A = ℕ} 0 1 = cc in omega arith)
 
@@ -152,7 +151,7 @@ accepted_none : {rules : Rules} {e h : List ℕ} {most : ℕ} → Accepted rules
 unfolding of_held of_header
 accepted_none {rules} {e} {h} ok = by_held (held_of rules h) refl (last_accepted (of_header (of_lines h (checked_lines h))) (of_orcpt e (orcpt_line e)) (of_header (of_held h (held_of rules h))) ok.content)
   where
-    by_held : (f : HeldField) → held_of rules h ≡ f → of_header (of_held h f) ≡ Accept → held_of rules h ≡ Absent
+    by_held : (f : FirstHeld) → held_of rules h ≡ f → of_header (of_held h f) ≡ (Ok tt) → held_of rules h ≡ Absent
     by_held Absent q k = q
     by_held (At line at) q k = absurd (let z : ◌≡◌ {A = ℕ} 0 1 = cc in omega arith)
 
@@ -227,8 +226,8 @@ unfolding written
 starts_written s a = wrote_of (rw s.starts at a) (omega (arith, s.size))
 
 module _ {rules : Rules} {e h array : List ℕ} {count : ℕ} (r : Ready rules e h array count) where
-  pub content_refused : (room₁ room₂ : ℕ) {refusal : Refusal} → first_of (of_header (of_lines h (checked_lines h)) ∷ of_orcpt e (orcpt_line e) ∷ of_header (of_held h (held_of rules h)) ∷ []) ≡ Refuse refusal
-      → verdict rules e h room₁ room₂ ≡ Refuse refusal
+  pub content_refused : (room₁ room₂ : ℕ) {refusal : Refusal} → first_of (of_header (of_lines h (checked_lines h)) ∷ of_orcpt e (orcpt_line e) ∷ of_header (of_held h (held_of rules h)) ∷ []) ≡ Err refusal
+      → verdict rules e h room₁ room₂ ≡ Err refusal
   content_refused room₁ room₂ {refusal} k =
       past_envelope rules e h room₁ room₂ r.short₁ r.short₂ count r.passed
       ∙ first_refused (of_header (of_lines h (checked_lines h)) ∷ of_orcpt e (orcpt_line e) ∷ of_header (of_held h (held_of rules h)) ∷ []) _ refusal k
@@ -291,7 +290,7 @@ module _ {rules : Rules} {e h array : List ℕ} {count : ℕ} (r : Ready rules e
     downgraded {mail} {rcpt} {n} {m} {b'} {c'} {a} t q k d l x i y z v u =
         let p : length (outgoing_header rules e h) ≤ length c = rw (header_of_lem rules t h) at (d.enough l) in
         let w : Wrote (outgoing_header rules e h) c c' a.header_len = rw (header_of_lem rules t h) at u in
-        let fine : verdict rules e h (length b) (length c) ≡ Accept =
+        let fine : verdict rules e h (length b) (length c) ≡ (Ok tt) =
         past_content
         ∙ rw (over_no (length b) (length (written e)) (EnvelopeNeeds (length (written e))) (rw q at k), room_enough (length c) (length (outgoing_header rules e h)) p) in
         rw (fine, x, i, y, z, v.size, w.size, v.bytes, w.bytes)

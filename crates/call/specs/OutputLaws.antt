@@ -17,8 +17,8 @@ use Rattle.envelope.proofs.LengthLaws.{written_le}
 use Rattle.envelope.proofs.ReplacementLaws.{mail_replacement_short, rcpt_replacement_short}
 use Rattle.header_line.specs.Lines.{checked_lines}
 use Rattle.rules.specs.declared.Rules.{Rules}
-use Rattle.outgoing_field.specs.declared.HeldField.{HeldField}
-use Rattle.outgoing_field.specs.declared.HeldField.TheVariants.{Absent, At}
+use Rattle.outgoing_field.specs.Fate.{FirstHeld}
+use Rattle.outgoing_field.specs.Fate.FirstHeld.{Absent, At}
 use Rattle.outgoing_field.specs.Fate.{segments_of, header_segments, header_written, limited, held_of}
 use Rattle.outgoing_field.proofs.FateLaws.{limited_short, unheld_header}
 use Rattle.outgoing_field.specs.Most.{most_of}
@@ -26,8 +26,6 @@ use Rattle.outgoing_field.proofs.MostLaws.{most_le}
 use Rattle.outgoing_field.proofs.OwedLaws.{owed_header}
 use Rattle.call.specs.declared.Refusal.{Refusal}
 use Rattle.call.specs.declared.Refusal.TheVariants.{EnvelopeOver, EnvelopeLine, EnvelopeNeeds, Header}
-use Rattle.call.specs.declared.Verdict.{Verdict}
-use Rattle.call.specs.declared.Verdict.TheVariants.{Accept, Refuse}
 use Rattle.call.specs.declared.Answer.{Answer}
 use Rattle.call.specs.OutgoingHeader.{new_field, new_fields, new_fields_most, outgoing_segments, outgoing_header}
 use Rattle.call.specs.Outcome.{over, of_envelope, of_header, of_orcpt, first_of, verdict, outcome_of, outcome, observed}
@@ -40,7 +38,7 @@ use Rattle.call.specs.OutcomeLaws.{RefusedBy}
 
 -- no header line is malformed, and no ORCPT and no held field carries non-ASCII; and this is the most of the header
 pub record Accepted (rules : Rules) (e h : List ℕ) (most : ℕ) : Type 0 where
-  pub content : first_of (of_header (of_lines h (checked_lines h)) ∷ of_orcpt e (orcpt_line e) ∷ of_header (of_held h (held_of rules h)) ∷ []) ≡ Accept
+  pub content : first_of (of_header (of_lines h (checked_lines h)) ∷ of_orcpt e (orcpt_line e) ∷ of_header (of_held h (held_of rules h)) ∷ []) ≡ (Ok tt)
   pub greatest : most ≡ most_of rules h
 
 -- ---- the header, by the texts of its new first fields

@@ -1,4 +1,5 @@
 -- Theorems on Cases.antt of specs/.
+use Rattle.std.specs.Prelude.{Ok}
 use Rattle.std.specs.Prelude.{◌≡◌, refl, List, [], ◌∷◌, ◌++◌, map, ℕ, ◌≤◌, ◌<◌, T, leb, length, replicate}
 use Rattle.std.proofs.Common.{◌∙◌, arith}
 use Rattle.std.proofs.Math.Facts.{leb_yes}
@@ -28,7 +29,6 @@ use Rattle.field.specs.Field.{labelled_field, prefix, encoded_field}
 use Rattle.outgoing_field.specs.Fate.{holds, method_written, method_fate, fate_of, segments_of, field_segments, header_segments, is_held, held_from, held_of}
 use Rattle.encoded_word.specs.Segments.{rendered}
 use Rattle.rules.specs.declared.Rules.TheVariants.{Spool}
-use Rattle.call.specs.declared.Verdict.TheVariants.{Accept}
 use Rattle.call.specs.OutgoingHeader.{new_field, new_fields, outgoing_segments, outgoing_header}
 use Rattle.outgoing_header.specs.HeaderOutcome.{of_size, of_lines, of_held, of_room, number_of as header_number, place_of as header_place}
 use Rattle.call.specs.Outcome.{number_of, place_of, over, of_envelope, of_header, of_orcpt, first_of, verdict, Outcome, outcome_of, outcome}
@@ -66,7 +66,7 @@ AllRight [] = Unit {0}
 AllRight (c ∷ cs) = Right c × AllRight cs
 
 -- an input that no number from 1 to 6 refuses is taken where both outputs fit
-taken_by : (e h : List ℕ) → first_of (of_input Spool e h) ≡ Accept → T (leb (length (written e)) 1000) → T (leb (length (outgoing_header Spool e h)) 1000)
+taken_by : (e h : List ℕ) → first_of (of_input Spool e h) ≡ (Ok tt) → T (leb (length (written e)) 1000) → T (leb (length (outgoing_header Spool e h)) 1000)
     → (b c : List ℕ) → 1000 ≤ length b → 1000 ≤ length c → answer (outcome Spool e h b c) ≡ (0, 0)
 unfolding outcome outcome_of
 taken_by e h q n m b c k l =
@@ -75,7 +75,7 @@ taken_by e h q n m b c k l =
     rw (both_fit Spool e h (length b) (length c) q (omega arith) (omega arith))
 
 -- an input that no number from 1 to 6 refuses, whose outputs have these lengths
-needs_by : (e h : List ℕ) (n m : ℕ) → first_of (of_input Spool e h) ≡ Accept → length (written e) ≡ n → length (outgoing_header Spool e h) ≡ m → Right (Case.needs e h n m)
+needs_by : (e h : List ℕ) (n m : ℕ) → first_of (of_input Spool e h) ≡ (Ok tt) → length (written e) ≡ n → length (outgoing_header Spool e h) ≡ m → Right (Case.needs e h n m)
 unfolding outcome outcome_of number_of place_of header_number header_place
 needs_by e h n m q p r b c = (
   λ k l. rw (both_fit Spool e h (length b) (length c) q (omega arith) (omega arith), p, r),

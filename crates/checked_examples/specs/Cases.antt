@@ -28,7 +28,6 @@ use Rattle.field.specs.Field.{labelled_field, prefix, encoded_field}
 use Rattle.outgoing_field.specs.Fate.{holds, method_written, method_fate, fate_of, segments_of, field_segments, header_segments, is_held, held_from, held_of}
 use Rattle.encoded_word.specs.Segments.{rendered}
 use Rattle.rules.specs.declared.Rules.TheVariants.{Spool}
-use Rattle.call.specs.declared.Verdict.TheVariants.{Accept}
 use Rattle.call.specs.OutgoingHeader.{new_field, new_fields, outgoing_segments, outgoing_header}
 use Rattle.outgoing_header.specs.HeaderOutcome.{of_size, of_lines, of_held, of_room, number_of as header_number, place_of as header_place}
 use Rattle.call.specs.Outcome.{number_of, place_of, over, of_envelope, of_header, of_orcpt, first_of, verdict, Outcome, outcome_of, outcome}

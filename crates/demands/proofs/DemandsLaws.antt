@@ -1,4 +1,5 @@
 -- The three demands hold of the outcome.
+use Rattle.call.specs.Outcome.{Verdict}
 use Rattle.std.specs.Prelude.{◌≡◌, ◌≢◌, Bool, true, not, List, [], ◌∷◌, ◌++◌, T, eqb, ltb, take, Ok, Err, Result, Option, Some, None}
 use Rattle.std.proofs.Math.Path.{refl, sym, ap}
 use Rattle.std.proofs.Common.{◌∙◌, append-nil, arith, eqb→eq}
@@ -21,8 +22,8 @@ use Rattle.envelope.specs.Envelope.{checked, fault_number, orcpt_line, texts, ma
 use Rattle.envelope.proofs.AsciiLaws.{written_ascii}
 use Rattle.envelope.proofs.ReplacementLaws.{mail_replacement_utf8, rcpt_replacement_utf8, mail_replacement_none, rcpt_replacement_none}
 use Rattle.envelope_line.specs.EnvelopeLine.{replacement}
-use Rattle.outgoing_field.specs.declared.HeldField.{HeldField}
-use Rattle.outgoing_field.specs.declared.HeldField.TheVariants.{Absent, At as HeldAt}
+use Rattle.outgoing_field.specs.Fate.{FirstHeld}
+use Rattle.outgoing_field.specs.Fate.FirstHeld.{Absent, At as HeldAt}
 use Rattle.header_line.specs.Lines.{checked_lines, LineCheck}
 use Rattle.header.specs.Fields.{fields_of}
 use Rattle.rules.specs.declared.Rules.{Rules}
@@ -32,8 +33,6 @@ use Rattle.outgoing_field.specs.Fate.{segments_of, header_segments, held_of}
 use Rattle.outgoing_field.proofs.OwedLaws.{owed_header}
 use Rattle.call.specs.declared.Answer.{Answer}
 use Rattle.call.specs.declared.Refusal.TheVariants.{EnvelopeOver, EnvelopeNeeds}
-use Rattle.call.specs.declared.Verdict.{Verdict}
-use Rattle.call.specs.declared.Verdict.TheVariants.{Accept, Refuse}
 use Rattle.call.specs.OutgoingHeader.{new_field, new_fields, outgoing_segments, outgoing_header}
 use Rattle.call.specs.Outcome.{number_of, input_of, place_of, offset_of, of_envelope, of_header, of_orcpt, first_of, verdict, Outcome, outcome_of, outcome, observed}
 use Rattle.call.proofs.OutputLaws.{over_yes, over_no}
@@ -230,7 +229,7 @@ module _ (rules : Rules) (e h b c : List ℕ) where
               let enough : 2 ≤ suc m = let k = (envelope_passed rules e m p).0 in omega arith in
               none_refused s.0 s.1 enough (envelope_clean rules e m p r)
 
-          some_held : (held : HeldField) → held_of rules h ≡ held → Some
+          some_held : (held : FirstHeld) → held_of rules h ≡ held → Some
           some_held Absent k = some_room (record { limits = s; recipients = m; envelope = p; header = q; orcpt = r; held = k })
           some_held (HeldAt line at) k =
               found (held_non_ascii clean (header_lines h q).1 (field_held rules h line at k))
@@ -277,13 +276,13 @@ module _ (rules : Rules) (e h b c : List ℕ) where
   -- a refusal has a number from 1 on
   refusal_none : (v : Verdict) → ((outcome_of rules v e h b c).number ≡ 0 → ⊥) → ((outcome_of rules v e h b c).envelope_len ≡ 0) × ((outcome_of rules v e h b c).header_len ≡ 0)
   unfolding outcome_of
-  refusal_none Accept k = absurd (k refl)
-  refusal_none (Refuse refusal) k = (refl, refl)
+  refusal_none (Ok tt) k = absurd (k refl)
+  refusal_none (Err refusal) k = (refl, refl)
 
   refusal_kept : (v : Verdict) → ((outcome_of rules v e h b c).number ≡ 0 → ⊥) → KeptPast (outcome_of rules v e h b c).envelope_len b (outcome_of rules v e h b c).envelope_buffer × KeptPast (outcome_of rules v e h b c).header_len c (outcome_of rules v e h b c).header_buffer
   unfolding outcome_of
-  refusal_kept Accept k = absurd (k refl)
-  refusal_kept (Refuse refusal) k = (kept_all b, kept_all c)
+  refusal_kept (Ok tt) k = absurd (k refl)
+  refusal_kept (Err refusal) k = (kept_all b, kept_all c)
 
   -- after 0 the whole input passes, and both outputs fit
   record Taken : Type 0 where
@@ -308,14 +307,14 @@ module _ (rules : Rules) (e h b c : List ℕ) where
   }
 
   module _ (t : Taken) where
-    accepted : verdict rules e h (length b) (length c) ≡ Accept
+    accepted : verdict rules e h (length b) (length c) ≡ (Ok tt)
     unfolding verdict first_of of_envelope of_header of_lines of_orcpt of_held
     accepted =
         let p = t.passes in
         let s = p.limits in
         rw (over_no 16384 (length e) EnvelopeOver s.0, size_within h s.1, p.envelope, p.header, p.orcpt, p.held, over_no (length b) (length (written e)) (EnvelopeNeeds (length (written e))) t.envelope_fits, room_enough (length c) (length (outgoing_header rules e h)) t.header_fits)
 
-    outcome_is : outcome_of rules Accept e h b c ≡ o
+    outcome_is : outcome_of rules (Ok tt) e h b c ≡ o
     unfolding outcome
     outcome_is = rw accepted
 

@@ -43,6 +43,11 @@ module _ (b : ℕ) {r : Bool} (q : r ≡ is_attribute_char b) where
       let two = capped_then y z (omega (arith, k, length_added x)) in
       capped_same (rw (is_octet e, upper_half b small hh, lower_half b hd)) (capped_then x two k)
 
+  -- the octet's three characters at once
+  pub octet_sliced : r ≡ false → b < 256 → {before after : List ℕ} {at n h d : ℕ} → h ≡ hex_digit (b / 16 % 16) → d ≡ hex_digit (b % 16 % 16)
+      → AppendedCapped (37 ∷ h ∷ d ∷ []) at before after n → AppendedCapped (extended_byte b) at before after n
+  octet_sliced e small hh hd x = capped_same (rw (is_octet e, upper_half b small hh, lower_half b hd)) x
+
   pub bare_len : r ≡ true → (1 ≡ length (extended_byte b)) × (1 ≤ 3)
   bare_len e = (sym (ap length (is_bare e)), lit≤ tt)
 

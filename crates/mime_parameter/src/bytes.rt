@@ -29,13 +29,11 @@ pub fn add_value_text(out: &mut [u8], at: usize, standing: &[u8]) -> usize
 {
     let mut next = at;
     let mut escaped = false;
-    let mut i = 0;
-    while i < standing.len() {
-        let b = standing[i];
-        let stays = (escaped | !((b == b'"') | (b == b'\\'))) & !((b == 13) | (b == 10));
+    for b in standing {
+        let b = *b;
+        let stays = (escaped | !((b == b'"') | (b == b'\\'))) & !((b == b'\r') | (b == b'\n'));
         next = unquote::add_kept(out, next, stays, b);
         escaped = unquote::escapes(escaped, b);
-        i += 1;
     }
     next
 }
@@ -52,10 +50,8 @@ pub(crate) fn extended_len(text: &[u8]) -> usize
     ensures { result ≡ length (extended text.now) }
 {
     let mut n = 0;
-    let mut i = 0;
-    while i < text.len() {
-        n += byte_len(text[i]);
-        i += 1;
+    for b in text {
+        n += byte_len(*b);
     }
     n
 }
@@ -66,19 +62,17 @@ fn add_extended_byte(out: &mut [u8], at: usize, b: u8) -> usize
     if is_attribute_char(b) {
         return buffer::add_byte(out, at, b);
     }
-    let high = buffer::add_byte(out, at, b'%');
-    let low = buffer::add_byte(out, high, hex_digit::digit(b / 16));
-    buffer::add_byte(out, low, hex_digit::digit(b % 16))
+    let high = hex_digit::digit(b / 16);
+    let low = hex_digit::digit(b % 16);
+    buffer::add_slice(out, at, &[b'%', high, low])
 }
 
 pub(crate) fn add_extended(out: &mut [u8], at: usize, text: &[u8]) -> usize
     ensures { AppendedCapped (extended text.now) at out.old out.new result }
 {
     let mut next = at;
-    let mut i = 0;
-    while i < text.len() {
-        next = add_extended_byte(out, next, text[i]);
-        i += 1;
+    for b in text {
+        next = add_extended_byte(out, next, *b);
     }
     next
 }

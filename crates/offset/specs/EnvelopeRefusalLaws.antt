@@ -1,6 +1,6 @@
 -- The refusals of an envelope by the grammar of its lines are those of the check, and the byte that each points to is that of the grammar.
 use Rattle.std.proofs.Math.Path.{◌≡◌, ap, sym}
-use Rattle.std.specs.Prelude.{refl, Bool, true, false, not, ℕ, suc, ◌+◌, ◌≤◌, ◌<◌, T, eqb, leb, ltb, Result, Ok, Err, ⊤, Some}
+use Rattle.std.specs.Prelude.{refl, Bool, true, not, ℕ, suc, ◌+◌, ◌≤◌, ◌<◌, T, eqb, leb, ltb, Result, Ok, Err, ⊤, Some}
 use Rattle.std.proofs.Common.{subst, ◌∙◌, T_not, length-append, length-drop, take_all, le-ltb}
 use mathlib.Core.List.{List, [], ◌∷◌, ◌++◌, append_assoc}
 use Rattle.std.proofs.Math.Option.{Option, some}

@@ -5,7 +5,7 @@ ghost use Rattle.encoded_word.specs.Segments.{rendered};
 ghost use Rattle.outgoing_field.specs.Fate.{comments_or_encapsulated, method_written, field_written, header_written, limited};
 ghost use Rattle.outgoing_field.specs.FateLaws.{needs_scratch, CommentsGiven, Served, Roomy};
 
-use crate::limited_len;
+use crate::limited;
 use field_method::Method;
 use field_text::TextPlace;
 use rules::Rules;
@@ -126,19 +126,14 @@ fn add_long(out: &mut [u8], at: usize, rules: Rules, method: Method, field: &[u8
 }
 
 // Whether a method needs a scratch besides the field's text.
+#[tactic(auto, unfolding(crate::specs::FateLaws::needs_scratch))]
 fn needs_scratch(method: Method) -> bool
     ensures { result ≡ needs_scratch method }
 {
-    match method {
-        Method::Pieces => true,
-        Method::PlainText => false,
-        Method::Encapsulated => false,
-        Method::Received => true,
-        Method::CommentsOrHeld => true,
-        Method::CommentsOrEncapsulated => true,
-        Method::Parameters => true,
-        Method::Held => false,
-    }
+    !matches!(
+        method,
+        Method::PlainText | Method::Encapsulated | Method::Held
+    )
 }
 
 // A field whose value is not ASCII. Most texts that are encoded whole have no fold, and need no buffer.
@@ -183,8 +178,7 @@ fn add_limited(out: &mut [u8], at: usize, rules: Rules, field: &[u8]) -> usize
 pub fn add_field(out: &mut [u8], at: usize, rules: Rules, field: &[u8]) -> usize
     ensures { AppendedCapped (rendered (field_written rules (limited field.now))) at out.old out.new result }
 {
-    let end = limited_len(field.len());
-    add_limited(out, at, rules, &field[..end])
+    add_limited(out, at, rules, limited(field))
 }
 
 fn add_all(out: &mut [u8], at: usize, rules: Rules, h: &[u8]) -> usize
@@ -211,6 +205,5 @@ fn add_all(out: &mut [u8], at: usize, rules: Rules, h: &[u8]) -> usize
 pub fn add_fields(out: &mut [u8], at: usize, rules: Rules, h: &[u8]) -> usize
     ensures { AppendedCapped (rendered (header_written rules (limited h.now))) at out.old out.new result }
 {
-    let end = limited_len(h.len());
-    add_all(out, at, rules, &h[..end])
+    add_all(out, at, rules, limited(h))
 }

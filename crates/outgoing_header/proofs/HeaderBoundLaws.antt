@@ -11,8 +11,8 @@ use Rattle.header_line.specs.Lines.{line_ok, lines_of, lines_from, checked_lines
 use Rattle.header.specs.Fields.{field_len, fields_of, line_count}
 use Rattle.header_stop.specs.HeaderStopLaws.{line_stop_lem}
 use Rattle.rules.specs.declared.Rules.{Rules}
-use Rattle.outgoing_field.specs.declared.HeldField.{HeldField}
-use Rattle.outgoing_field.specs.declared.HeldField.TheVariants.{Absent, At}
+use Rattle.outgoing_field.specs.Fate.{FirstHeld}
+use Rattle.outgoing_field.specs.Fate.FirstHeld.{Absent, At}
 use Rattle.outgoing_field.specs.Fate.{fate_of, is_held, held_from, held_of}
 use Rattle.offset.specs.Offset.{front_line, header_line_offset, field_offset}
 use Rattle.offset.specs.OffsetLaws.{front_within}
@@ -45,7 +45,7 @@ unfolding header_line_offset
 header_line_le h n at k = omega (arith, (line_stop_lem (eqb n 0) (front_line (drop at h))).inside, front_within h at k)
 
 -- a held field, and where it starts
-data HeldWithin (h : List ℕ) (n : ℕ) : HeldField → Type 0 where
+data HeldWithin (h : List ℕ) (n : ℕ) : FirstHeld → Type 0 where
   absent : HeldWithin h n Absent
   at_field : {at : ℕ} → at ≤ n → HeldWithin h n (At (line_count (take at h)) at)
 

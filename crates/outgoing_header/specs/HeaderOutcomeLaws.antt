@@ -11,8 +11,8 @@ use Rattle.buffer.specs.BufferLaws.{wrote_of}
 use Rattle.encoded_word.specs.Segments.{rendered}
 use Rattle.header_line.specs.Lines.{checked_lines}
 use Rattle.rules.specs.declared.Rules.{Rules}
-use Rattle.outgoing_field.specs.declared.HeldField.{HeldField}
-use Rattle.outgoing_field.specs.declared.HeldField.TheVariants.{Absent, At}
+use Rattle.outgoing_field.specs.Fate.{FirstHeld}
+use Rattle.outgoing_field.specs.Fate.FirstHeld.{Absent, At}
 use Rattle.outgoing_field.specs.Fate.{segments_of, header_written, limited, held_of}
 use Rattle.outgoing_field.proofs.FateLaws.{limited_short, unheld_header}
 use Rattle.outgoing_field.specs.Most.{most_of, LookedAt}
@@ -21,11 +21,7 @@ use Rattle.outgoing_field.proofs.OwedLaws.{owed_header}
 use Rattle.offset.specs.Offset.{field_offset}
 use Rattle.outgoing_header.specs.declared.HeaderRefusal.{HeaderRefusal}
 use Rattle.outgoing_header.specs.declared.HeaderRefusal.TheVariants.{Over, Held, Needs}
-use Rattle.outgoing_header.specs.declared.HeaderVerdict.{HeaderVerdict}
-use Rattle.outgoing_header.specs.declared.HeaderVerdict.TheVariants.{Accept, Refuse}
 use Rattle.outgoing_header.specs.declared.HeaderAnswer.{HeaderAnswer}
-use Rattle.outgoing_header.specs.declared.HeaderContent.{HeaderContent}
-use Rattle.outgoing_header.specs.declared.HeaderContent.TheVariants.{Passes, Fails}
 use Rattle.outgoing_header.specs.HeaderContent.{with_most}
 use Rattle.outgoing_header.specs.HeaderOutcome.{number_of, place_of, offset_of, of_size, of_lines, of_held, of_room, first_of, header_out, header_verdict, header_outcome_of, header_outcome, header_observed}
 

@@ -2,16 +2,18 @@
 ghost use Rattle.std.specs.Prelude.{◌≡◌, ◌*◌, ◌≤◌, length};
 ghost use Rattle.buffer.specs.Buffer.{AppendedCapped};
 ghost use Rattle.parameter_names.specs.Names.{distinct, marked};
+ghost use Rattle.parameterized_field.specs.Part.{is_parameter};
 ghost use Rattle.parameterized_field.specs.Value.{start as at_start, names_from};
 ghost use Rattle.parameterized_field.specs.NamesLaws.{part_names};
 
-use crate::part::{next_state, part_at, start};
+use crate::part::{PartKind, next_state, part_at, start};
+use structured_token::Token;
 
 // The name of a parameter and a `=`; nothing for another part.
-fn add_name(out: &mut [u8], at: usize, part: &[u8], parameter: bool) -> usize
-    ensures { AppendedCapped (marked (part_names parameter part.now)) at out.old out.new result }
+fn add_name(out: &mut [u8], at: usize, part: &[u8], kind: PartKind) -> usize
+    ensures { AppendedCapped (marked (part_names (is_parameter kind) part.now)) at out.old out.new result }
 {
-    if !parameter {
+    if let PartKind::Token(_) = kind {
         return at;
     }
     let name = field_parameter::token_end(part, 0);
@@ -28,13 +30,9 @@ fn add_names(out: &mut [u8], s: &[u8]) -> usize
     let mut state = start();
     let mut i: usize = 0;
     while i < s.len() {
-        let part = part_at(s, i, state);
-        let parameter = part.parameter;
-        let converted = part.converted;
-        let kind = part.kind;
-        let end = part.end;
-        next = add_name(out, next, &s[i..end], parameter);
-        state = next_state(state, parameter, converted, kind);
+        let Token { kind, end } = part_at(s, i, state);
+        next = add_name(out, next, &s[i..end], kind);
+        state = next_state(state, kind);
         i = end;
     }
     next

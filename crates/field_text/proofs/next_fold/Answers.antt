@@ -12,11 +12,5 @@ loop-i-init c = unbroken_run (unbroken_none c.requires) c.next_cr-i.ensures
 pub returns-then-fold_at : goal.returns-then-fold_at
 returns-then-fold_at c = piece_fold c.loop-i.invariant (sym c.fold_at.ensures ∙ c.if-fold_at.true)
 
-pub loop-i-smaller : goal.loop-i-smaller
-loop-i-smaller c = omega (arith, c.next_cr-i-in-loop-i.ensures)
-
 pub loop-i-preserved : goal.loop-i-preserved
 loop-i-preserved c = unbroken_run (unbroken_more c.loop-i.invariant c.loop-i-test.true (sym c.fold_at.ensures ∙ c.if-fold_at.false)) c.next_cr-i-in-loop-i.ensures
-
-pub returns : goal.returns
-returns c = piece_end c.loop-i.invariant c.loop-i-test.false

@@ -7,12 +7,6 @@ use Rattle.header.specs.FieldLaws.{Counted, counted_none, counted_yes, counted_n
 use Rattle.header.proofs.line_count.Goals as goal
 use Rattle.header.proofs.line_count.Goals.{then-crlf_at, else-crlf_at}
 
-pub loop-i-init : goal.loop-i-init
-loop-i-init c = counted_none _
-
-pub overflow_add-n : goal.overflow_add-n
-overflow_add-n c = omega (arith, c.loop-i.invariant.few)
-
 pub loop-i-preserved : goal.loop-i-preserved
 loop-i-preserved c = elim c.if-crlf_at.branch [
   | then-crlf_at w ↦ rw w.n-is (counted_yes c.loop-i.invariant c.loop-i-test.true (sym c.crlf_at.ensures ∙ w.if-crlf_at.true))

@@ -1,13 +1,14 @@
+use Rattle.std.specs.Prelude.{Ok, Err}
 use Rattle.call.specs.Outcome.{first_of, of_header}
 use Rattle.call.specs.OutcomeLaws.{with_most}
 use mathlib.Core.Path.{◌∙◌}
 use borrow.Author.Rules.{rules}
 use Rattle.call.proofs.refusals.of_content.Goals as goal
 
-pub returns-in-Accept : goal.returns-in-Accept
+pub returns-in-(Ok tt) : goal.returns-in-(Ok tt)
 unfolding first_of of_header
-returns-in-Accept c = c.non_ascii.ensures ∙ rw (← c.of_lines.ensures, c.in-Accept.is)
+returns-in-(Ok tt) c = c.non_ascii.ensures ∙ rw (← c.of_lines.ensures, c.in-(Ok tt).is)
 
-pub returns-in-Refuse : goal.returns-in-Refuse
+pub returns-in-Err : goal.returns-in-Err
 unfolding first_of of_header with_most
-returns-in-Refuse c = rw (← c.of_lines.ensures, c.in-Refuse.is)
+returns-in-Err c = rw (← c.of_lines.ensures, c.in-Err.is)

@@ -1,12 +1,13 @@
+use Rattle.std.specs.Prelude.{Ok, Err}
 use Rattle.call.specs.OutcomeLaws.{of_content}
 use mathlib.Core.Path.{sym, ap}
 use borrow.Author.Rules.{rules}
 use Rattle.call.proofs.refusals.of_header.Goals as goal
 
-pub returns-in-Passes : goal.returns-in-Passes
+pub returns-in-Ok : goal.returns-in-Ok
 unfolding of_content
-returns-in-Passes c = ap of_content (sym c.in-Passes.is)
+returns-in-Ok c = ap of_content (sym c.in-Ok.is)
 
-pub returns-in-Fails : goal.returns-in-Fails
+pub returns-in-Err : goal.returns-in-Err
 unfolding of_content
-returns-in-Fails c = ap of_content (sym c.in-Fails.is)
+returns-in-Err c = ap of_content (sym c.in-Err.is)

@@ -8,8 +8,5 @@ use Rattle.buffer.specs.BufferLaws.{capped_start, capped_turn, capped_end, lengt
 use Rattle.buffer.specs.Buffer.{ReachedCapped}
 use Rattle.mime_parameter.proofs.bytes.add_extended.Given as goal
 
-abbrev pub invariant-loop-i : goal.invariant-loop-i
-invariant-loop-i l = ReachedCapped (extended l.text) (extended (drop l.i l.text)) l.at l.initial.out l.out l.next
-
-abbrev pub decreases-loop-i : goal.decreases-loop-i
-decreases-loop-i l = length l.text - l.i
+abbrev pub invariant-loop-b : goal.invariant-loop-b
+invariant-loop-b l = ReachedCapped (extended l.text) (extended (drop l.b-index l.text)) l.at l.initial.out l.out l.next

@@ -10,15 +10,15 @@ use Rattle.unquote.specs.UnquoteLaws.{kept_step, kept_end}
 use Rattle.mime_parameter.specs.Pieces.{stays_in_value, value_text}
 use Rattle.mime_parameter.proofs.bytes.add_value_text.Goals as goal
 
-pub loop-i-init : goal.loop-i-init
+pub loop-b-init : goal.loop-b-init
 unfolding value_text
-loop-i-init c = capped_start _ _ _ (omega arith)
+loop-b-init c = capped_start _ _ _ (omega arith)
 
-pub loop-i-preserved : goal.loop-i-preserved
-loop-i-preserved c = capped_turn c.loop-i.invariant (kept_step stays_in_value c.args.standing.now c.loop-i.i c.loop-i.escaped c.loop-i-test.true ∙ rw c.escapes-escaped.ensures) c.add_kept-next.ensures (omega arith)
+pub loop-b-preserved : goal.loop-b-preserved
+loop-b-preserved c = capped_turn c.loop-b.invariant (kept_step stays_in_value c.args.standing.now c.loop-b.b-index c.loop-b.escaped c.loop-b-test.true ∙ rw c.escapes-escaped.ensures) c.add_kept-next.ensures (omega arith)
 
 pub shape_of-out : goal.shape_of-out
-shape_of-out c = length_capped c.loop-i.invariant
+shape_of-out c = length_capped c.loop-b.invariant
 
 pub returns : goal.returns
-returns c = capped_end c.loop-i.invariant (kept_end _ _ _ _ c.loop-i-test.false)
+returns c = capped_end c.loop-b.invariant (kept_end _ _ _ _ c.loop-b-test.false)

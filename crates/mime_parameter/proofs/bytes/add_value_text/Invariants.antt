@@ -10,8 +10,5 @@ use Rattle.unquote.specs.UnquoteLaws.{kept_step, kept_end}
 use Rattle.mime_parameter.specs.Pieces.{stays_in_value, value_text}
 use Rattle.mime_parameter.proofs.bytes.add_value_text.Given as goal
 
-abbrev pub invariant-loop-i : goal.invariant-loop-i
-invariant-loop-i l = ReachedCapped (value_text l.standing) (kept_from stays_in_value l.escaped (drop l.i l.standing)) l.at l.initial.out l.out l.next
-
-abbrev pub decreases-loop-i : goal.decreases-loop-i
-decreases-loop-i l = length l.standing - l.i
+abbrev pub invariant-loop-b : goal.invariant-loop-b
+invariant-loop-b l = ReachedCapped (value_text l.standing) (kept_from stays_in_value l.escaped (drop l.b-index l.standing)) l.at l.initial.out l.out l.next
