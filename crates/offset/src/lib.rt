@@ -37,7 +37,6 @@ fn path_byte(line: &[u8], mail: bool) -> usize
 }
 
 // Where the value of its ALT-ADDRESS starts.
-#[tactic(auto, using(crate::specs::OffsetLaws::alt_byte))]
 fn alt_value_byte(line: &[u8], mail: bool) -> usize
     ensures { result ≡ alt_value_byte mail line.now }
 {
