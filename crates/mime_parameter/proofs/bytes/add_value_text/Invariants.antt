@@ -1,12 +1,6 @@
-use mathlib.Core.Path.{◌∙◌}
-use Prim.Native.Nat.{◌-◌}
-use native.Mathlib.Omega.{arith}
-use lib.ListN.{length, drop}
-use borrow.Author.Rules.{rules}
+use lib.ListN.{drop}
 use Rattle.buffer.specs.Buffer.{ReachedCapped}
-use Rattle.buffer.specs.BufferLaws.{capped_start, capped_turn, capped_end, length_capped}
 use Rattle.unquote.specs.Unquote.{kept_from}
-use Rattle.unquote.specs.UnquoteLaws.{kept_step, kept_end}
 use Rattle.mime_parameter.specs.Pieces.{stays_in_value, value_text}
 use Rattle.mime_parameter.proofs.bytes.add_value_text.Given as goal
 
