@@ -16,7 +16,7 @@ use Rattle.lists.specs.Lists.{all}
 use Rattle.lists.specs.Run.{run}
 use Rattle.lists.specs.RunLaws.{run_le, run_all, run_after}
 use Rattle.buffer.specs.Buffer.{Wrote, AppendedCapped, Reached, greatest}
-use Rattle.buffer.specs.BufferLaws.{overlay_front, length_wrote, appended_of, reached_start, reached_then, reached_within, reached_end, length_reached, wrote_from, wrote_nothing}
+use Rattle.buffer.specs.BufferLaws.{overlay_front, appended_of, reached_start, reached_then, reached_within, reached_end, length_reached, wrote_from, wrote_nothing}
 use Rattle.header_line.specs.Lines.{name_len}
 use Rattle.line.specs.Line.{blank, crlf, not_cr, cr_run}
 use Rattle.line.specs.LineLaws.{crlf_inside}

@@ -4,7 +4,6 @@
 #![tactic(auto)]
 
 use header_name::Kind;
-use outgoing_field::HeldField;
 use rules::Rules;
 use std::io;
 
@@ -18,11 +17,9 @@ fn number(rt: &impl Print, n: usize) -> io::Result<()> {
 
 // What becomes of a field, nothing where it is held; and the words of its text.
 fn write(out: &mut [u8], field: &[u8]) -> usize {
-    let looked = outgoing_field::first_held(Rules::Spool, field);
-    let held = looked.held;
-    match held {
-        HeldField::Absent => outgoing_field::add_field(out, 0, Rules::Spool, field),
-        HeldField::At(_, _) => 0,
+    match outgoing_field::first_held(Rules::Spool, field) {
+        Ok(_) => outgoing_field::add_field(out, 0, Rules::Spool, field),
+        Err(_) => 0,
     }
 }
 
@@ -100,11 +97,9 @@ fn refused(rt: &impl Print, number_and_words: &[u8], line: usize) -> io::Result<
 }
 
 fn show_well_formed(rt: &impl Print, h: &[u8]) -> io::Result<()> {
-    let looked = outgoing_field::first_held(Rules::Spool, h);
-    let held = looked.held;
-    match held {
-        HeldField::Absent => show_fields(rt, h),
-        HeldField::At(line, _) => refused(rt, b"6 at line ", line),
+    match outgoing_field::first_held(Rules::Spool, h) {
+        Ok(_) => show_fields(rt, h),
+        Err(held) => refused(rt, b"6 at line ", held.line),
     }
 }
 

@@ -1,7 +1,8 @@
 -- Laws of what becomes of a field: as code writes it, and as it looks for held fields.
 use Rattle.std.specs.Prelude.{◌≡◌, Bool, not, ℕ, ◌+◌, ◌-◌, ◌*◌, ◌≤◌, ◌<◌, T, leb, drop}
 use Rattle.std.proofs.Math.Path.{refl, sym}
-use Rattle.std.proofs.Common.{ap, ◌∙◌, length-append, length-take, length-drop, drop_of_length-le, le-leb, lt-leb}
+use Rattle.std.proofs.Common.{ap, ◌∙◌, length-append, length-take, length-drop, drop_of_length-le, le-leb}
+use Rattle.std.proofs.lemmas.Bool.{lt-leb}
 use Rattle.std.proofs.Math.Bool.{true, false, cond}
 use mathlib.Core.List.{List, [], ◌∷◌, ◌++◌, append-nil, append_assoc, map}
 use native.Mathlib.Omega.{arith}

@@ -3,7 +3,7 @@ use Rattle.outgoing_header.specs.HeaderContent.{HeaderContent}
 use Rattle.outgoing_header.specs.HeaderOutcome.{HeaderVerdict}
 use Rattle.std.proofs.Math.Path.{◌≡◌, refl, sym}
 use Rattle.std.proofs.Common.{ap, ◌∙◌, not-suc-le-zero, lt-ltb, le-ltb}
-use Rattle.std.specs.Prelude.{true, false, List, [], ◌∷◌, ◌++◌, ℕ, ◌*◌, ◌≤◌, ◌<◌, ltb, Ok, Err}
+use Rattle.std.specs.Prelude.{true, false, List, [], ◌∷◌, ◌++◌, ℕ, ◌*◌, ◌≤◌, ◌<◌, ltb, Ok, Err, IsErrAnd}
 use native.Mathlib.Omega.{arith}
 use Rattle.std.proofs.Math.ListN.{length}
 use Rattle.std.proofs.Math.Facts.{ltb_yes, ltb_no}
@@ -17,7 +17,7 @@ use Rattle.outgoing_field.specs.Fate.{FirstHeld}
 use Rattle.outgoing_field.specs.Fate.FirstHeld.{Absent, At}
 use Rattle.outgoing_field.specs.Fate.{segments_of, header_written, limited, held_of}
 use Rattle.outgoing_field.proofs.FateLaws.{limited_short, unheld_header}
-use Rattle.outgoing_field.specs.Most.{most_of, LookedAt}
+use Rattle.outgoing_field.specs.Most.{most_of}
 use Rattle.outgoing_field.proofs.MostLaws.{most_le}
 use Rattle.outgoing_field.proofs.OwedLaws.{owed_header}
 use Rattle.offset.specs.Offset.{field_offset}
@@ -80,18 +80,14 @@ with_fails (Ok tt) n e = absurd (let z : ◌≡◌ {A = ℕ} 0 1 = cc in omega a
 with_fails (Err r) n {refusal} e = let k : r ≡ refusal = cc in ap Err k
 
 -- a walk that found no held field, or one
-module _ {rules : Rules} (h : List ℕ) {s : List ℕ} {held : FirstHeld} {most : ℕ} (l : LookedAt rules s held most) where
-  pub held_absent : held ≡ Absent → Ok most ≡ with_most (of_held h (held_of rules s)) (most_of rules s)
+module _ {rules : Rules} (h : List ℕ) {s : List ℕ} where
+  pub held_absent : {most : ℕ} → (held_of rules s ≡ Absent) × (most ≡ most_of rules s) → Ok most ≡ with_most (of_held h (held_of rules s)) (most_of rules s)
   unfolding with_most of_held
-  held_absent e =
-      let none : held_of rules s ≡ Absent = sym l.first ∙ e in
-      rw (none, l.greatest none)
+  held_absent l = rw (l.0, l.1)
 
-  pub held_found : {line at n : ℕ} → held ≡ At line at → n ≡ field_offset h at → Err (Held line n) ≡ with_most (of_held h (held_of rules s)) (most_of rules s)
+  pub held_found : {line at n : ℕ} → held_of rules s ≡ At line at → n ≡ field_offset h at → Err (Held line n) ≡ with_most (of_held h (held_of rules s)) (most_of rules s)
   unfolding with_most of_held
-  held_found {line} {at} e k =
-      let found : held_of rules s ≡ At line at = sym l.first ∙ e in
-      rw (found, k)
+  held_found l k = rw (l, k)
 
 -- ---- refusals
 
@@ -117,9 +113,13 @@ module _ (rules : Rules) (h : List ℕ) where
   over_content n k = rw (size_over h k)
 
   module _ (s : length h ≤ 32768) {v : HeaderVerdict} (e : v ≡ of_lines h (checked_lines h)) where
-    pub line_content : (n : ℕ) {refusal : HeaderRefusal} → v ≡ Err refusal → Err refusal ≡ with_most (first_of (of_content rules h)) n
+    line_refused : (n : ℕ) {refusal : HeaderRefusal} → v ≡ Err refusal → Err refusal ≡ with_most (first_of (of_content rules h)) n
     unfolding first_of with_most
-    line_content n k = rw (size_within h s, ← e, k)
+    line_refused n k = rw (size_within h s, ← e, k)
+
+    pub line_content : (n : ℕ) (refusal : HeaderRefusal) (r : HeaderContent) → v ≡ Err refusal → IsErrAnd r (λ x. x ≡ refusal) → r ≡ with_most (first_of (of_content rules h)) n
+    line_content n refusal (Ok most) k a = absurd a
+    line_content n refusal (Err other) k a = rw a (line_refused n k)
 
     pub held_content : (n : ℕ) {w : HeaderContent} → v ≡ (Ok tt) → w ≡ with_most (of_held h (held_of rules (limited h))) n → w ≡ with_most (first_of (of_content rules h)) n
     unfolding first_of
@@ -162,7 +162,7 @@ module _ (rules : Rules) (h : List ℕ) where
       (λ t. absurd (never (rw (size_over h (ltb_yes {a = 32768} {b = length h} t)) at k)))
       (λ t. let s = ltb_no {a = 32768} {b = length h} t in by_content s (checked_lines h) refl (held_of rules h) refl (rw (size_within h s) at k))
     where
-      never : Err Over ≡ (Ok tt) → ⊥
+      never : ◌≡◌ {A = HeaderVerdict} (Err Over) (Ok tt) → ⊥
       never e = let z : ◌≡◌ {A = ℕ} 0 1 = cc in omega arith
 
 -- ---- by the buffer

@@ -15,7 +15,7 @@ use Rattle.outgoing_field.specs.Fate.{FirstHeld}
 use Rattle.outgoing_field.specs.Fate.FirstHeld.{Absent, At}
 use Rattle.outgoing_field.specs.Fate.{segments_of, header_written, limited, held_of}
 use Rattle.outgoing_field.proofs.FateLaws.{limited_short, unheld_header}
-use Rattle.outgoing_field.specs.Most.{most_of, LookedAt}
+use Rattle.outgoing_field.specs.Most.{most_of}
 use Rattle.outgoing_field.proofs.MostLaws.{most_le}
 use Rattle.outgoing_field.proofs.OwedLaws.{owed_header}
 use Rattle.offset.specs.Offset.{field_offset}

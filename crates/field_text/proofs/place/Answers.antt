@@ -1,8 +1,6 @@
 use Rattle.field_text.specs.TextLaws.{place_short, place_folded, place_there}
 use Rattle.header.specs.FieldLaws.{name_le}
-use lib.ListN.{length-take}
 use native.Mathlib.Omega.{arith}
-use borrow.Author.Rules.{rules}
 use Rattle.field_text.proofs.place.Goals as goal
 
 pub overflow_sub-field : goal.overflow_sub-field

@@ -1,8 +1,5 @@
-use Rattle.field_text.specs.TextLaws.{Unfolding, unfolding_start, unfolding_next, unfolding_end, length_unfolding}
-use lib.ListN.{length}
-use borrow.Author.Rules.{rules}
+use Rattle.field_text.specs.TextLaws.{unfolding_start, unfolding_next, unfolding_end}
 use native.Mathlib.Omega.{arith}
-use Prim.Native.Nat.{◌-◌}
 use Rattle.field_text.proofs.put_unfolded.Goals as goal
 
 pub loop-i-init : goal.loop-i-init

@@ -1,5 +1,4 @@
-use Rattle.std.proofs.Common.{arith}
-use Rattle.field_text.specs.TextLaws.{skipped_none, skipped_more, skipped_stop}
+use Rattle.field_text.specs.TextLaws.{skipped_none}
 use Rattle.field_text.proofs.text_start.Goals as goal
 
 pub loop-n-init : goal.loop-n-init

@@ -1,7 +1,5 @@
-use Rattle.field_text.specs.TextLaws.{Skipped, skipped_none, skipped_more, skipped_stop}
+use Rattle.field_text.specs.TextLaws.{Skipped}
 use lib.ListN.{length}
-use borrow.Author.Rules.{rules}
-use native.Mathlib.Omega.{arith}
 use Prim.Native.Nat.{◌-◌}
 use Rattle.field_text.proofs.text_start.Given as goal
 

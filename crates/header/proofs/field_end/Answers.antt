@@ -1,10 +1,5 @@
-use mathlib.Core.Path.{◌≡◌, sym, ◌∙◌}
-use borrow.Author.Rules.{rules}
-use Prim.Native.Nat.{◌+◌, ◌-◌}
-use native.Mathlib.Omega.{arith}
-use lib.ListN.{length, drop}
+use mathlib.Core.Path.{sym, ◌∙◌}
 use Rattle.header.specs.FieldLaws.{field_run, field_stop, field_step, field_none}
-use Rattle.header.specs.Fields.{field_len}
 use Rattle.header.proofs.field_end.Goals as goal
 
 pub returns-then-h-at : goal.returns-then-h-at

@@ -1,4 +1,3 @@
-use Rattle.std.proofs.Common.{◌≤◌}
 use Rattle.header.specs.AsciiFieldsLaws.{NoEnd}
 use Rattle.header.proofs.last_field_end.Given as goal
 

@@ -1,9 +1,5 @@
 use mathlib.Core.Path.{sym, ◌∙◌}
-use borrow.Author.Rules.{rules}
-use Prim.Native.Nat.{◌-◌}
-use native.Mathlib.Omega.{arith}
-use lib.ListN.{length}
-use Rattle.header.specs.FieldLaws.{Counted, counted_none, counted_yes, counted_no, counted_end}
+use Rattle.header.specs.FieldLaws.{counted_yes, counted_no, counted_end}
 use Rattle.header.proofs.line_count.Goals as goal
 use Rattle.header.proofs.line_count.Goals.{then-crlf_at, else-crlf_at}
 

@@ -1,6 +1,6 @@
 use Rattle.std.proofs.Common.{sym, ◌∙◌, arith, refl}
 use Rattle.header_line.specs.LineLaws.{left_end}
-use Rattle.header_line.specs.CleanLaws.{Lines, lines_all, lines_skip, line_inside, lines_bad, lines_next}
+use Rattle.header_line.specs.CleanLaws.{lines_all, line_inside, lines_bad, lines_next}
 use Rattle.header_line.proofs.check_clean.Goals as goal
 
 pub loop-at-init : goal.loop-at-init

@@ -1,5 +1,4 @@
 use Rattle.header_line.specs.LineLaws.{shaped_by, unshaped}
-use borrow.Author.Rules.{rules}
 use Rattle.header_line.proofs.is_shaped.Goals as goal
 
 pub returns-then-not-line : goal.returns-then-not-line

@@ -1,7 +1,4 @@
 use Rattle.header_line.specs.NameLaws.{name_eight, name_sixteen}
-use lib.Count.{trailing_le}
-use native.Mathlib.Omega.{arith}
-use borrow.Author.Rules.{rules}
 use Rattle.header_line.proofs.name_run.Goals as goal
 
 pub returns-then-m-ne0 : goal.returns-then-m-ne0

@@ -1,4 +1,3 @@
-use Rattle.std.specs.Prelude.{Ok, Err}
 use Rattle.outgoing_header.proofs.HeaderOutcomeLaws.{content_passes, with_fails, content_refused, refused_observed}
 use mathlib.Core.Path.{sym, ◌∙◌}
 use borrow.Author.Rules.{rules}

@@ -1,6 +1,5 @@
 use Rattle.std.proofs.Common.{arith}
-use Rattle.utf8.specs.WindowLaws.{clear_none}
-use Rattle.header_line.specs.CleanLaws.{never, clear_end}
+use Rattle.header_line.specs.CleanLaws.{clear_end}
 use Rattle.header_line.proofs.clean.blocks_clean.Goals as goal
 
 pub returns : goal.returns

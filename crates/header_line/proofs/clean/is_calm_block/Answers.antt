@@ -1,5 +1,5 @@
 use Rattle.std.proofs.Common.{sym, ◌∙◌, arith}
-use Rattle.header_line.specs.CleanLaws.{calm_none, calm_by}
+use Rattle.header_line.specs.CleanLaws.{calm_by}
 use Rattle.header_line.proofs.clean.is_calm_block.Goals as goal
 
 pub returns : goal.returns

@@ -1,6 +1,5 @@
-use Rattle.header_line.specs.CleanLaws.{never, clean_tests}
+use Rattle.header_line.specs.CleanLaws.{clean_tests}
 use native.Mathlib.Omega.{arith}
-use borrow.Author.Rules.{rules}
 use Rattle.header_line.proofs.clean.is_clean.Goals as goal
 
 pub returns : goal.returns

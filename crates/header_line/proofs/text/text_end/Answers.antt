@@ -1,5 +1,4 @@
-use Rattle.std.proofs.Common.{arith}
-use Rattle.header_line.specs.LineLaws.{passed_none, passed_then, text_end_lem}
+use Rattle.header_line.specs.LineLaws.{text_end_lem}
 use Rattle.header_line.proofs.text.text_end.Goals as goal
 
 pub returns : goal.returns
