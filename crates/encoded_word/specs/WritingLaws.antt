@@ -1,6 +1,6 @@
 -- Laws of writing a row.
 use Rattle.std.specs.Prelude.{◌≡◌, refl, true, not, ◌&&◌, List, [], ◌∷◌, ◌++◌, ℕ, ◌+◌, ◌-◌, ◌*◌, ◌≤◌, ◌<◌, min, length, take, drop, get_or, leb, ltb, eqb}
-use Rattle.std.proofs.Common.{sym, ap, ◌∙◌, append_assoc, append-nil, arith, length-append, length-take, length-drop, T_not, ltb→lt, le→leb, zero-add, leb-true, ltb-true}
+use Rattle.std.proofs.Common.{sym, ap, ◌∙◌, append-nil, arith, length-take, length-drop, T_not, ltb→lt, le→leb, zero-add, leb-true, ltb-true}
 use Rattle.std.proofs.Math.Seq.{take-length}
 use Rattle.std.proofs.Math.Facts.{ltb_no}
 use Rattle.std.proofs.lemmas.Bool.{eqb-false, not-true}
@@ -8,11 +8,11 @@ use Rattle.lists.specs.Lists.{joined}
 use Rattle.lists.specs.ListsLaws.{by_test, joined_append}
 use Rattle.utf8.specs.Utf8.{char_len, chars}
 use Rattle.utf8.specs.Utf8Laws.{chars_at, char_len_le}
-use Rattle.buffer.specs.Buffer.{overlay_at, Appended, AppendedCapped, Reached, ReachedCapped, Wrote, greatest}
-use Rattle.buffer.specs.BufferLaws.{overlay_parts, overlay_front, wrote_from, wrote_of, appended_none, appended_then, appended_of, length_appended, reached_start, reached_then, reached_last, reached_join, reached_within, capped_then, capped_turn}
+use Rattle.buffer.specs.Buffer.{overlay_at, Appended, AppendedCapped, ReachedCapped, Wrote, greatest}
+use Rattle.buffer.specs.BufferLaws.{overlay_parts, overlay_front, wrote_from, appended_none, appended_then, appended_of, length_appended, reached_start, reached_then, reached_last, reached_join, reached_within, capped_then, capped_turn}
 use Rattle.base64_digits.specs.Base64.{in_base64}
 use Rattle.word_spelling.specs.Spelling.{opening, closing, escape, spell_byte, spell}
-use Rattle.word_spelling.specs.Cost.{byte_cost, cost}
+use Rattle.word_spelling.specs.Cost.{cost}
 use Rattle.word_spelling.specs.SpellingLaws.{length_spell, spell_append, spell_high, spell_one, escapes, alone_ascii}
 use Rattle.word_spelling.specs.FirstChars.{first_char, first_chars}
 use Rattle.word_spelling.specs.FirstCharsLaws.{spelt_alone, cost_alone, first_in}
@@ -20,15 +20,15 @@ use Rattle.word_spelling.specs.HighChar.{HighChar}
 use Rattle.word_spelling.specs.HighCharLaws.{both, one_byte, escapes_next, whole_take}
 use Rattle.row.specs.declared.Encoding.{Encoding}
 use Rattle.row.specs.declared.Encoding.TheVariants.{Q, B}
-use Rattle.row.specs.Word.{opening_in, spell_in, word}
+use Rattle.row.specs.Word.{opening_in, word}
 use Rattle.row.specs.Row.{encodings, holds, fits_room, row, row_after}
 use Rattle.row.proofs.FitsLaws.{or_left, length_word_in}
 use Rattle.row.specs.WordEnd.{Span, WordEnd}
 use Rattle.row.specs.WordEndLaws.{between}
-use Rattle.row.proofs.WordEndLaws.{span_none, span_join, word_small, row_end, first_step, first_none}
+use Rattle.row.proofs.WordEndLaws.{span_none, span_join, word_small, first_step, first_none}
 use Rattle.row.proofs.RowLaws.{row_after_none, length_row_after_le}
 use Rattle.word_choice.specs.Choice.{AlsoInQ}
-use Rattle.word_choice.specs.EndInQLaws.{Stepped, SoFarInQ, EndInQ, between_join, cost_join, q_start, word_in_q, rest_step, rest_more, rest_within}
+use Rattle.word_choice.specs.EndInQLaws.{Stepped, between_join, cost_join, word_in_q, rest_step, rest_more, rest_within}
 use Rattle.row_length.specs.LengthLaws.{stepped_ascii, stepped_join, stepped_high}
 use Rattle.encoded_word.specs.Writing.{PutTurn, PutInQ, PutWordInQ, PutWord, PutLine, Begun, Ran}
 

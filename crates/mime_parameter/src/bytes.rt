@@ -2,7 +2,9 @@
 ghost use Rattle.std.specs.Prelude.{◌≡◌, ◌*◌, ◌≤◌, length};
 ghost use Rattle.buffer.specs.Buffer.{AppendedCapped};
 ghost use Rattle.mime_parameter.specs.Extended.{is_token_byte, is_attribute_char, extended_byte, extended};
-ghost use Rattle.mime_parameter.specs.Pieces.{value_text};
+ghost use Rattle.mime_parameter.specs.Pieces.{stays_in_value, value_text};
+
+use unquote::Stays;
 
 // Whether a byte may stand in a token of RFC 2045.
 pub fn is_token_byte(b: u8) -> bool
@@ -23,19 +25,22 @@ fn is_attribute_char(b: u8) -> bool
     is_token_byte(b) & !((b == 42) | (b == 39) | (b == 37))
 }
 
+// Without quoting, escapes and folds.
+struct ValueText;
+
+impl Stays for ValueText {
+    ghost stays = { stays_in_value };
+
+    fn holds(escaped: bool, b: u8) -> bool {
+        (escaped | !((b == b'"') | (b == b'\\'))) & !((b == b'\r') | (b == b'\n'))
+    }
+}
+
 // Writes the value of a parameter without quoting, escapes and folds from a place on, as far as it fits; answers the place after it.
 pub fn add_value_text(out: &mut [u8], at: usize, standing: &[u8]) -> usize
     ensures { AppendedCapped (value_text standing.now) at out.old out.new result }
 {
-    let mut next = at;
-    let mut escaped = false;
-    for b in standing {
-        let b = *b;
-        let stays = (escaped | !((b == b'"') | (b == b'\\'))) & !((b == b'\r') | (b == b'\n'));
-        next = unquote::add_kept(out, next, stays, b);
-        escaped = unquote::escapes(escaped, b);
-    }
-    next
+    unquote::add_kept_text::<ValueText>(out, at, standing)
 }
 
 fn byte_len(b: u8) -> usize

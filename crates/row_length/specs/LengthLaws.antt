@@ -1,20 +1,17 @@
 -- A row measured word by word.
-use Rattle.std.specs.Prelude.{◌≡◌, refl, true, ◌&&◌, List, [], ◌∷◌, ◌++◌, ℕ, ◌+◌, ◌-◌, ◌*◌, ◌≤◌, ◌<◌, min, length, take, drop, get_or, leb, ltb}
-use Rattle.std.proofs.Common.{sym, ap, ◌∙◌, arith, length-append, length-take, length-drop, leb-true, ltb-true}
+use Rattle.std.specs.Prelude.{◌≡◌, true, ◌&&◌, List, ◌∷◌, ℕ, ◌+◌, ◌-◌, ◌*◌, ◌≤◌, ◌<◌, min, length, take, drop, get_or, leb, ltb}
+use Rattle.std.proofs.Common.{sym, ap, ◌∙◌, arith, length-append, leb-true, ltb-true}
 use Rattle.utf8.specs.Utf8.{char_len}
 use Rattle.utf8.specs.Utf8Laws.{char_len_some}
-use Rattle.word_spelling.specs.Spelling.{spell}
 use Rattle.word_spelling.specs.Cost.{byte_cost, cost}
-use Rattle.word_spelling.specs.SpellingLaws.{length_spell, cost_one}
+use Rattle.word_spelling.specs.SpellingLaws.{cost_one}
 use Rattle.word_spelling.specs.HighChar.{HighChar}
-use Rattle.word_spelling.specs.HighCharLaws.{both, one_byte, ascii_len, char_cost_lem, char_size, whole_end, whole_take, whole_cost}
-use Rattle.word_spelling.specs.FirstChars.{first_chars, cost_in, costs_in}
+use Rattle.word_spelling.specs.HighCharLaws.{both, one_byte, ascii_len, char_cost_lem, whole_end, whole_take, whole_cost}
+use Rattle.word_spelling.specs.FirstChars.{first_chars, cost_in}
 use Rattle.word_spelling.specs.FirstCharsLaws.{cost_in_lem}
-use Rattle.row.specs.declared.Encoding.{Encoding}
-use Rattle.row.specs.Word.{spell_in, word}
+use Rattle.row.specs.Word.{word}
 use Rattle.row.specs.Row.{row, row_after}
 use Rattle.row.proofs.FitsLaws.{length_word_in}
-use Rattle.row.specs.WordEnd.{Span, WordEnd}
 use Rattle.row.specs.WordEndLaws.{between}
 use Rattle.row.proofs.WordEndLaws.{span_char, span_join, row_end, first_step, first_none}
 use Rattle.row.proofs.RowLaws.{row_after_none}

@@ -1,9 +1,5 @@
-use Rattle.word_choice.specs.EndInQLaws.{SoFarInQ, q_start, q_on, q_full, q_end}
-use borrow.Author.Rules.{rules}
+use Rattle.word_choice.specs.EndInQLaws.{q_start, q_on}
 use native.Mathlib.Omega.{arith}
-use lib.ListN.{length}
-use Prim.Native.Nat.{◌-◌}
-use mathlib.Core.Path.{refl}
 use Rattle.row_length.proofs.in_q.Goals as goal
 
 pub loop-e-init : goal.loop-e-init

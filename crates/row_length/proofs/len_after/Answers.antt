@@ -1,12 +1,9 @@
 use Rattle.row_length.specs.LengthLaws.{measured_on, measured_more, measured_within, measured_all}
 use Rattle.word_choice.specs.EndInQLaws.{word_at_small}
 use Rattle.row.proofs.RowLaws.{bounded_short, row_after_long}
-use Rattle.row.specs.Row.{row, row_after}
-use borrow.Author.Rules.{rules}
 use native.Mathlib.Omega.{arith}
-use lib.ListN.{length, drop}
-use Prim.Native.Nat.{◌+◌, ◌-◌, ◌*◌, ◌≤◌}
-use mathlib.Core.Path.{◌≡◌, refl, sym, ap, ◌∙◌}
+use lib.ListN.{length}
+use mathlib.Core.Path.{sym, ap}
 use Rattle.row_length.proofs.len_after.Goals as goal
 
 pub returns-then-text-gt-LIMIT : goal.returns-then-text-gt-LIMIT

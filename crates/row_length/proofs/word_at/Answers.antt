@@ -1,6 +1,4 @@
-use Rattle.word_choice.specs.EndInQLaws.{sure_q, chosen_q, chosen_b, word_b_end, word_at_q, word_at_b}
-use native.Mathlib.Omega.{arith}
-use borrow.Author.Rules.{rules}
+use Rattle.word_choice.specs.EndInQLaws.{sure_q, chosen_q, chosen_b, word_at_q, word_at_b}
 use Rattle.row_length.proofs.word_at.Goals as goal
 
 pub returns-then-surely_in_q : goal.returns-then-surely_in_q

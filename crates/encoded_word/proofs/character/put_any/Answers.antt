@@ -1,9 +1,6 @@
 use Rattle.encoded_word.specs.WritingLaws.{put_step, put_stop}
 use Rattle.row_length.specs.LengthLaws.{stepped_char}
-use native.Mathlib.Omega.{arith}
-use Prim.Native.Nat.{◌-◌}
-use mathlib.Core.Path.{◌≡◌, refl, ◌∙◌}
-use borrow.Author.Rules.{rules}
+use mathlib.Core.Path.{refl}
 use Rattle.encoded_word.proofs.character.put_any.Goals as goal
 
 pub returns-then-left-m : goal.returns-then-left-m

@@ -1,12 +1,10 @@
 use Rattle.encoded_word.specs.WritingLaws.{put_step, put_stop, put_singles, spell_byte_lem}
 use Rattle.row_length.specs.LengthLaws.{stepped_ascii}
-use Rattle.word_spelling.specs.HighCharLaws.{at_least}
 use Rattle.word_spelling.specs.SpellingLaws.{spell_byte_some}
 use native.Mathlib.Omega.{arith}
-use Prim.Native.Nat.{◌+◌, ◌-◌}
-use lib.ListN.{length, get_or}
-use mathlib.Core.Path.{◌≡◌, refl}
-use borrow.Author.Rules.{rules}
+use Prim.Native.Nat.{◌+◌}
+use lib.ListN.{get_or}
+use mathlib.Core.Path.{refl}
 use Rattle.encoded_word.proofs.character.put_ascii.Goals as goal
 
 pub returns-then-a-b : goal.returns-then-a-b

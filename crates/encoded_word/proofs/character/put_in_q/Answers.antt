@@ -1,9 +1,4 @@
-use Rattle.encoded_word.specs.WritingLaws.{PutSoFar, put_start, put_place, put_length, put_on, put_end, put_full}
-use Rattle.buffer.specs.BufferLaws.{length_appended}
-use native.Mathlib.Omega.{arith}
-use lib.ListN.{length}
-use mathlib.Core.Path.{◌∙◌}
-use Prim.Native.Nat.{◌-◌}
+use Rattle.encoded_word.specs.WritingLaws.{put_start, put_on, put_full}
 use Rattle.std.proofs.Common.{refl}
 use Rattle.encoded_word.proofs.character.put_in_q.Goals as goal
 

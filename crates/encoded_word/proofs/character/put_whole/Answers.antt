@@ -3,7 +3,6 @@ use Rattle.row_length.specs.LengthLaws.{stepped_high}
 use Rattle.buffer.specs.BufferLaws.{appended_then}
 use native.Mathlib.Omega.{arith}
 use mathlib.Core.Path.{◌≡◌, refl}
-use borrow.Author.Rules.{rules}
 use Rattle.encoded_word.proofs.character.put_whole.Goals as goal
 
 pub returns-then-left-m : goal.returns-then-left-m

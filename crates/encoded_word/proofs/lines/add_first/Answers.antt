@@ -1,6 +1,4 @@
-use Rattle.encoded_word.specs.WritingLaws.{begun_none, straight}
-use lib.ListN.{length}
-use borrow.Author.Rules.{rules}
+use Rattle.encoded_word.specs.WritingLaws.{begun_none}
 use Rattle.encoded_word.proofs.lines.add_first.Goals as goal
 
 pub returns-then-column-ge63 : goal.returns-then-column-ge63

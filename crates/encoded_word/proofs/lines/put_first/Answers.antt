@@ -1,9 +1,5 @@
 use Rattle.encoded_word.specs.WritingLaws.{begun_here}
-use Rattle.buffer.specs.BufferLaws.{appended_byte, length_appended}
-use lib.ListN.{length-set}
-use mathlib.Core.List.{[], ◌∷◌}
-use mathlib.Core.Path.{◌∙◌}
-use borrow.Author.Rules.{rules}
+use Rattle.buffer.specs.BufferLaws.{appended_byte}
 use Rattle.encoded_word.proofs.lines.put_first.Goals as goal
 
 pub returns : goal.returns

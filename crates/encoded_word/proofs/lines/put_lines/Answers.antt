@@ -1,9 +1,7 @@
 use Rattle.encoded_word.specs.WritingLaws.{ran_start, ran_on, line_some, looping}
-use Rattle.encoded_word.specs.Writing.{Ran}
-use Rattle.buffer.specs.BufferLaws.{length_reached}
 use native.Mathlib.Omega.{arith}
 use lib.ListN.{length}
-use Prim.Native.Nat.{◌+◌, ◌-◌, ◌≤◌}
+use Prim.Native.Nat.{◌-◌}
 use Rattle.encoded_word.proofs.lines.put_lines.Goals as goal
 
 pub loop-i-init : goal.loop-i-init

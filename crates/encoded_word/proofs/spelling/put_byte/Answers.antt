@@ -1,7 +1,6 @@
 use Rattle.word_spelling.specs.FirstCharsLaws.{spelt_escape, spelt_alone}
 use mathlib.Core.Path.{sym, ◌∙◌}
 use Rattle.buffer.specs.BufferLaws.{appended_byte}
-use borrow.Author.Rules.{rules}
 use Rattle.encoded_word.proofs.spelling.put_byte.Goals as goal
 
 pub returns-then-c-eq61 : goal.returns-then-c-eq61

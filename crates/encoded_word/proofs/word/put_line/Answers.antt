@@ -1,5 +1,4 @@
 use Rattle.encoded_word.specs.WritingLaws.{line_written}
-use borrow.Author.Rules.{rules}
 use Rattle.encoded_word.proofs.word.put_line.Goals as goal
 
 pub returns : goal.returns

@@ -2,7 +2,6 @@ use Rattle.encoded_word.specs.WritingLaws.{put_word_q, put_word_b}
 use Rattle.word_choice.specs.EndInQLaws.{sure_q, chosen_q, chosen_b, word_b_end}
 use lib.ListN.{length-take}
 use native.Mathlib.Omega.{arith}
-use borrow.Author.Rules.{rules}
 use Rattle.encoded_word.proofs.word.put_word.Goals as goal
 
 pub returns-then-surely_in_q : goal.returns-then-surely_in_q

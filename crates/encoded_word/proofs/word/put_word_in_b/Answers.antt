@@ -2,7 +2,6 @@ use Rattle.encoded_word.specs.WritingLaws.{word_written_b}
 use Rattle.buffer.specs.BufferLaws.{length_appended, length_added}
 use Rattle.base64_digits.proofs.Base64Laws.{length_base64}
 use native.Mathlib.Omega.{arith}
-use borrow.Author.Rules.{rules}
 use Rattle.encoded_word.proofs.word.put_word_in_b.Goals as goal
 
 pub put_bytes-requires : goal.put_bytes-requires

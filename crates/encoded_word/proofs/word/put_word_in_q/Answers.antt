@@ -1,5 +1,4 @@
 use Rattle.encoded_word.specs.WritingLaws.{word_written}
-use borrow.Author.Rules.{rules}
 use Rattle.encoded_word.proofs.word.put_word_in_q.Goals as goal
 
 pub returns : goal.returns

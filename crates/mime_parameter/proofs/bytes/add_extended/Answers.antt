@@ -1,11 +1,6 @@
 use Rattle.mime_parameter.specs.ExtendedLaws.{extended_at, extended_end}
-use Rattle.mime_parameter.specs.Extended.{extended}
-use Prim.Native.Nat.{◌-◌}
 use native.Mathlib.Omega.{arith}
-use lib.ListN.{length, drop}
-use borrow.Author.Rules.{rules}
-use Rattle.buffer.specs.BufferLaws.{capped_start, capped_turn, capped_end, length_capped}
-use Rattle.buffer.specs.Buffer.{ReachedCapped}
+use Rattle.buffer.specs.BufferLaws.{capped_start, capped_turn, capped_end}
 use Rattle.mime_parameter.proofs.bytes.add_extended.Goals as goal
 
 pub loop-b-init : goal.loop-b-init

@@ -1,6 +1,5 @@
 use Rattle.mime_parameter.specs.WritingLaws.{bare_added, octet_sliced}
 use native.Mathlib.Omega.{arith}
-use borrow.Author.Rules.{rules}
 use Rattle.mime_parameter.proofs.bytes.add_extended_byte.Goals as goal
 
 pub returns-then-is_attribute_char : goal.returns-then-is_attribute_char

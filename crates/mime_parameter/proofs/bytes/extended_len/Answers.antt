@@ -1,11 +1,8 @@
 use Rattle.mime_parameter.specs.WritingLaws.{len_next}
 use Rattle.mime_parameter.specs.ExtendedLaws.{extended_end}
-use Rattle.mime_parameter.specs.Extended.{extended}
-use Prim.Native.Nat.{◌+◌, ◌*◌, ◌-◌, ◌≤◌}
 use native.Mathlib.Omega.{arith}
-use mathlib.Core.Path.{◌≡◌, refl, ap}
-use lib.ListN.{length, drop}
-use borrow.Author.Rules.{rules}
+use mathlib.Core.Path.{ap}
+use lib.ListN.{length}
 use Rattle.mime_parameter.proofs.bytes.extended_len.Goals as goal
 
 pub loop-b-preserved : goal.loop-b-preserved

@@ -1,10 +1,6 @@
-use Rattle.mime_parameter.specs.PartLaws.{parts_laid, laid_next, laid_end}
-use Rattle.buffer.specs.BufferLaws.{capped_start, capped_turn, capped_end, length_capped}
-use Rattle.buffer.specs.Buffer.{ReachedCapped}
-use Prim.Native.Nat.{◌-◌, ◌+◌, ◌≤◌}
+use Rattle.mime_parameter.specs.PartLaws.{laid_next, laid_end}
+use Rattle.buffer.specs.BufferLaws.{capped_start, capped_turn, capped_end}
 use native.Mathlib.Omega.{arith}
-use lib.ListN.{length, drop}
-use borrow.Author.Rules.{rules}
 use Rattle.mime_parameter.proofs.pieces.add_parts.Goals as goal
 
 pub loop-i-init : goal.loop-i-init

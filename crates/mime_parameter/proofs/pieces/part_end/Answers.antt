@@ -1,11 +1,7 @@
 use Rattle.mime_parameter.specs.PartLaws.{char_ahead}
 use Rattle.mime_parameter.specs.WritingLaws.{label_length}
-use Rattle.mime_parameter.specs.PartLaws.{Filling, filling_start, filling_end, filling_full, filling_more, part_short, cost_small}
-use Prim.Native.Nat.{◌-◌, ◌≤◌}
+use Rattle.mime_parameter.specs.PartLaws.{filling_start, filling_end, filling_full, filling_more, cost_small}
 use native.Mathlib.Omega.{arith}
-use mathlib.Core.Path.{refl, ◌∙◌}
-use lib.ListN.{length}
-use borrow.Author.Rules.{rules}
 use Rattle.mime_parameter.proofs.pieces.part_end.Goals as goal
 
 pub overflow_add-used : goal.overflow_add-used

@@ -1,10 +1,7 @@
 use Rattle.mime_parameter.specs.WritingLaws.{label_length}
-use Rattle.mime_parameter.specs.PartLaws.{parts_fit, part_short, cost_small, fit_next, fit_fails, fit_end}
-use Prim.Native.Nat.{◌-◌, ◌+◌, ◌≤◌}
-use mathlib.Core.Path.{◌≡◌, refl, sym, ◌∙◌}
+use Rattle.mime_parameter.specs.PartLaws.{cost_small, fit_next, fit_fails, fit_end}
+use mathlib.Core.Path.{sym, ◌∙◌}
 use native.Mathlib.Omega.{arith}
-use lib.ListN.{length, drop}
-use borrow.Author.Rules.{rules}
 use Rattle.mime_parameter.proofs.pieces.parts_fit.Goals as goal
 
 pub overflow_add-part_label_len : goal.overflow_add-part_label_len

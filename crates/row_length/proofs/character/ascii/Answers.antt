@@ -1,8 +1,4 @@
-use Rattle.row_length.specs.LengthLaws.{roomy_four, stepped_ascii, stepped_bytes}
-use native.Mathlib.Omega.{arith}
-use lib.ListN.{length}
-use Prim.Native.Nat.{◌-◌}
-use borrow.Author.Rules.{rules}
+use Rattle.row_length.specs.LengthLaws.{stepped_ascii, stepped_bytes}
 use Rattle.row_length.proofs.character.ascii.Goals as goal
 
 pub returns-then-s-j : goal.returns-then-s-j
