@@ -13,12 +13,14 @@ use structured_token::Token;
 fn add_name(out: &mut [u8], at: usize, part: &[u8], kind: PartKind) -> usize
     ensures { AppendedCapped (marked (part_names (is_parameter kind) part.now)) at out.old out.new result }
 {
-    if let PartKind::Token(_) = kind {
-        return at;
+    match kind {
+        PartKind::Token(_) => at,
+        PartKind::Converted | PartKind::Stays => {
+            let name = field_parameter::token_end(part, 0);
+            let next = buffer::add_slice(out, at, &part[..name]);
+            buffer::add_byte(out, next, b'=')
+        }
     }
-    let name = field_parameter::token_end(part, 0);
-    let next = buffer::add_slice(out, at, &part[..name]);
-    buffer::add_byte(out, next, b'=')
 }
 
 // The names of all parameters, each with a `=`, at the front of a buffer.
