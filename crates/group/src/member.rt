@@ -5,6 +5,7 @@ ghost use Rattle.group.specs.Group.{is_lost};
 
 use address_list::PartKind;
 
+// Kept: `changes` of address_list but for an arm: a public function for both could not require that the address lies in the part.
 // Whether a part is an address that is not ASCII, without an alternative.
 #[tactic(auto, unfolding(crate::specs::Group::is_lost))]
 pub(crate) fn is_lost(t: &[u8], kind: PartKind) -> bool
