@@ -3,9 +3,10 @@ ghost use Rattle.std.specs.Prelude.{◌≡◌, ◌+◌, drop};
 ghost use Rattle.lists.specs.Lists.{all};
 ghost use Rattle.buffer.specs.Buffer.{AppendedCapped};
 ghost use Rattle.comment.specs.Comment.{is_paren, is_text, run_len};
-ghost use Rattle.comment.specs.Parts.{part_len, parts, run_text, is_blank_run, fits};
+ghost use Rattle.comment.specs.Parts.{part_len, parts, stays_in_run, run_text, is_blank_run, fits};
 
 use byte_class::Class;
+use unquote::Stays;
 
 // The bytes of a comment that are neither a parenthesis nor a backslash.
 struct Text;
@@ -86,19 +87,21 @@ pub fn parts_fit(comment: &[u8]) -> bool
     true
 }
 
+// Without escapes and folds.
+struct RunText;
+
+impl Stays for RunText {
+    ghost stays = { stays_in_run };
+
+    fn holds(escaped: bool, b: u8) -> bool {
+        (escaped | !(b == b'\\')) & !((b == 13) | (b == 10))
+    }
+}
+
 // Writes a run without escapes and folds from a place on, as far as it fits; answers the place after it.
+#[tactic(auto, unfolding(crate::specs::Parts::run_text))]
 pub fn add_run_text(out: &mut [u8], at: usize, run: &[u8]) -> usize
     ensures { AppendedCapped (run_text run.now) at out.old out.new result }
 {
-    let mut next = at;
-    let mut escaped = false;
-    let mut i = 0;
-    while i < run.len() {
-        let b = run[i];
-        let stays = (escaped | !(b == b'\\')) & !((b == 13) | (b == 10));
-        next = unquote::add_kept(out, next, stays, b);
-        escaped = unquote::escapes(escaped, b);
-        i += 1;
-    }
-    next
+    unquote::add_kept_text::<RunText>(out, at, run)
 }

@@ -2,11 +2,11 @@
 use Rattle.std.specs.Prelude.{◌≡◌, refl, Bool, List, [], ◌∷◌, ◌++◌, ℕ, suc, ◌+◌, ◌-◌, ◌≤◌, ◌<◌, eqb, leb, take, drop, set, get_or, Result, Ok, Err, ⊤}
 use Rattle.std.proofs.Math.Path.{ap, sym}
 use Rattle.std.proofs.Common.{◌∙◌, add-one, arith, length-take, length-drop, drop-drop}
-use Rattle.std.proofs.Math.Bool.{true, false}
+use Rattle.std.proofs.Math.Bool.{true}
 use Rattle.std.proofs.Math.ListN.{length}
 use borrow.Author.Tests.{eq-eqb, ne_eqb, le-ltb, le-leb, lt-leb}
 use Rattle.std.proofs.Math.Facts.{leb_yes}
-use Rattle.lists.specs.ListsLaws.{by_test, yes_true, true_yes, no_false}
+use Rattle.lists.specs.ListsLaws.{by_test, yes_true, no_false}
 use Rattle.lists.specs.CutBy.{cut_by, cut_after}
 use Rattle.buffer.specs.Buffer.{overlay, Reached}
 use Rattle.buffer.specs.BufferLaws.{reached_start, reached_then, reached_end, appended_byte, wrote_from}
@@ -15,10 +15,10 @@ use Rattle.line.specs.LineLaws.{crlf_at_lem, crlf_inside}
 use Rattle.address.specs.AddressLaws.{byte_within}
 use Rattle.rules.specs.declared.Rules.{Rules}
 use Rattle.envelope_line.specs.declared.Fault.{Fault}
-use Rattle.envelope_line.specs.declared.Fault.TheVariants.{Malformed, NoAlternative, BadAlternative, RetiredAlternative}
+use Rattle.envelope_line.specs.declared.Fault.TheVariants.{Malformed}
 use Rattle.envelope_line.specs.EnvelopeLine.{line_fault}
 use Rattle.envelope.specs.declared.FaultAt.{FaultAt}
-use Rattle.envelope.specs.Envelope.{lines, line_text, ended_fault, fault_of, fault_number, counted, checked_from, checked, refused, on_line}
+use Rattle.envelope.specs.Envelope.{lines, line_text, ended_fault, fault_of, counted, checked_from, checked, refused, on_line}
 use Rattle.envelope.specs.LineStarts.{starts_from, rcpt_starts, EnvelopeChecked}
 use Rattle.envelope.proofs.LinesLaws.{fault_front, lines_end_lem, lines_at_lem, text_part}
 use Rattle.envelope.specs.CheckLaws.{RcptsChecked}
@@ -96,7 +96,6 @@ line_many rules n line h = rw (lt-leb n 100 h)
 pub line_front : (rules : Rules) (n : ℕ) (line : List ℕ) → n ≤ 100 → ended_fault rules (eqb n 0) line ≡ fault_of rules n line
 unfolding fault_of
 line_front rules n line h = rw (le-leb n 100 h)
-
 
 pub mail_line : (rules : Rules) (e : List ℕ) → fault_of rules 0 (drop 0 e) ≡ ended_fault rules true e
 unfolding fault_of

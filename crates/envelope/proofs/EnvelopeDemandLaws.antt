@@ -20,7 +20,7 @@ use Rattle.envelope_line.specs.declared.Fault.TheVariants.{Malformed}
 use Rattle.envelope_line.specs.EnvelopeLine.{tail, line_fault, orcpt_fault, written_line, replacement}
 use Rattle.envelope_line.proofs.LineGrammarLaws.{line_written, written_exact, written_kept as Line_kept}
 use Rattle.envelope_line.proofs.LineBytesLaws.{written_no_cr, written_orcpt}
-use Rattle.envelope.specs.Envelope.{lines, line_text, ended_fault, fault_of, fault_number, counted, checked_from, checked, texts, orcpt_from, orcpt_line, written_ended, written_of, written, refused}
+use Rattle.envelope.specs.Envelope.{lines, line_text, ended_fault, fault_of, counted, checked_from, checked, texts, orcpt_from, orcpt_line, written_ended, written_of, written, refused}
 use Rattle.envelope.proofs.LinesLaws.{lines_joined, text_ended, lines_end_lem, lines_at_lem}
 use Rattle.envelope.proofs.CheckLaws.{same_line, by_fault, ended, ended_fine, fine_few, fine_ended}
 use Rattle.envelope.proofs.PassedLaws.{passed_line}

@@ -1,13 +1,11 @@
 -- Laws of an envelope that passes the check: its lines have no fault.
-use Rattle.std.specs.Prelude.{◌≡◌, true, false, List, [], ◌∷◌, ℕ, suc, ◌+◌, ◌≤◌, ltb, length, Result, Ok, Err, ⊤}
+use Rattle.std.specs.Prelude.{◌≡◌, true, false, List, [], ◌∷◌, ℕ, suc, ◌+◌, ◌≤◌, ltb, length, Ok}
 use Rattle.std.proofs.Common.{arith}
 use Rattle.std.proofs.Math.Dec.{eqb-suc-zero}
 use Rattle.std.proofs.Math.Facts.{ltb_no}
 use Rattle.lists.specs.ListsLaws.{by_test, yes_true, no_false}
 use Rattle.rules.specs.declared.Rules.{Rules}
-use Rattle.envelope_line.specs.declared.Fault.{Fault}
-use Rattle.envelope.specs.declared.FaultAt.{FaultAt}
-use Rattle.envelope.specs.Envelope.{lines, ended_fault, fault_of, fault_number, counted, checked_from, checked, refused}
+use Rattle.envelope.specs.Envelope.{lines, ended_fault, fault_of, counted, checked_from, checked, refused}
 use Rattle.envelope.specs.LineStarts.{starts_from}
 use Rattle.envelope.proofs.CheckLaws.{by_fault, fine_few, fine_ended}
 

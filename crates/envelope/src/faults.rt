@@ -10,7 +10,13 @@ use envelope_line::Fault;
 use rules::Rules;
 
 // The fault of the line from `at` up to `end`, where its CRLF is due.
-fn front_fault(rules: Rules, envelope: &[u8], at: usize, end: usize, mail: bool) -> Result<(), Fault>
+fn front_fault(
+    rules: Rules,
+    envelope: &[u8],
+    at: usize,
+    end: usize,
+    mail: bool,
+) -> Result<(), Fault>
     requires { end ≡ at + line_len (drop at envelope.now) }
     ensures { result ≡ ended_fault rules mail (drop at envelope.now) }
 {
@@ -35,13 +41,7 @@ fn fault_of(rules: Rules, envelope: &[u8], at: usize, end: usize, n: usize) -> R
 }
 
 // Checks line n, by the same places.
-fn check_line(
-    rules: Rules,
-    envelope: &[u8],
-    at: usize,
-    end: usize,
-    n: usize,
-) -> Result<(), FaultAt>
+fn check_line(rules: Rules, envelope: &[u8], at: usize, end: usize, n: usize) -> Result<(), FaultAt>
     requires { end ≡ at + line_len (drop at envelope.now) }
     ensures { result ≡ on_line n (fault_of rules n (drop at envelope.now)) }
 {
@@ -62,7 +62,12 @@ fn counted(n: usize) -> Result<usize, FaultAt>
 }
 
 // The RCPT lines from a place on; their starts are stored.
-fn check_rcpts(rules: Rules, envelope: &[u8], at: usize, starts: &mut [usize; 100]) -> Result<usize, FaultAt>
+fn check_rcpts(
+    rules: Rules,
+    envelope: &[u8],
+    at: usize,
+    starts: &mut [usize; 100],
+) -> Result<usize, FaultAt>
     ensures { RcptsChecked rules envelope.now at starts.old starts.new result }
 {
     let mut n: usize = 0;

@@ -1,6 +1,6 @@
 -- What is written for a line without fault, in which no ORCPT carries non-ASCII, is ASCII.
 use Rattle.std.proofs.Math.Path.{◌≡◌, refl}
-use Rattle.std.specs.Prelude.{Bool, true, cond, ◌&&◌, eqb, leb, ltb, length, take, drop, get_or, Ok}
+use Rattle.std.specs.Prelude.{Bool, true, ◌&&◌, eqb, leb, ltb, length, take, drop, get_or, Ok}
 use Rattle.std.proofs.Math.Bool.{false}
 use mathlib.Core.List.{List, [], ◌∷◌, ◌++◌}
 use Prim.Native.Nat.{ℕ, suc, ◌+◌, ◌≤◌, ◌<◌}

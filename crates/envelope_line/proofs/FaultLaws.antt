@@ -1,7 +1,7 @@
 -- Laws of faults: the tests in the order in which code makes them.
 use Rattle.std.proofs.Math.Path.{◌≡◌, refl, sym}
 use Rattle.std.proofs.Common.{◌∙◌}
-use Rattle.std.specs.Prelude.{Bool, not, cond, ◌&&◌, ℕ, ◌+◌, ◌-◌, ◌≤◌, ◌<◌, T, eqb, take, drop, get_or, Result, Ok, Err, ⊤}
+use Rattle.std.specs.Prelude.{Bool, not, ◌&&◌, ℕ, ◌+◌, ◌-◌, ◌≤◌, ◌<◌, T, eqb, take, drop, get_or, Result, Ok, Err, ⊤}
 use Rattle.std.proofs.Math.Bool.{true, false}
 use mathlib.Core.List.{List, [], ◌∷◌}
 use native.Mathlib.Omega.{arith}
@@ -144,7 +144,7 @@ module _ (rules : Rules) (mail : Bool) (line : List ℕ) where
 
 pub record Formed (mail : Bool) (line : List ℕ) : Type 0 where
   pub short : length line ≤ 998
-  pub is_utf8_lem : T (utf8 line)
+  pub is_utf8 : T (utf8 line)
   pub has_verb_lem : T (has_verb mail line)
   pub has_path_lem : T (has_path mail line)
   pub is_spaced_lem : T (spaced (tail mail line))
@@ -169,7 +169,7 @@ module _ (mail : Bool) (line : List ℕ) where
       let h = and_yes l u g.0 in
       record {
         short = leb_yes {a = length line} {b = 998} h.0;
-        is_utf8_lem = h.1;
+        is_utf8 = h.1;
         has_verb_lem = g.1;
         has_path_lem = e.1;
         is_spaced_lem = d.1;

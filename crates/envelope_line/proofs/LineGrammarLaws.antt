@@ -206,10 +206,10 @@ module _ (mail : Bool) (line : List ℕ) where
         tail = tail mail line;
         is = cut_line k;
         short = k.short;
-        is_utf8_lem = k.is_utf8_lem;
+        is_utf8 = k.is_utf8;
         is_front = k.has_verb_lem;
         is_path = read_path mail s (scan_end (path_scan mail s)) (to_end (path_scan mail s) to);
-        is_tail_lem = read_tail (tail mail line) k.is_spaced_lem k.are_params_lem k.alts_ok_lem;
+        is_tail = read_tail (tail mail line) k.is_spaced_lem k.are_params_lem k.alts_ok_lem;
       }
 
 -- ---- a line, made: how it is read
@@ -292,9 +292,9 @@ module _ {mail : Bool} {p : List ℕ} {v : Option (List ℕ)} {line : List ℕ} 
   pub line_read : LineRead mail p v line
   line_read =
       rw l.is (record {
-        well = made_formed mail l.front l.is_front l.is_path l.tail l.is_tail_lem (rw l.is at l.short) (rw l.is at l.is_utf8_lem);
+        well = made_formed mail l.front l.is_front l.is_path l.tail l.is_tail (rw l.is at l.short) (rw l.is at l.is_utf8);
         path_is = made_path mail l.front l.is_front l.is_path l.tail;
-        value_is = rw (made_tail mail l.front l.is_front l.is_path l.tail) (tail_reads l.is_tail_lem).alternative;
+        value_is = rw (made_tail mail l.front l.is_front l.is_path l.tail) (tail_reads l.is_tail).alternative;
       })
 
   line_fault_lem : (rules : Rules) → line_fault rules mail line ≡ fault_by rules (all is_ascii p) v
@@ -338,11 +338,11 @@ copied_line {p = p} l h = rw ((line_read l).path_is, yes_true (all is_ascii p) h
 module _ {mail : Bool} {p v line new : List ℕ} (l : Line mail p (some v) line) (h : T (not (all is_ascii p))) (a : AltAddress v new) where
   new_path_lem : new_path mail line ≡ new
   unfolding new_path
-  new_path_lem = rw (line_tail l, tail_value l.is_tail_lem) (xtext_read a.0).1
+  new_path_lem = rw (line_tail l, tail_value l.is_tail) (xtext_read a.0).1
 
-  replaced_line : written_line mail line ≡ l.front ++ (new ++ (62 ∷ others_of l.is_tail_lem))
+  replaced_line : written_line mail line ≡ l.front ++ (new ++ (62 ∷ others_of l.is_tail))
   unfolding written_line
-  replaced_line = rw ((line_read l).path_is, no_false (all is_ascii p) h, line_front l, new_path_lem, line_tail l, tail_others l.is_tail_lem)
+  replaced_line = rw ((line_read l).path_is, no_false (all is_ascii p) h, line_front l, new_path_lem, line_tail l, tail_others l.is_tail)
 
   replaced_text : replacement mail line ≡ 60 ∷ (p ++ (32 ∷ 60 ∷ (new ++ (62 ∷ 62 ∷ []))))
   unfolding replacement
@@ -365,7 +365,7 @@ LineAnswer rules mail line (Err RetiredAlternative) = (byte : ℕ) × LineRefuse
 value_short : {mail : Bool} {p v line : List ℕ} → Line mail p (some v) line → length v ≤ 998
 value_short {mail} {p} {v} {line} l =
     let size = simp length-append at (ap length l.is) in
-    omega (arith, value_le l.is_tail_lem, l.short, size)
+    omega (arith, value_le l.is_tail, l.short, size)
 
 -- with an ALT-ADDRESS that the rules allow
 alt_answer_by : (rules : Rules) {mail : Bool} {p v line : List ℕ} (ascii : Bool) → ascii ≡ all is_ascii p → T (allows_alternative rules) → Line mail p (some v) line

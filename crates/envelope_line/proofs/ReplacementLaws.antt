@@ -68,7 +68,7 @@ module _ (rules : Rules) (mail : Bool) (line : List ℕ) (f : line_fault rules m
       let v = verb_len mail in
       let n = path_len mail line in
       let rest = drop v line in
-      let all_utf8 : T (utf8 (take v line ++ rest)) = rw take-append-drop (formed rules mail line f).is_utf8_lem in
+      let all_utf8 : T (utf8 (take v line ++ rest)) = rw take-append-drop (formed rules mail line f).is_utf8 in
       let from : T (utf8 rest) = rw (utf8_right (take v line) rest (utf8_ascii (take v line) (front_ascii rules mail line f))) at all_utf8 in
       let after : drop n rest ≡ 62 ∷ drop (suc (v + n)) line = rw (drop-drop, drop-cons line (v + n) 0 close_inside, closed rules mail line f) in
       let cut : T (utf8 (take n rest ++ (62 ∷ drop (suc (v + n)) line))) = rw (← after, take-append-drop) from in

@@ -38,16 +38,15 @@ fn tail_fault(rules: Rules, line: &[u8], at: usize, ascii: bool) -> Result<(), F
     if !are_params(line, at) {
         return Err(Fault::Malformed);
     }
-    let place = alt_place(line, at);
-    if line.len() <= place {
+    let Some(place) = alt_place(line, at) else {
         if ascii {
             return Ok(());
         }
         return Err(Fault::NoAlternative);
-    }
+    };
     let start = place + 1;
     let end = param_end(line, start);
-    if alt_place(line, end) < line.len() {
+    if alt_place(line, end).is_some() {
         return Err(Fault::Malformed);
     }
     only_alt_fault(rules, part(line, start, end), ascii)

@@ -16,7 +16,7 @@ use Rattle.lists.specs.Lists.{all}
 use Rattle.lists.specs.Run.{run}
 use Rattle.lists.specs.RunLaws.{run_le, run_all, run_after}
 use Rattle.buffer.specs.Buffer.{Wrote, AppendedCapped, Reached, greatest}
-use Rattle.buffer.specs.BufferLaws.{overlay_front, length_wrote, appended_of, reached_start, reached_then, reached_within, reached_end, length_reached, wrote_from, wrote_nothing}
+use Rattle.buffer.specs.BufferLaws.{overlay_front, appended_of, reached_start, reached_then, reached_within, reached_end, length_reached, wrote_from, wrote_nothing}
 use Rattle.header_line.specs.Lines.{name_len}
 use Rattle.line.specs.Line.{blank, crlf, not_cr, cr_run}
 use Rattle.line.specs.LineLaws.{crlf_inside}
@@ -122,39 +122,44 @@ blank_no_fold b rest e =
 unfoldable pub text_from : List ℕ → ℕ → List ℕ
 text_from s i = trimmed (unfolded_after 0 (drop i s))
 
--- A step over what comes before the text: n bytes, a blank or a fold; or none, where the text starts.
-pub record BlankStep (s : List ℕ) (i n : ℕ) : Type 0 where
+-- what comes before the text goes on for n bytes
+pub record Blanks (s : List ℕ) (i n : ℕ) : Type 0 where
+  pub some : 0 < n
   pub inside : i + n ≤ length s
   pub past : text_from s i ≡ text_from s (i + n)
-  pub stop : n ≡ 0 → text_from s i ≡ unfolded_after 0 (drop i s)
+
+-- A step over what comes before the text: a blank or a fold; or none, where the text starts.
+abbrev pub BlankStep : List ℕ → ℕ → Option ℕ → Type 0
+BlankStep s i None = text_from s i ≡ unfolded_after 0 (drop i s)
+BlankStep s i (Some n) = Blanks s i n
+
+pub step_end : (s : List ℕ) (i : ℕ) → length s ≤ i → text_from s i ≡ unfolded_after 0 (drop i s)
+unfolding text_from
+step_end s i k = rw (unfold_end s i k) trim_nil
 
 module _ (s : List ℕ) (i : ℕ) (k : i < length s) where
-  pub step_blank : blank (get_or s i 0) ≡ true → BlankStep s i 1
+  pub step_blank : blank (get_or s i 0) ≡ true → Blanks s i 1
   unfolding text_from
   step_blank e =
       let front = drop-cons s i 0 k in
       let none : fold (drop i s) ≡ false = rw front (blank_no_fold (get_or s i 0) (drop (suc i) s) e) in
       record {
+        some = omega arith;
         inside = omega arith;
         past = rw (unfold_byte s i k none) (trim_blank (get_or s i 0) (unfolded_after 0 (drop (i + 1) s)) e);
-        stop = λ z. absurd (omega (arith, z));
       }
 
-  pub step_fold : fold (drop i s) ≡ true → BlankStep s i 2
+  pub step_fold : fold (drop i s) ≡ true → Blanks s i 2
   unfolding text_from
   step_fold e = record {
+    some = omega arith;
     inside = fold_inside s i e;
     past = rw (unfold_fold s i e);
-    stop = λ z. absurd (omega (arith, z));
   }
 
-  pub step_none : blank (get_or s i 0) ≡ false → fold (drop i s) ≡ false → BlankStep s i 0
+  pub step_none : blank (get_or s i 0) ≡ false → fold (drop i s) ≡ false → text_from s i ≡ unfolded_after 0 (drop i s)
   unfolding text_from
-  step_none e f = record {
-    inside = omega arith;
-    past = rw add-zero;
-    stop = λ z. rw (unfold_byte s i k f) (trim_stop (get_or s i 0) (unfolded_after 0 (drop (i + 1) s)) e);
-  }
+  step_none e f = rw (unfold_byte s i k f) (trim_stop (get_or s i 0) (unfolded_after 0 (drop (i + 1) s)) e)
 
 -- The text of a value is what stands from r on, unfolded.
 pub record TextStart (value : List ℕ) (r : ℕ) : Type 0 where
@@ -171,15 +176,11 @@ unfolding text_from
 skipped_none value = record { inside = omega arith; same = refl }
 
 module _ {value : List ℕ} {i : ℕ} (g : Skipped value i) where
-  pub skipped_more : {n : ℕ} → BlankStep value i n → Skipped value (i + n)
+  pub skipped_more : {n : ℕ} → Blanks value i n → Skipped value (i + n)
   skipped_more t = record { inside = t.inside; same = g.same ∙ t.past }
 
-  pub skipped_stop : {n : ℕ} → BlankStep value i n → n ≡ 0 → TextStart value i
-  skipped_stop t e = record { inside = g.inside; text = g.same ∙ t.stop e }
-
-  pub skipped_end : length value ≤ i → TextStart value i
-  unfolding text_from
-  skipped_end k = record { inside = g.inside; text = g.same ∙ rw (unfold_end value i k) trim_nil }
+  pub skipped_stop : text_from value i ≡ unfolded_after 0 (drop i value) → TextStart value i
+  skipped_stop e = record { inside = g.inside; text = g.same ∙ e }
 
 -- ---- pieces between folds
 

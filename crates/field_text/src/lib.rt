@@ -27,18 +27,19 @@ fn fold_at(s: &[u8], i: usize) -> bool
     (s[i] == 13) & (s[i + 1] == 10) & is_blank(s[i + 2])
 }
 
-// How many bytes before the text stand at i: 1 for a blank, 2 for a fold, 0 where the text starts.
-fn blank_size(s: &[u8], i: usize) -> usize
-    requires { i < length s.now }
+// How many bytes before the text stand at i: 1 for a blank, 2 for a fold; none where the text starts.
+fn blank_size(s: &[u8], i: usize) -> Option<usize>
+    requires { i ≤ length s.now }
     ensures { BlankStep s.now i result }
 {
-    if is_blank(s[i]) {
-        return 1;
+    let b = *s.get(i)?;
+    if is_blank(b) {
+        return Some(1);
     }
     if fold_at(s, i) {
-        return 2;
+        return Some(2);
     }
-    0
+    None
 }
 
 // Where the text of a value starts.
@@ -46,11 +47,7 @@ fn text_start(value: &[u8]) -> usize
     ensures { TextStart value.now result }
 {
     let mut i = 0;
-    while i < value.len() {
-        let n = blank_size(value, i);
-        if n == 0 {
-            return i;
-        }
+    while let Some(n) = blank_size(value, i) {
         i += n;
     }
     i

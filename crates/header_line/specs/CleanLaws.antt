@@ -1,25 +1,24 @@
 -- Laws of clean headers: how blocks of windows show that a header is clean, and that each of its lines then ends at the next CR and holds
 -- what a line may hold.
-use Rattle.std.specs.Prelude.{◌≡◌, refl, Bool, true, false, not, ◌&&◌, ◌||◌, List, [], ◌∷◌, ◌++◌, ℕ, zero, suc, ◌+◌, ◌-◌, ◌≤◌, ◌<◌, T, leb, eqb, length, take, drop}
-use Rattle.std.proofs.Common.{ap, sym, ◌∙◌, not-suc-le-zero, add-zero, zero-add, add-one, arith, lt→ltb, length-drop, length-take, take-append-drop, drop-cons, drop-drop, get_or-drop, get_or-take, length-take-le, ne_eqb, lt-ltb, eq-eqb}
+use Rattle.std.specs.Prelude.{◌≡◌, refl, Bool, true, false, ◌&&◌, List, [], ◌∷◌, ◌++◌, ℕ, zero, suc, ◌+◌, ◌-◌, ◌≤◌, ◌<◌, T, eqb, length, take, drop}
+use Rattle.std.proofs.Common.{ap, sym, ◌∙◌, add-zero, zero-add, add-one, arith, length-drop, take-append-drop, drop-cons, drop-drop, get_or-drop, get_or-take, length-take-le, ne_eqb}
 use Rattle.std.proofs.Math.Dec.{ltb, eqb→eq}
 use Rattle.std.proofs.Math.ListN.{get_or}
-use Rattle.std.proofs.lemmas.Bool.{lt-leb}
-use Rattle.std.proofs.Math.Facts.{and_yes, yes_and, ltb_yes, ltb_no, leb_yes, leb_no, eqb_yes, eqb_no, no_eqb}
+use Rattle.std.proofs.Math.Facts.{and_yes, yes_and, ltb_yes, ltb_no}
 use Rattle.lists.specs.Lists.{all}
 use Rattle.lists.specs.ListsLaws.{by_test, yes_true, true_yes, no_false, all_at_lem}
-use Rattle.lists.specs.Byte.{is_ascii, within}
+use Rattle.lists.specs.Byte.{is_ascii}
 use Rattle.lists.specs.Run.{run}
 use Rattle.lists.specs.RunLaws.{run_le, run_all, run_step}
 use Rattle.utf8.specs.Utf8.{utf8}
 use Rattle.utf8.specs.Utf8Laws.{utf8_right, utf8_ascii, utf8_cut}
-use Rattle.utf8.specs.Window.{placed, placed3, whole, starts, window_at, all_at}
-use Rattle.utf8.specs.WindowLaws.{placed_first, to_whole, all_at_here, all_at_make, three_block, window_part, Clear, clear_over, clear_block, clear_all_lem, utf8_windows}
+use Rattle.utf8.specs.Window.{placed, placed3, starts, window_at, all_at}
+use Rattle.utf8.specs.WindowLaws.{placed_first, to_whole, all_at_here, all_at_make, three_block, window_part, Clear, clear_over, utf8_windows}
 use Rattle.line.specs.Line.{crlf, not_cr, cr_run}
 use Rattle.line.specs.LineLaws.{crlf_at_lem, cr_there}
 use Rattle.line.specs.CrLaws.{CrStep}
 use Rattle.header_line.specs.Lines.{line_byte, checked_lines, bad_line}
-use Rattle.header_line.specs.LineLaws.{passed_part, crlf_text, TextEnd, Stopped, text_end_lem, shaped_to, GoodLine, lined_shape, lined_good, Left, left_all, left_bad, left_next}
+use Rattle.header_line.specs.LineLaws.{passed_part, crlf_text, TextEnd, text_end_lem, shaped_to, GoodLine, lined_shape, lined_good, Left, left_all, left_bad, left_next}
 use Rattle.header_line.specs.Clean.{line_after, line_placed, line_placed3, calm, lines_start, lines_end, Clean}
 
 -- ---- a byte after another

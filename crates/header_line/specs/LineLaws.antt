@@ -1,12 +1,12 @@
 -- Laws of lines by position, as code tests them.
-use Rattle.std.specs.Prelude.{◌≡◌, Bool, cond, not, ◌&&◌, ◌||◌, List, [], ◌∷◌, ◌++◌, ℕ, zero, suc, ◌+◌, ◌-◌, ◌≤◌, ◌<◌, T, leb, ltb, eqb, length, take, get_or, Ok, Option, Some, None}
+use Rattle.std.specs.Prelude.{◌≡◌, Bool, cond, not, ◌&&◌, ◌||◌, List, [], ◌∷◌, ◌++◌, ℕ, suc, ◌+◌, ◌-◌, ◌≤◌, ◌<◌, T, leb, ltb, eqb, length, take, get_or, Ok, Option, Some, None}
 use Rattle.std.proofs.Math.Path.{refl, sym}
-use Rattle.std.proofs.Common.{ap, ◌∙◌, not-suc-le-zero, add-zero, suc-add, add-one, arith, le→leb, length-drop, length-take, take-append-drop, drop_of_length-le, drop-cons, drop-drop, get_or-drop, get_or-take, take-take, length-take-le, ne_eqb}
+use Rattle.std.proofs.Common.{ap, ◌∙◌, add-zero, suc-add, add-one, arith, le→leb, length-drop, length-take, take-append-drop, drop_of_length-le, drop-cons, drop-drop, get_or-drop, get_or-take, take-take, length-take-le, ne_eqb}
 use Rattle.std.proofs.Math.Bool.{true, false, and-false, or-false}
 use Rattle.std.proofs.Math.Dec.{eqb→eq}
-use Rattle.std.proofs.Math.ListN.{drop, get_or-eq_default}
+use Rattle.std.proofs.Math.ListN.{drop}
 use Rattle.std.proofs.Math.Seq.{take-append-add, drop-append-add}
-use Rattle.std.proofs.Math.Facts.{and_yes, yes_and, leb_yes, leb_no, ltb_no, eqb_no}
+use Rattle.std.proofs.Math.Facts.{and_yes, yes_and, leb_yes, ltb_no}
 use Rattle.lists.specs.Lists.{all}
 use Rattle.lists.specs.ListsLaws.{by_test, cond_yes, cond_has, yes_true, true_yes, no_false, all_past, all_weaken}
 use Rattle.lists.specs.Byte.{is_ascii, within}

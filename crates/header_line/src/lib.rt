@@ -149,11 +149,9 @@ fn check_clean(h: &[u8]) -> Result<(), MalformedLine>
     let mut n = 0;
     let mut i: usize = 0;
     while at < h.len() {
-        let c = line::find_cr(h, i);
-        let found = c.found;
-        let e = c.end;
-        i = c.next;
-        if found {
+        let step = line::find_cr(h, i);
+        i = step.next;
+        if let Some(e) = step.cr {
             if !is_shaped(n == 0, &h[at..e], 76) {
                 return Err(MalformedLine { line: n, at });
             }

@@ -1,6 +1,6 @@
 -- Laws of the table: it gives the kind of each name.
 use Rattle.std.specs.Prelude.{◌≡◌, refl, cond, List, [], ◌∷◌, ◌++◌, map, ℕ}
-use Rattle.std.proofs.Common.{sym, ap, ◌∙◌}
+use Rattle.std.proofs.Common.{sym, ◌∙◌}
 use Prim.Native.String.{String}
 use Rattle.lists.specs.ListsLaws.{by_test, yes_true, no_false}
 use Rattle.header_name.specs.declared.Kind.{Kind}

@@ -20,6 +20,7 @@ pub struct Begun {
 }
 
 // How many bytes follow a character's first byte.
+#[tactic(auto, using(utf8::specs::Utf8Laws::char_len_some, utf8::specs::Utf8Laws::char_len_le), unfolding(crate::specs::CharScan::tail_count))]
 fn tail_count(b: u8) -> u8
     ensures { result ≡ tail_count b }
 {
@@ -57,6 +58,7 @@ impl Begun {
     }
 
     // After the first byte of a character.
+    #[tactic(auto, using(crate::proofs::CharScanLaws::lead_multi), unfolding(crate::specs::CharScan::lead))]
     fn lead(b: u8) -> Begun
         ensures { result ≡ lead b }
     {
@@ -74,6 +76,7 @@ impl Begun {
     }
 
     // After one more byte.
+    #[tactic(auto, using(crate::proofs::CharScanLaws::step_tail), unfolding(crate::specs::CharScan::step_by))]
     pub fn step(self, b: u8) -> Begun
         ensures { result ≡ char_step self b }
     {
@@ -87,6 +90,7 @@ impl Begun {
     }
 
     // Whether some bytes complete the character.
+    #[tactic(auto, unfolding(crate::specs::CharScan::char_live))]
     pub fn is_live(self) -> bool
         ensures { result ≡ char_live self }
     {
@@ -133,6 +137,7 @@ pub trait LineForm: Copy {
 }
 
 // The end of the LF at i, or i.
+#[tactic(auto, using(crate::proofs::PlaceLaws::lf_yes, crate::proofs::PlaceLaws::lf_no, crate::proofs::PlaceLaws::lf_end))]
 pub fn after_lf(s: &[u8], i: usize) -> usize
     ensures { result ≡ i + stop_lf (drop i s.now) }
 {
@@ -182,6 +187,7 @@ pub fn stop<F: LineForm>(start: F, s: &[u8], at: usize, limit: usize) -> usize
 }
 
 // Whether a byte goes on, in any case, with a word of which n bytes have come.
+#[tactic(auto, unfolding(crate::specs::Word::is_next))]
 pub fn is_next(word: &[u8], n: usize, b: u8) -> bool
     ensures { result ≡ is_next word.now n b }
 {
@@ -192,6 +198,7 @@ pub fn is_next(word: &[u8], n: usize, b: u8) -> bool
 }
 
 // How many bytes of the word have come after the byte b; one more than it has, where the text is another.
+#[tactic(auto, using(crate::proofs::WordLaws::next_within), unfolding(crate::specs::Word::matched))]
 pub fn matched(word: &[u8], n: usize, b: u8) -> usize
     ensures { result ≡ matched_bytes word.now n b }
 {

@@ -1,6 +1,6 @@
 -- The refusals of an envelope by the grammar of its lines are those of the check, and the byte that each points to is that of the grammar.
 use Rattle.std.proofs.Math.Path.{◌≡◌, ap, sym}
-use Rattle.std.specs.Prelude.{refl, Bool, true, false, not, ℕ, suc, ◌+◌, ◌≤◌, ◌<◌, T, eqb, leb, ltb, Result, Ok, Err, ⊤, Some}
+use Rattle.std.specs.Prelude.{refl, Bool, true, not, ℕ, suc, ◌+◌, ◌≤◌, ◌<◌, T, eqb, leb, ltb, Result, Ok, Err, ⊤, Some}
 use Rattle.std.proofs.Common.{subst, ◌∙◌, T_not, length-append, length-drop, take_all, le-ltb}
 use mathlib.Core.List.{List, [], ◌∷◌, ◌++◌, append_assoc}
 use Rattle.std.proofs.Math.Option.{Option, some}
@@ -241,7 +241,7 @@ unfolding alt_value_byte
 value_byte_is {mail} {line = line} l =
     let t = l.tail in
     let n = alt_place (params t) + (keyword_len (alt (params t)) + 2) in
-    rw (line_tail l) (omega (arith, line_size l, value_place_lem l.is_tail_lem, value_within l.is_tail_lem, length-drop n t))
+    rw (line_tail l) (omega (arith, line_size l, value_place_lem l.is_tail, value_within l.is_tail, length-drop n t))
 
 -- the number and the byte of a refusal
 refused_number : {rules : Rules} {mail : Bool} {line : List ℕ} {number byte : ℕ} (r : LineRefused rules mail line number byte) → number ≡ fault_number (refused_fault r)

@@ -1,7 +1,7 @@
 -- Laws of the byte that a refusal points to, as code finds it.
-use Rattle.std.specs.Prelude.{◌≡◌, Bool, List, [], ◌∷◌, eqb, leb, take, drop}
+use Rattle.std.specs.Prelude.{◌≡◌, Bool, List, eqb, leb, take, drop}
 use Rattle.std.proofs.Math.Path.{refl}
-use Rattle.std.proofs.Common.{sym, ap, ◌∙◌, arith, not-suc-le-zero, take_all, drop-drop}
+use Rattle.std.proofs.Common.{sym, ◌∙◌, arith, not-suc-le-zero, take_all, drop-drop}
 use Prim.Native.Nat.{ℕ, zero, suc, ◌+◌, ◌-◌, ◌≤◌, ◌<◌, min}
 use Rattle.std.proofs.Math.ListN.{length, length-drop, length-take}
 use Rattle.std.proofs.Math.Facts.{leb_yes, leb_no}

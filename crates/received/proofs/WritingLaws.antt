@@ -13,7 +13,7 @@ use Rattle.structured_field.specs.StructuredField.{part_segments}
 use Rattle.received_token.specs.declared.ReceivedKind.{ReceivedKind}
 use Rattle.received_token.specs.declared.ReceivedKind.TheVariants.{Comment}
 use Rattle.received.specs.Received.{becomes, value_segments, received_field}
-use Rattle.received.proofs.TokenLaws.{bytes_comment}
+use Rattle.received.specs.TokenLaws.{bytes_comment}
 
 -- a part is no longer than the whole
 pub part_served : (s : List ℕ) (i e room : ℕ) → (length s ≤ 32768) × (2 * length s ≤ room)

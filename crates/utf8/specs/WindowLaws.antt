@@ -521,14 +521,14 @@ module _ {p : ℕ → Bool} where
       (λ t. let f = no_false (all_at p from n) t in k ∙ f ∙ block_fails p from n m (omega arith) f)
 
 -- the last n bytes and the three before them, as a slice
-pub passed_last : {f : ℕ → ℕ → ℕ → ℕ → Bool} {s rest : List ℕ} {r : Bool} → Passed f s rest → (n : ℕ) → n + 3 ≤ length s → length rest < n + 3
-    → r ≡ all_at (window_at f (drop (length s - (n + 3)) s)) 0 (length (drop (length s - (n + 3)) s) - 3) → r ≡ all_at (window_at f s) 0 (length s - 3)
-passed_last {f} {s} {rest} {r} g n h l e =
+pub passed_last : {f : ℕ → ℕ → ℕ → ℕ → Bool} {s rest block : List ℕ} {r : Bool} → Passed f s rest → (n : ℕ) → n + 3 ≤ length s → length rest < n + 3
+    → block ≡ take (length s - (length s - (n + 3))) (drop (length s - (n + 3)) s) → r ≡ all_at (window_at f block) 0 (length block - 3) → r ≡ all_at (window_at f s) 0 (length s - 3)
+passed_last {f} {s} {rest} {block} {r} g n h l b e =
     let from = length s - (n + 3) in
-    let size : length (drop from s) ≡ n + 3 = rw length-drop (omega arith) in
-    let whole : take (n + 3) (drop from s) ≡ drop from s = rw size at (take_all (length (drop from s)) (drop from s) (omega arith)) in
-    let count : length (drop from s) - 3 ≡ n = omega (arith, size) in
-    let part : all_at (window_at f (drop from s)) 0 n ≡ all_at (window_at f s) from n = rw whole at (window_part f s from n) in
+    let size : length s - from ≡ n + 3 = omega arith in
+    let is : block ≡ take (n + 3) (drop from s) = rw size at b in
+    let count : length block - 3 ≡ n = rw (is, length-take, length-drop) (omega arith) in
+    let part : all_at (window_at f block) 0 n ≡ all_at (window_at f s) from n = rw is (window_part f s from n) in
     block_last from n (length s - 3) r (omega (arith, g.few)) (omega arith) g.clear (rw count at e ∙ part)
 
 module _ (s : List ℕ) where

@@ -44,7 +44,7 @@ pub fn second_high(a: u8) -> u8
 }
 
 // Whether a byte continues a character.
-fn is_tail(b: u8) -> bool
+pub fn is_tail(b: u8) -> bool
     ensures { result ≡ continues b }
 {
     (128 <= b) & (b <= 191)

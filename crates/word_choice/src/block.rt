@@ -1,11 +1,11 @@
 // Tests of the first bytes of a text, all of them, without an early exit.
 ghost use Rattle.std.specs.Prelude.{◌≡◌, true, ◌||◌, ◌≤◌, ◌<◌, leb, eqb, length, take};
 ghost use Rattle.word_spelling.specs.Spelling.{bare};
-ghost use Rattle.utf8.specs.Utf8.{continues};
 ghost use Rattle.word_choice.specs.Block.{count, plain, other};
 ghost use Rattle.word_choice.specs.BlockLaws.{dear, placed, Regular, step_back};
 
 use byte_class::Class;
+use utf8::is_tail;
 
 // Whether a byte is a letter, a digit or a space.
 fn is_plain(b: u8) -> bool
@@ -80,13 +80,6 @@ pub(crate) fn others(s: &[u8]) -> usize
     ensures { (result ≡ count other (take 48 s.now)) × (result ≤ 48) }
 {
     count::<Other>(&s[..48])
-}
-
-// Whether a byte continues a character.
-fn is_tail(b: u8) -> bool
-    ensures { result ≡ continues b }
-{
-    (128 <= b) & (b <= 191)
 }
 
 // Whether a byte c after a and b continues a character just where one of them asks for it, and starts none of more than three bytes.

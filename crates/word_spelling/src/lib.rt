@@ -9,7 +9,7 @@ ghost use Rattle.word_spelling.specs.FirstChars.{first_char, first_chars, cost_i
 ghost use Rattle.word_spelling.specs.HighChar.{HighChar, high_size};
 
 // The first character of each byte's spelling, 32 bytes to a line: its only one, or the `=` of an escape.
-const FIRST_CHARS: [u8; 256] = *b"\
+static FIRST_CHARS: [u8; 256] = *b"\
     ================================\
     _!========*+=-=/0123456789======\
     =ABCDEFGHIJKLMNOPQRSTUVWXYZ=====\
@@ -26,14 +26,15 @@ pub fn first_chars() -> [u8; 256]
     FIRST_CHARS
 }
 
-// The first character of a byte's spelling, by the table of them.
+// The first character of a byte's spelling, by a table of them.
+// Kept: docs/LANDINGS.md names `byte_cost` and `char_cost`, which answer for any table, as this does; `first_of`, `cost_of`, `cost_at` have ours.
 pub fn first_char(first: &[u8; 256], b: u8) -> u8
     ensures { result ≡ get_or first.now b 0 }
 {
     first[usize::from(b)]
 }
 
-// How many characters of a word a byte takes, by the table of first characters.
+// How many characters of a word a byte takes, by a table of first characters.
 pub fn byte_cost(first: &[u8; 256], b: u8) -> usize
     ensures { (result ≡ cost_in first.now b) × (result ≤ 3) }
 {
@@ -61,7 +62,7 @@ pub struct Taken {
     pub cost: usize,
 }
 
-// Where the character at a place ends, and what it takes, by the table of first characters.
+// Where the character at a place ends, and what it takes, by a table of first characters.
 pub fn char_cost(first: &[u8; 256], s: &[u8], i: usize) -> Taken
     ensures { (result.end ≡ min (i + char_len (get_or s.now i 0)) (length s.now)) × (result.cost ≡ costs_in first.now (take (result.end - i) (drop i s.now))) }
 {
@@ -73,39 +74,25 @@ pub fn char_cost(first: &[u8; 256], s: &[u8], i: usize) -> Taken
     Taken { end, cost: n }
 }
 
-// The table of first characters, as loops are lent it: a constant array is made anew wherever it stands.
-pub struct FirstChars {
-    table: [u8; 256],
-    ghost spelt: { table ≡ first_chars },
+// The first character of a byte's spelling.
+pub fn first_of(b: u8) -> u8
+    ensures { result ≡ first_char b }
+{
+    first_char(&FIRST_CHARS, b)
 }
 
-impl FirstChars {
-    pub fn new() -> FirstChars {
-        FirstChars {
-            table: first_chars(),
-        }
-    }
+// How many characters of a word a byte takes.
+pub fn cost_of(b: u8) -> usize
+    ensures { (result ≡ byte_cost b) × (result ≤ 3) }
+{
+    byte_cost(&FIRST_CHARS, b)
+}
 
-    // The first character of a byte's spelling.
-    pub fn first_char(&self, b: u8) -> u8
-        ensures { result ≡ first_char b }
-    {
-        first_char(&self.table, b)
-    }
-
-    // How many characters of a word a byte takes.
-    pub fn byte_cost(&self, b: u8) -> usize
-        ensures { (result ≡ byte_cost b) × (result ≤ 3) }
-    {
-        byte_cost(&self.table, b)
-    }
-
-    // Where the character at a place ends, and what it takes.
-    pub fn char_cost(&self, s: &[u8], i: usize) -> Taken
-        ensures { (result.end ≡ min (i + char_len (get_or s.now i 0)) (length s.now)) × (result.cost ≡ cost (take (result.end - i) (drop i s.now))) }
-    {
-        char_cost(&self.table, s, i)
-    }
+// Where the character at a place ends, and what it takes.
+pub fn cost_at(s: &[u8], i: usize) -> Taken
+    ensures { (result.end ≡ min (i + char_len (get_or s.now i 0)) (length s.now)) × (result.cost ≡ cost (take (result.end - i) (drop i s.now))) }
+{
+    char_cost(&FIRST_CHARS, s, i)
 }
 
 // The length of the character at a place, 2 to 4, where the text holds it whole and none of its bytes is ASCII.

@@ -1,4 +1,4 @@
-use Rattle.std.proofs.Common.{◌≡◌, refl, sym, ◌∙◌}
+use Rattle.std.proofs.Common.{sym, ◌∙◌}
 use Rattle.header_name.specs.NameTable.{entries_of, entries}
 use Rattle.header_name.specs.Names.{groups}
 use Rattle.header_name.specs.NameTableLaws.{kind_table}

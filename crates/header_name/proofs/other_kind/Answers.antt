@@ -1,4 +1,4 @@
-use Rattle.std.proofs.Common.{◌≡◌, refl, sym, ◌∙◌, rules}
+use Rattle.std.proofs.Common.{sym, ◌∙◌}
 use Rattle.header_name.specs.Names.{other_kind, other_commented}
 use Rattle.header_name.specs.NameTableLaws.{among_bytes}
 use Rattle.letter_case.specs.LetterCase.{bytes}

@@ -1,4 +1,4 @@
-use Rattle.std.proofs.Common.{◌-◌, length, arith, sym, ◌∙◌}
+use Rattle.std.proofs.Common.{◌-◌, length, arith, sym, ◌∙◌, refl}
 use Rattle.std.proofs.lemmas.List.{take_rest}
 use Rattle.utf8.specs.Window.{placed, window_at}
 use Rattle.utf8.specs.WindowLaws.{passed_none, passed_part, passed_more, passed_last, block_fails}
@@ -20,6 +20,4 @@ loop-block-preserved c =
     passed_more c.loop-block.invariant 32 h.enough h.same (take_rest c.loop-block.rest.now 32) (sym c.all_windows.ensures ∙ c.if-not-all_windows.false)
 
 pub returns : goal.returns
-returns c =
-    let e = rw take_rest at c.all_windows-2.ensures in
-    passed_last c.loop-block.invariant 32 c.requires c.in_default.ensures.cases e
+returns c = passed_last c.loop-block.invariant 32 c.requires c.in_default.ensures.cases refl c.all_windows-2.ensures

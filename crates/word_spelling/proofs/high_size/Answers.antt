@@ -16,7 +16,7 @@ returns-then-s-j-lt128 c = let w = high_whole c.args.s.now c.args.i _ c.char_len
 pub returns-then-size-eq2 : goal.returns-then-size-eq2
 returns-then-size-eq2 c = let s = c.args.s.now in
     let i = c.args.i in
-    let known = c.shared_slice_known-1.given in
+    let known = c.type_inv.s in
     let w = high_whole c.args.s.now c.args.i _ c.char_len-size.ensures c.if-not-size-s.false-raw in
     as_option (high_char c.args.s.now c.args.i _ c.char_len-size.ensures c.if-not-size-s.false-raw 2 c.if-size-eq2.true (omega (arith, known i)) (λ t. high_next s i 1 (i + 1) (omega arith) (omega arith) c.if-s-j-lt128.false (omega (arith, known (i + 1))) t))
 
@@ -27,7 +27,7 @@ returns-then-s-k-lt128 c = let w = high_whole c.args.s.now c.args.i _ c.char_len
 pub returns-then-size-eq3 : goal.returns-then-size-eq3
 returns-then-size-eq3 c = let s = c.args.s.now in
     let i = c.args.i in
-    let known = c.shared_slice_known-1.given in
+    let known = c.type_inv.s in
     let w = high_whole c.args.s.now c.args.i _ c.char_len-size.ensures c.if-not-size-s.false-raw in
     as_option (high_char c.args.s.now c.args.i _ c.char_len-size.ensures c.if-not-size-s.false-raw 3 c.if-size-eq3.true (omega (arith, known i)) (λ t. high_next s i 2 (i + 1 + 1) (omega arith) (omega arith) c.if-s-k-lt128.false (omega (arith, known (i + 1 + 1)))
     (high_next s i 1 (i + 1) (omega arith) (omega arith) c.if-s-j-lt128.false (omega (arith, known (i + 1))) t)))
@@ -39,7 +39,7 @@ returns-then-s-k-lt128-2 c = let w = high_whole c.args.s.now c.args.i _ c.char_l
 pub returns : goal.returns
 returns c = let s = c.args.s.now in
     let i = c.args.i in
-    let known = c.shared_slice_known-1.given in
+    let known = c.type_inv.s in
     let w = high_whole c.args.s.now c.args.i _ c.char_len-size.ensures c.if-not-size-s.false-raw in
     as_option (high_char c.args.s.now c.args.i _ c.char_len-size.ensures c.if-not-size-s.false-raw 4 (omega arith) (omega (arith, known i)) (λ t. high_next s i 3 (i + 1 + 1 + 1) (omega arith) (omega arith) c.if-s-k-lt128-2.false (omega (arith, known (i + 1 + 1 + 1)))
     (high_next s i 2 (i + 1 + 1) (omega arith) (omega arith) c.if-s-k-lt128.false (omega (arith, known (i + 1 + 1)))

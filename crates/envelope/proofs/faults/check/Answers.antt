@@ -1,5 +1,4 @@
 use Rattle.std.proofs.Common.{◌≡◌, ◌∙◌, Err, true, arith, sym, rules}
-use Rattle.envelope.specs.Envelope.{fault_of}
 use Rattle.envelope.proofs.CheckLaws.{mail_refused, mail_passed, mail_line, ended_inside, on_line_ok, on_line_err}
 use Rattle.envelope.proofs.faults.check.Goals as goal
 

@@ -1,4 +1,4 @@
-use Rattle.std.proofs.Common.{◌≡◌, ◌+◌, ◌∙◌, Err, refl, arith, sym, drop, rules}
+use Rattle.std.proofs.Common.{◌≡◌, ◌+◌, Err, refl, arith, drop, rules}
 use Rattle.envelope.proofs.CheckLaws.{rcpts_start, rcpts_more, rcpts_refused, rcpts_passed, fine_few, fine_end, on_line_ok, on_line_err}
 use Rattle.envelope.proofs.faults.check_rcpts.Goals as goal
 

@@ -1,4 +1,4 @@
-use Rattle.std.proofs.Common.{◌∙◌, rules}
+use Rattle.std.proofs.Common.{◌∙◌}
 use Rattle.envelope.proofs.CheckLaws.{line_many, line_front}
 use Rattle.envelope.proofs.faults.fault_of.Goals as goal
 

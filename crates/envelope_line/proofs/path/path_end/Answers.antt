@@ -1,6 +1,5 @@
 use Rattle.envelope_line.proofs.PathLaws.{path_at, path_end_lem}
 use mathlib.Core.Path.{sym, ◌∙◌}
-use borrow.Author.Rules.{rules}
 use Rattle.envelope_line.proofs.path.path_end.Goals as goal
 
 pub returns-in-Ok : goal.returns-in-Ok

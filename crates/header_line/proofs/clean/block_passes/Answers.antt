@@ -1,4 +1,4 @@
-use Rattle.std.proofs.Common.{sym, ◌∙◌}
+use Rattle.std.proofs.Common.{◌∙◌}
 use Rattle.header_line.specs.CleanLaws.{block_windows}
 use Rattle.header_line.proofs.clean.block_passes.Goals as goal
 

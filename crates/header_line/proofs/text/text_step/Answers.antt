@@ -1,4 +1,4 @@
-use Rattle.std.proofs.Common.{◌≡◌, ◌<◌, ◌≤◌, length, drop, get_or, sym, ◌∙◌, arith, rules, length-drop}
+use Rattle.std.proofs.Common.{drop, sym, ◌∙◌, arith, length-drop}
 use Rattle.utf8.specs.Utf8AtLaws.{char_at_within}
 use Rattle.header_line.specs.LineLaws.{stopped_end, stopped_byte, stopped_char, step_plain, step_one, step_char}
 use Rattle.header_line.proofs.text.text_step.Goals as goal
