@@ -80,7 +80,7 @@ with_fails (Ok tt) n e = absurd (let z : ◌≡◌ {A = ℕ} 0 1 = cc in omega a
 with_fails (Err r) n {refusal} e = let k : r ≡ refusal = cc in ap Err k
 
 -- a walk that found no held field, or one
-module _ {rules : Rules} (h : List ℕ) {s : List ℕ} where
+module _ (rules : Rules) (h s : List ℕ) where
   pub held_absent : {most : ℕ} → (held_of rules s ≡ Absent) × (most ≡ most_of rules s) → Ok most ≡ with_most (of_held h (held_of rules s)) (most_of rules s)
   unfolding with_most of_held
   held_absent l = rw (l.0, l.1)
