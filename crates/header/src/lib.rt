@@ -27,9 +27,6 @@ fn ends_at(h: &[u8], i: usize) -> bool
 pub fn field_end(h: &[u8], at: usize) -> usize
     ensures { result ≡ at + field_len (drop at h.now) }
 {
-    if h.len() <= at {
-        return at;
-    }
     let mut i = line::next_cr(h, at);
     while i < h.len() {
         if ends_at(h, i) {

@@ -2,9 +2,6 @@ use mathlib.Core.Path.{sym, ◌∙◌}
 use Rattle.header.specs.FieldLaws.{field_run, field_stop, field_step, field_none}
 use Rattle.header.proofs.field_end.Goals as goal
 
-pub returns-then-h-at : goal.returns-then-h-at
-returns-then-h-at c = sym (field_none c.args.h.now c.args.at c.if-h-at.true)
-
 pub loop-i-init : goal.loop-i-init
 loop-i-init c = field_run _ _ _ c.next_cr-i.ensures
 
