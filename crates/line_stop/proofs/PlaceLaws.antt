@@ -1,10 +1,9 @@
 -- The scan as code makes it: by places in the text, one byte after another. Over any scanner and limit.
-use Rattle.std.specs.Prelude.{◌≡◌, Bool, true, false, ◌&&◌, List, ◌∷◌, ℕ, suc, ◌+◌, ◌-◌, ◌≤◌, ◌<◌, leb, length, drop, get_or}
+use Rattle.std.specs.Prelude.{◌≡◌, Bool, true, false, ◌&&◌, List, ◌∷◌, ℕ, suc, ◌+◌, ◌-◌, ◌≤◌, ◌<◌, T, leb, length, drop, get_or}
 use Rattle.std.proofs.Math.Path.{sym}
-use Rattle.std.proofs.Math.Bool.{and-false}
 use Rattle.std.proofs.Common.{◌∙◌, arith, drop_of_length-le, drop-cons}
 use Rattle.std.proofs.Math.Numerals.{add-one}
-use Rattle.std.proofs.Math.Facts.{leb_yes, leb_no}
+use Rattle.std.proofs.Math.Facts.{and_yes, leb_yes, leb_no}
 use Rattle.std.proofs.Common.{le-leb}
 use Rattle.std.proofs.lemmas.Bool.{lt-leb}
 use borrow.Author.Tests.{ne_eqb}
@@ -29,9 +28,12 @@ module _ (s : List ℕ) (i : ℕ) where
 
 -- whether a line can still be completed, told by the room that is left
 module _ {S : Type 0} (a : Scanner S) (limit n : ℕ) (s : S) where
-  pub alive_never : limit < n → false ≡ alive a limit n s
+  room : T (alive a limit n s) → n + a.need s ≤ limit
   unfolding alive
-  alive_never h = rw (lt-leb (n + a.need s) limit (omega arith)) (sym (and-false (a.live s)))
+  room t = leb_yes {a = n + a.need s} {b = limit} (and_yes (a.live s) (leb (n + a.need s) limit) t).1
+
+  pub alive_never : limit < n → false ≡ alive a limit n s
+  alive_never h = sym (no_false (alive a limit n s) (by_test (alive a limit n s) (λ t. absurd (omega (arith, room t))) (λ t. t)))
 
   pub alive_room : {live : Bool} {need : ℕ} → n ≤ limit → live ≡ a.live s → need ≡ a.need s → live && leb need (limit - n) ≡ alive a limit n s
   unfolding alive
