@@ -67,10 +67,6 @@ pub clear_start : (value : List ℕ) → value_clear value ≡ clear_all receive
 unfolding value_clear
 clear_start value = refl
 
-pub bytes_start : (value : List ℕ) → rendered (value_segments value) ≡ rendered (becoming received_front (place true true) (drop 0 value))
-unfolding value_segments
-bytes_start value = refl
-
 module _ (at : Place) (s : List ℕ) (i : ℕ) (h : length s ≤ i) where
   pub clear_none : clear_all received_front at (drop i s) ≡ true
   clear_none = clear_over received_front at s i h

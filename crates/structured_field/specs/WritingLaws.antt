@@ -65,14 +65,6 @@ module _ (what : Kind) (token : List ℕ) {comment : Bool} (k : comment ≡ comm
   unfolding becomes rendered
   token_stays e = rw (sym k ∙ e) (sym (append-nil token))
 
-  pub clear_comment : comment ≡ true → true ≡ clear what token
-  unfolding clear
-  clear_comment e = rw (sym k ∙ e)
-
-  pub clear_other : comment ≡ false → all is_ascii token ≡ clear what token
-  unfolding clear
-  clear_other e = rw (sym k ∙ e)
-
 module _ {comments on : Bool} {s : List ℕ} {i e : ℕ} {what : Kind} (h : i < length s) (t : Took comments s i what e) (o : on ≡ goes_on comments what) where
   at_token : At structured_front comments s i e (record { size = e - i; clear = clear what (take (e - i) (drop i s)); becomes = becomes what (take (e - i) (drop i s)); next = on })
   at_token =
@@ -98,11 +90,3 @@ module _ (comments : Bool) (s : List ℕ) (i : ℕ) (h : length s ≤ i) where
 
   pub outside_none : clear_all structured_front comments (drop i s) ≡ true
   outside_none = clear_over structured_front comments s i h
-
--- ---- the field
-
-pub field_added : (name value : List ℕ) {before labelled marked valued after : List ℕ} {at n c v r : ℕ} → length before ≤ greatest
-    → AppendedCapped name at before labelled n → AppendedCapped (58 ∷ []) n labelled marked c → AppendedCapped (rendered (value_segments value)) c marked valued v
-    → AppendedCapped (13 ∷ 10 ∷ []) v valued after r → AppendedCapped (rendered (structured_field name value)) at before after r
-unfolding structured_field
-field_added name value k a b d f = named_added name (value_segments value) k a b d f
