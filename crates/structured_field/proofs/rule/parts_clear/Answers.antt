@@ -1,5 +1,5 @@
 use Rattle.std.proofs.Common.{◌≡◌, ◌∙◌, sym, refl, arith, length}
-use Rattle.structured_field.proofs.rule.all_clear.Goals as goal
+use Rattle.structured_field.proofs.rule.parts_clear.Goals as goal
 
 pub loop-i-init : goal.loop-i-init
 loop-i-init g c = record { rest = rw c.begin-state.ensures refl; room = refl }
