@@ -134,9 +134,9 @@ module _ (rules : Rules) (e h : List ℕ) (room₁ room₂ : ℕ) (q : first_of 
 
 last_accepted : (a b v : Verdict) → first_of (a ∷ b ∷ v ∷ []) ≡ (Ok tt) → v ≡ (Ok tt)
 unfolding first_of
-last_accepted (Ok tt) (Ok tt) (Ok tt) k = refl
-last_accepted (Ok tt) (Ok tt) (Err r) k = k
-last_accepted (Ok tt) (Err r) v k = absurd (let z : ◌≡◌ {A = ℕ} 0 1 = cc in omega arith)
+last_accepted (Ok a) (Ok b) (Ok v) k = refl
+last_accepted (Ok a) (Ok b) (Err r) k = k
+last_accepted (Ok a) (Err r) v k = absurd (let z : ◌≡◌ {A = ℕ} 0 1 = cc in omega arith)
 last_accepted (Err r) b v k = absurd (let z : ◌≡◌ {A = ℕ} 0 1 = cc in omega arith)
 
 accepted_lines : {rules : Rules} {e h : List ℕ} {most : ℕ} → Accepted rules e h most → checked_lines h ≡ Ok tt

@@ -116,11 +116,7 @@ fn non_ascii(rules: Rules, envelope: &[u8], header: &[u8]) -> Result<usize, Refu
 }
 
 // A malformed header line, or else non-ASCII that cannot be passed on; where there is none, the most bytes that are written for the header.
-pub(crate) fn of_content(
-    rules: Rules,
-    envelope: &[u8],
-    header: &[u8],
-) -> Result<usize, Refusal>
+pub(crate) fn of_content(rules: Rules, envelope: &[u8], header: &[u8]) -> Result<usize, Refusal>
     requires { length header.now ≤ 32768 }
     ensures { result ≡ with_most (first_of (of_header (of_lines header.now (checked_lines header.now)) ∷ of_orcpt envelope.now (orcpt_line envelope.now) ∷ of_header (of_held header.now (held_of rules header.now)) ∷ [])) (most_of rules header.now) }
 {

@@ -17,8 +17,8 @@ pub loop-turn-preserved : goal.loop-turn-preserved
 loop-turn-preserved c =
     let k = c.is_word-after.ensures in
     elim c.match-check_turn.branch [
-      in-Ok w ↦ rw (w.found-is, w.length-is) (counting_text c.loop-turn.invariant c.in-Some.ensures k w.in-Ok.ensures)
-    | in-Err w ↦ rw (w.found-is, w.length-is) (counting_fault c.loop-turn.invariant c.in-Some.ensures k _ _ w.in-Err.ensures w.lower.ensures)
+      | in-Ok w ↦ rw (w.found-is, w.length-is) (counting_text c.loop-turn.invariant c.in-Some.ensures k w.in-Ok.ensures)
+      | in-Err w ↦ rw (w.found-is, w.length-is) (counting_fault c.loop-turn.invariant c.in-Some.ensures k _ _ w.in-Err.ensures w.lower.ensures)
     ]
 
 pub returns-in-Some-found : goal.returns-in-Some-found
