@@ -19,17 +19,27 @@ pub(crate) struct Parameterized;
 
 impl ValueRule for Parameterized {
     type State = State;
+
     type Kind = PartKind;
 
     ghost begun = { at_start };
+
     ghost next = { λ state kind. part_next state (is_parameter kind) (converts kind) (token_kind kind) };
+
     ghost took = { λ state s i kind e. TookPart state s i (is_parameter kind) (converts kind) (token_kind kind) e };
+
     ghost passed = { λ _. 0 };
+
     ghost fits = { λ kind part. is_parameter kind ≡ true → converts kind ≡ is_converted part };
+
     ghost clear = { λ kind part. part_clear (is_parameter kind) (token_kind kind) part };
+
     ghost clear_from = { λ state s i. clear_from state (drop i s) };
+
     ghost can_test = { λ n room. (n ≤ 32768) × (n ≤ room) };
+
     ghost bytes = { λ state kind part after. rendered (joined (map item_segments (part_items state (is_parameter kind) (token_kind kind) part after))) };
+
     ghost segments_from = { λ state s i. segments_from state (drop i s) };
 
     fn begin() -> State {
@@ -65,10 +75,16 @@ impl ValueRule for Parameterized {
     }
 
     ghost fits_part = { λ state s i kind e h t. t.conv };
+
     ghost can_less = { less_served };
+
     ghost clear_none = { none_clear };
+
     ghost clear_step = { λ state s i kind e j h t q. clear_passed t j q };
+
     ghost bytes_none = { segments_end };
+
     ghost bytes_step = { λ state s i kind e h t. segments_step t };
+
     ghost bytes_passed = { λ state s i kind e j h t q. none_passed t j q (part_next state (is_parameter kind) (converts kind) (token_kind kind)) };
 }

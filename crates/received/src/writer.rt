@@ -45,17 +45,27 @@ pub(crate) struct Received;
 
 impl ValueRule for Received {
     type State = bool;
+
     type Kind = ReceivedKind;
 
     ghost begun = { true };
+
     ghost next = { goes_on };
+
     ghost took = { Took };
+
     ghost passed = { calm_len };
+
     ghost fits = { λ _ _. ⊤ };
+
     ghost clear = { clear };
+
     ghost clear_from = { λ comments s i. clear_all received_front (place comments (eqb i 0)) (drop i s) };
+
     ghost can_test = { λ _ _. ⊤ };
+
     ghost bytes = { λ _ kind token _. rendered (becomes kind token) };
+
     ghost segments_from = { λ comments s i. becoming received_front (place comments (eqb i 0)) (drop i s) };
 
     fn begin() -> bool {
@@ -91,11 +101,17 @@ impl ValueRule for Received {
     }
 
     ghost fits_part = { λ _ _ _ _ _ _ _. tt };
+
     ghost can_less = { λ _ _ _ _ _. tt };
+
     ghost clear_none = { λ comments s i h. received_clear_none (place comments (eqb i 0)) s i h };
+
     ghost clear_step = { λ comments s i kind e k h t q. received_clear_step h t refl k q refl };
+
     ghost bytes_none = { λ comments s i h. received_bytes_none (place comments (eqb i 0)) s i h };
+
     ghost bytes_step = { λ comments s i kind e h t. received_bytes_step h t refl };
+
     ghost bytes_passed = { λ comments s i kind e k h t q. bytes_calm h t refl k q };
 }
 

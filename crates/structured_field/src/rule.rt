@@ -10,25 +10,32 @@ use structured_token::Token;
 
 pub trait ValueRule {
     type State: Copy;
+
     type Kind: Copy;
 
     // The state in which a value is begun, and the state after a part.
     ghost begun: { Self.State };
+
     ghost next: { Self.State → Self.Kind → Self.State };
 
     // What a part is that was found at a place, and how many bytes after it stay as they came.
     ghost took: { Self.State → List ℕ → ℕ → Self.Kind → ℕ → Type 0 };
+
     ghost passed: { List ℕ → ℕ };
 
     // What a part of a kind is; whether it may stand in a field that is not held, and whether all parts from a place on may; the lengths
     // of a part and of a scratch for that test.
     ghost fits: { Self.Kind → List ℕ → Type 0 };
+
     ghost clear: { Self.Kind → List ℕ → Bool };
+
     ghost clear_from: { Self.State → List ℕ → ℕ → Bool };
+
     ghost can_test: { ℕ → ℕ → Type 0 };
 
     // What becomes of a part before what follows it, and of all parts from a place on.
     ghost bytes: { Self.State → Self.Kind → List ℕ → List ℕ → List ℕ };
+
     ghost segments_from: { Self.State → List ℕ → ℕ → List Segment };
 
     fn begin() -> Self::State
@@ -71,11 +78,17 @@ pub trait ValueRule {
         ensures kept { length scratch.new ≡ length scratch.old };
 
     ghost fits_part: { (state : Self.State) (s : List ℕ) (i : ℕ) (kind : Self.Kind) (e : ℕ) → i < length s → took state s i kind e → fits kind (take (e - i) (drop i s)) };
+
     ghost can_less: { (m n room : ℕ) → m ≤ n → can_test n room → can_test m room };
+
     ghost clear_none: { (state : Self.State) (s : List ℕ) (i : ℕ) → length s ≤ i → clear_from state s i ≡ true };
+
     ghost clear_step: { (state : Self.State) (s : List ℕ) (i : ℕ) (kind : Self.Kind) (e k : ℕ) → i < length s → took state s i kind e → k ≡ e + passed (drop e s) → clear_from state s i ≡ clear kind (take (e - i) (drop i s)) && clear_from (next state kind) s k };
+
     ghost bytes_none: { (state : Self.State) (s : List ℕ) (i : ℕ) → length s ≤ i → rendered (segments_from state s i) ≡ [] };
+
     ghost bytes_step: { (state : Self.State) (s : List ℕ) (i : ℕ) (kind : Self.Kind) (e : ℕ) → i < length s → took state s i kind e → rendered (segments_from state s i) ≡ bytes state kind (take (e - i) (drop i s)) (drop e s) ++ rendered (segments_from (next state kind) s e) };
+
     ghost bytes_passed: { (state : Self.State) (s : List ℕ) (i : ℕ) (kind : Self.Kind) (e k : ℕ) → i < length s → took state s i kind e → k ≡ e + passed (drop e s) → rendered (segments_from (next state kind) s e) ≡ take (k - e) (drop e s) ++ rendered (segments_from (next state kind) s k) };
 }
 
@@ -109,7 +122,15 @@ fn add_value<R: ValueRule>(out: &mut [u8], at: usize, value: &[u8], scratch: &mu
     while i < value.len() {
         let Token { kind, end } = R::part_at(value, i, state);
         let passed = R::passed_end(value, end);
-        let begun = R::add_part(out, next, state, kind, &value[i..end], &value[end..], scratch);
+        let begun = R::add_part(
+            out,
+            next,
+            state,
+            kind,
+            &value[i..end],
+            &value[end..],
+            scratch,
+        );
         next = buffer::add_slice(out, begun, &value[end..passed]);
         state = R::next_state(state, kind);
         i = passed;

@@ -56,17 +56,27 @@ pub(crate) struct Structured;
 
 impl ValueRule for Structured {
     type State = bool;
+
     type Kind = Kind;
 
     ghost begun = { true };
+
     ghost next = { goes_on };
+
     ghost took = { Took };
+
     ghost passed = { calm_len };
+
     ghost fits = { λ _ _. ⊤ };
+
     ghost clear = { clear };
+
     ghost clear_from = { λ comments s i. clear_all structured_front comments (drop i s) };
+
     ghost can_test = { λ _ _. ⊤ };
+
     ghost bytes = { λ _ kind token _. rendered (becomes kind token) };
+
     ghost segments_from = { λ comments s i. becoming structured_front comments (drop i s) };
 
     fn begin() -> bool {
@@ -102,11 +112,17 @@ impl ValueRule for Structured {
     }
 
     ghost fits_part = { λ _ _ _ _ _ _ _. tt };
+
     ghost can_less = { λ _ _ _ _ _. tt };
+
     ghost clear_none = { outside_none };
+
     ghost clear_step = { λ comments s i kind e k h t q. outside_step h t refl k q refl };
+
     ghost bytes_none = { value_none };
+
     ghost bytes_step = { λ comments s i kind e h t. value_step_lem h t refl };
+
     ghost bytes_passed = { λ comments s i kind e k h t q. value_calm h t refl k q };
 }
 
