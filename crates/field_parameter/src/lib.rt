@@ -77,7 +77,10 @@ fn value_end(s: &[u8], at: usize) -> Option<usize>
 fn ends_value(kind: Kind) -> bool
     ensures { result ≡ ends_value kind }
 {
-    matches!(kind, Kind::Comment | Kind::White | Kind::Semicolon | Kind::End)
+    matches!(
+        kind,
+        Kind::Comment | Kind::White | Kind::Semicolon | Kind::End
+    )
 }
 
 // Where the parameter at a place ends.

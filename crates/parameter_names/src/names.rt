@@ -34,6 +34,7 @@ fn is_new(name: &[u8], s: &[u8], at: usize) -> bool
     true
 }
 
+// Kept: beside `keyed_differ`, since one loop for both would look for a key at each name, and handle names that have none.
 fn all_differ(s: &[u8]) -> bool
     ensures { result ≡ distinct (cut_by marked_len s.now) }
 {
