@@ -1,9 +1,10 @@
 // The characters of a word in Q, written into an output buffer.
-ghost use Rattle.std.specs.Prelude.{MatchOption, ◌+◌, ◌≤◌, ◌<◌, length, get_or};
+ghost use Rattle.std.specs.Prelude.{MatchOption, [], ◌∷◌, ◌+◌, ◌≤◌, ◌<◌, length, get_or};
+ghost use Rattle.buffer.specs.Buffer.{Appended};
 ghost use Rattle.word_spelling.specs.HighChar.{HighChar};
 ghost use Rattle.encoded_word.specs.Writing.{PutTurn, PutInQ};
 
-use crate::spelling::{put_byte, put_bytes, put_char, put_escape, put_escapes};
+use crate::spelling::{put_byte, put_char, put_escape, put_escapes};
 use word_spelling::{cost_at, cost_of, first_of, high_size};
 
 // A place in the text, the room that is left in the word, and a place in the output.
@@ -40,6 +41,21 @@ fn put_any(out: &mut [u8], at: usize, left: usize, s: &[u8], i: usize) -> Option
     })
 }
 
+// Four characters. Kept: as `put_escape`.
+fn put_alone(out: &mut [u8], at: usize, a: u8, b: u8, c: u8, d: u8) -> usize
+    requires { at + 4 ≤ length out.old }
+    ensures { Appended (a ∷ b ∷ c ∷ d ∷ []) at out.old out.new result }
+{
+    let second = at + 1;
+    let third = second + 1;
+    let fourth = third + 1;
+    out[at] = a;
+    out[second] = b;
+    out[third] = c;
+    out[fourth] = d;
+    fourth + 1
+}
+
 // An ASCII character, or four that take one character each, where what is left holds them.
 fn put_ascii(out: &mut [u8], at: usize, left: usize, s: &[u8], i: usize) -> Option<Spot>
     requires { (i < length s.now) × (at + left + 2 ≤ length out.old) × (get_or s.now i 0 < 128) }
@@ -54,7 +70,7 @@ fn put_ascii(out: &mut [u8], at: usize, left: usize, s: &[u8], i: usize) -> Opti
         let c = first_of(s[k]);
         let d = first_of(s[l]);
         if (a != 61) & (b != 61) & (c != 61) & (d != 61) {
-            let after = put_bytes(out, at, &[a, b, c, d]);
+            let after = put_alone(out, at, a, b, c, d);
             let next = l + 1;
             let rest = left - 4;
             return Some(Spot {

@@ -17,13 +17,19 @@ pub(crate) fn put_bytes<const N: usize>(out: &mut [u8], at: usize, bytes: &[u8; 
 }
 
 // Writes `=` and two hex digits.
+// Kept: `put_bytes` of an array that is just made takes half as long again, since its bytes are stored one by one and then read together.
 pub(crate) fn put_escape(out: &mut [u8], at: usize, b: u8) -> usize
     requires { at + 3 ≤ length out.old }
     ensures { Appended (escape b) at out.old out.new result }
 {
     let high = hex_digit::digit(b / 16);
     let low = hex_digit::digit(b % 16);
-    put_bytes(out, at, &[b'=', high, low])
+    let second = at + 1;
+    let third = second + 1;
+    out[at] = b'=';
+    out[second] = high;
+    out[third] = low;
+    third + 1
 }
 
 // The same of two bytes.
