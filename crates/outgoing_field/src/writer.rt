@@ -1,5 +1,5 @@
 // What is written for the fields of a header.
-ghost use Rattle.std.specs.Prelude.{◌≡◌, ◌≤◌, length};
+ghost use Rattle.std.specs.Prelude.{◌*◌, ◌≡◌, ◌≤◌, length};
 ghost use Rattle.buffer.specs.Buffer.{AppendedCapped};
 ghost use Rattle.encoded_word.specs.Segments.{rendered};
 ghost use Rattle.outgoing_field.specs.Fate.{comments_or_encapsulated, method_written, field_written, header_written, limited};
@@ -106,22 +106,19 @@ fn add_with(
     }
 }
 
-// A field of at most 1,024 bytes: small buffers take less time to clear.
-fn add_short(out: &mut [u8], at: usize, rules: Rules, method: Method, field: &[u8]) -> usize
-    requires { length field.now ≤ 1024 }
+// A field, its text and its scratch made in buffers of so many bytes: small ones take less time to clear.
+fn add_made<const TEXT: usize, const SCRATCH: usize>(
+    out: &mut [u8],
+    at: usize,
+    rules: Rules,
+    method: Method,
+    field: &[u8],
+) -> usize
+    requires { (length field.now ≤ 32768) × (length field.now ≤ TEXT) × (2 * TEXT ≤ SCRATCH) × (SCRATCH ≤ 65536) }
     ensures { AppendedCapped (rendered (method_written rules method field.now)) at out.old out.new result }
 {
-    let mut made = [0u8; 1024];
-    let mut scratch = [0u8; 2048];
-    add_with(out, at, rules, method, field, &mut made, &mut scratch)
-}
-
-fn add_long(out: &mut [u8], at: usize, rules: Rules, method: Method, field: &[u8]) -> usize
-    requires { length field.now ≤ 32768 }
-    ensures { AppendedCapped (rendered (method_written rules method field.now)) at out.old out.new result }
-{
-    let mut made = [0u8; 32768];
-    let mut scratch = [0u8; 65536];
+    let mut made = [0u8; TEXT];
+    let mut scratch = [0u8; SCRATCH];
     add_with(out, at, rules, method, field, &mut made, &mut scratch)
 }
 
@@ -156,9 +153,9 @@ fn add_non_ascii(out: &mut [u8], at: usize, rules: Rules, method: Method, field:
         }
     }
     if field.len() <= 1024 {
-        return add_short(out, at, rules, method, field);
+        return add_made::<1024, 2048>(out, at, rules, method, field);
     }
-    add_long(out, at, rules, method, field)
+    add_made::<32768, 65536>(out, at, rules, method, field)
 }
 
 fn add_limited(out: &mut [u8], at: usize, rules: Rules, field: &[u8]) -> usize
