@@ -68,6 +68,7 @@ fn all_sizes(rules: Rules, field: &[u8], whole: &[u8]) -> bool {
     true
 }
 
+// Kept: as `verdict` of word_cases.
 fn say_same(rt: &impl Print, same: bool) -> io::Result<()> {
     if same {
         print!(rt; "the same in buffers of 0 to 1024 bytes\r\n")
@@ -94,7 +95,7 @@ fn show(rt: &impl Print, label: &[u8], rules: Rules, field: &[u8]) -> io::Result
     show_written(rt, rules, field)
 }
 
-// A line of the input.
+// A line of the input. Kept: each program has its own columns and calls its own `show`.
 fn show_line(rt: &impl Print, line: &[u8]) -> io::Result<()> {
     if !case_line::is_case(line) {
         return Ok(());
@@ -106,6 +107,7 @@ fn show_line(rt: &impl Print, line: &[u8]) -> io::Result<()> {
     show(rt, case_line::column(line, 0), rules, &field[..n])
 }
 
+// Kept: one loop for all programs would take a closure, and a public function may not require that it can be called.
 fn main(rt: HostRuntime) -> io::Result<()> {
     let input = program_input::read(rt.alloc(), rt.reader(), 65536)?;
     for line in input.split(|b| *b == b'\n') {

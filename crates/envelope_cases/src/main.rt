@@ -7,6 +7,7 @@ use envelope_line::Fault;
 use rules::Rules;
 use std::io;
 
+// Kept: two lines; a public function that prints would have to say what it prints.
 fn verdict(rt: &impl Print, ok: bool) -> io::Result<()> {
     if ok {
         print!(rt; "the same")
@@ -138,7 +139,7 @@ fn show(rt: &impl Print, label: &[u8], rules: Rules, envelope: &[u8]) -> io::Res
     }
 }
 
-// A line of the input.
+// A line of the input. Kept: each program has its own columns and calls its own `show`.
 fn show_line(rt: &impl Print, line: &[u8]) -> io::Result<()> {
     if !case_line::is_case(line) {
         return Ok(());
@@ -150,6 +151,7 @@ fn show_line(rt: &impl Print, line: &[u8]) -> io::Result<()> {
     show(rt, case_line::column(line, 0), rules, &envelope[..n])
 }
 
+// Kept: one loop for all programs would take a closure, and a public function may not require that it can be called.
 fn main(rt: HostRuntime) -> io::Result<()> {
     let input = program_input::read(rt.alloc(), rt.reader(), 65536)?;
     for line in input.split(|b| *b == b'\n') {

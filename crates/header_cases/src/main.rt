@@ -119,6 +119,7 @@ fn show_size(rt: &impl Print, field: &[u8]) -> io::Result<()> {
 }
 
 // A line of the input; where it is a case, the first letter of its kind tells what is shown.
+// Kept: the letter is the case's own column, and each kind takes other columns.
 fn show_line(rt: &impl Print, line: &[u8]) -> io::Result<()> {
     if !case_line::is_case(line) {
         return Ok(());
@@ -136,6 +137,7 @@ fn show_line(rt: &impl Print, line: &[u8]) -> io::Result<()> {
     }
 }
 
+// Kept: one loop for all programs would take a closure, and a public function may not require that it can be called.
 fn main(rt: HostRuntime) -> io::Result<()> {
     let input = program_input::read(rt.alloc(), rt.reader(), 65536)?;
     for line in input.split(|b| *b == b'\n') {

@@ -50,6 +50,7 @@ fn show_line(rt: &impl Print, line: &[u8]) -> io::Result<()> {
     )
 }
 
+// Kept: one loop for all programs would take a closure, and a public function may not require that it can be called.
 fn main(rt: HostRuntime) -> io::Result<()> {
     let input = program_input::read(rt.alloc(), rt.reader(), 65536)?;
     for line in input.split(|b| *b == b'\n') {

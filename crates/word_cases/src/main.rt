@@ -4,6 +4,7 @@
 
 use std::io;
 
+// Kept: two lines; a public function that prints would have to say what it prints.
 fn verdict(rt: &impl Print, ok: bool) -> io::Result<()> {
     if ok {
         print!(rt; "the same")
@@ -81,6 +82,7 @@ fn show_digits(rt: &impl Print, label: &[u8], text: &[u8]) -> io::Result<()> {
 }
 
 // A line of the input; where it is a case, the first letter of its kind tells what is shown.
+// Kept: the letter is the case's own column, and each kind takes other columns.
 fn show_line(rt: &impl Print, line: &[u8]) -> io::Result<()> {
     if !case_line::is_case(line) {
         return Ok(());
@@ -101,6 +103,7 @@ fn show_line(rt: &impl Print, line: &[u8]) -> io::Result<()> {
     }
 }
 
+// Kept: one loop for all programs would take a closure, and a public function may not require that it can be called.
 fn main(rt: HostRuntime) -> io::Result<()> {
     let input = program_input::read(rt.alloc(), rt.reader(), 65536)?;
     for line in input.split(|b| *b == b'\n') {
