@@ -193,17 +193,17 @@ module _ (rules : Rules) (e h b c : List ℕ) where
       rw (over_no 16384 (length e) EnvelopeOver s.0, size_within h s.1, p.envelope, p.header, p.orcpt, p.held, over_no (length b) (length (written e)) (EnvelopeNeeds (length (written e))) k', room_enough (length c) (length (outgoing_header rules e h)) l') (refl, refl, refl, refl)
 
   -- some condition holds
-  record Some : Type 0 where
+  record SomeHolds : Type 0 where
     pub number : ℕ
     pub input : ℕ
     pub place : ℕ
     pub offset : ℕ
     pub given : Given rules e h b c number input place offset
 
-  found : {number input place offset : ℕ} → Given rules e h b c number input place offset → Some
+  found : {number input place offset : ℕ} → Given rules e h b c number input place offset → SomeHolds
   found {number} {input} {place} {offset} g = record { number = number; input = input; place = place; offset = offset; given = g }
 
-  some_room : Passes rules e h → Some
+  some_room : Passes rules e h → SomeHolds
   unfolding outgoing_header
   some_room p =
       let d = passes_downgraded rules e h p in
@@ -229,37 +229,37 @@ module _ (rules : Rules) (e h b c : List ℕ) where
               let enough : 2 ≤ suc m = let k = (envelope_passed rules e m p).0 in omega arith in
               none_refused s.0 s.1 enough (envelope_clean rules e m p r)
 
-          some_held : (held : FirstHeld) → held_of rules h ≡ held → Some
+          some_held : (held : FirstHeld) → held_of rules h ≡ held → SomeHolds
           some_held Absent k = some_room (record { limits = s; recipients = m; envelope = p; header = q; orcpt = r; held = k })
           some_held (HeldAt line at) k =
               found (held_non_ascii clean (header_lines h q).1 (field_held rules h line at k))
 
-        some_orcpt : (orcpt : Option ℕ) → orcpt_line e ≡ orcpt → Some
+        some_orcpt : (orcpt : Option ℕ) → orcpt_line e ≡ orcpt → SomeHolds
         some_orcpt None k = some_held k (held_of rules h) refl
         some_orcpt (Some line) k =
             let x = envelope_orcpt rules e m line p k in
             found (orcpt_non_ascii x.more passed (header_lines h q).1 x.is x.lines x.l x.high)
 
-      some_header : (check : LineCheck) → checked_lines h ≡ check → Some
+      some_header : (check : LineCheck) → checked_lines h ≡ check → SomeHolds
       some_header (Ok tt) k = some_orcpt k (orcpt_line e) refl
       some_header (Err bad) k = found (header_malformed passed (header_malformed_found h bad.line bad.at k))
 
-    some_refused : (fault : Fault) (line : ℕ) → (fault ≡ Malformed → ⊥) → checked rules e ≡ refused fault line → Some
+    some_refused : (fault : Fault) (line : ℕ) → (fault ≡ Malformed → ⊥) → checked rules e ≡ refused fault line → SomeHolds
     some_refused fault line n k =
         let x = envelope_refused rules e fault line n k in
         found (line_refused x.more s.0 s.1 x.is x.lines x.few x.refused)
 
-    some_fault : (fault : Fault) (line : ℕ) → checked rules e ≡ refused fault line → Some
+    some_fault : (fault : Fault) (line : ℕ) → checked rules e ≡ refused fault line → SomeHolds
     some_fault Malformed line k = let x = envelope_malformed_found rules e line k in found (envelope_malformed s.0 s.1 x.front.is x.front.lines x.missing x.at)
     some_fault NoAlternative line k = some_refused NoAlternative line (λ q. absurd (let z : ◌≡◌ {A = ℕ} 0 1 = cc in omega arith)) k
     some_fault BadAlternative line k = some_refused BadAlternative line (λ q. absurd (let z : ◌≡◌ {A = ℕ} 0 1 = cc in omega arith)) k
     some_fault RetiredAlternative line k = some_refused RetiredAlternative line (λ q. absurd (let z : ◌≡◌ {A = ℕ} 0 1 = cc in omega arith)) k
 
-    some_envelope : (check : Result ℕ FaultAt) → checked rules e ≡ check → Some
+    some_envelope : (check : Result ℕ FaultAt) → checked rules e ≡ check → SomeHolds
     some_envelope (Ok count) k = some_header count k (checked_lines h) refl
     some_envelope (Err at) k = some_fault at.fault at.line k
 
-  some : Some
+  some : SomeHolds
   some =
       by_test (ltb 16384 (length e)) (λ t. found (envelope_over (ltb_yes {a = 16384} {b = length e} t)))
       (λ t. let k = ltb_no {a = 16384} {b = length e} t in
