@@ -27,8 +27,8 @@ use Rattle.address_grammar.proofs.AddressFieldLaws.{field_made, field_only}
 use Rattle.structured_field.specs.StructuredField.{ascii_outside_comments, value_segments, structured_field}
 use Rattle.structured_field.proofs.GrammarLaws.{made_reads as structured_reads, reads_made as reads_structured}
 use Rattle.received.specs.Received.{value_clear, lines_fit, passes, received_field}
-use Rattle.received.specs.LinesLaws.{lines_fit_lem, fit_lines}
-use Rattle.received.specs.GrammarLaws.{made_reads as received_reads, reads_made as reads_received}
+use Rattle.received.proofs.FitLaws.{lines_fit_lem, fit_lines}
+use Rattle.received.proofs.GrammarLaws.{made_reads as received_reads, reads_made as reads_received}
 use Rattle.parameterized_field.specs.Value.{segments_from, parameterized_field, passes as parameters_pass}
 use Rattle.parameterized_field.specs.GrammarLaws.{passes_made, made_passes}
 use Rattle.outgoing_field.specs.Fate.{Fate, comments_or_encapsulated, holds, method_written, method_fate, fate_of, segments_of, field_segments, header_segments, is_held, held_from, held_of}

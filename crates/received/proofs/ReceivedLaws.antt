@@ -18,7 +18,7 @@ use Rattle.received_token.proofs.ClauseLaws.{clause_last}
 use Rattle.received_token.specs.Grammar.{Clause}
 use Rattle.received_token.proofs.GrammarLaws.{clause_taken, clause_some}
 use Rattle.received.specs.Grammar.{ReceivedRule}
-use Rattle.received.specs.GrammarLaws.{value_made}
+use Rattle.received.proofs.GrammarLaws.{value_made}
 use Rattle.received.specs.Received.{Place, clause_segments, value_clear, value_segments, received_field, lines_fit, passes}
 
 -- ---- UTF-8 may be cut after a clause, which ends with `>` (62)

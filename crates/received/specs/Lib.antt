@@ -1,6 +1,6 @@
 pub mod Received
 pub mod Grammar
-pub mod GrammarLaws
+pub mod FrontLaws
 pub mod CommentLinesLaws
 pub mod LinesLaws
 pub mod RowLinesLaws

@@ -18,7 +18,7 @@ use Rattle.received_token.specs.declared.ReceivedKind.{ReceivedKind}
 use Rattle.received_token.specs.declared.ReceivedKind.TheVariants.{Comment, Clause, BareFor, Open, Other}
 use Rattle.received.specs.Received.{Place, clear, becomes, received_front, value_clear, value_segments}
 use Rattle.received.specs.Received.Place.{place}
-use Rattle.received.specs.GrammarLaws.{begun, token_front_lem}
+use Rattle.received.specs.FrontLaws.{begun, token_front_lem}
 use Rattle.received.specs.CommentLinesLaws.{comment_bytes}
 
 -- ---- bytes that stay as they came may be passed over together, past the start of the value
