@@ -182,6 +182,9 @@ module _ {value : List ℕ} {i : ℕ} (g : Skipped value i) where
   pub skipped_stop : text_from value i ≡ unfolded_after 0 (drop i value) → TextStart value i
   skipped_stop e = record { inside = g.inside; text = g.same ∙ e }
 
+  pub skipped_end : length value ≤ i → TextStart value i
+  skipped_end k = skipped_stop (step_end value i k)
+
 -- ---- pieces between folds
 
 -- from `at` to e no fold stands

@@ -6,7 +6,7 @@ ghost use Rattle.field_parameter.specs.Parameter.{is_converted};
 ghost use Rattle.parameterized_field.specs.Part.{is_parameter, converts, token_kind};
 ghost use Rattle.parameterized_field.specs.Value.{start as at_start, clear_from, item_segments, segments_from};
 ghost use Rattle.parameterized_field.specs.StepLaws.{TookPart, part_clear, part_items, part_next, segments_step, segments_end};
-ghost use Rattle.parameterized_field.specs.RuleLaws.{tested, less_served, none_clear, clear_passed, none_passed};
+ghost use Rattle.parameterized_field.specs.RuleLaws.{tested, tested_all, less_served, none_clear, clear_passed, none_passed};
 
 use crate::State;
 use crate::held::part_clear;
@@ -81,6 +81,8 @@ impl ValueRule for Parameterized {
     }
 
     ghost fits_part = { λ state s i kind e h t. t.conv };
+
+    ghost tested_all = { λ n room h. tested_all n room h.0 h.1 };
 
     ghost can_less = { less_served };
 

@@ -108,6 +108,8 @@ impl ValueRule for Received {
 
     ghost fits_part = { λ _ _ _ _ _ _ _. tt };
 
+    ghost tested_all = { λ _ _ _. refl };
+
     ghost can_less = { λ _ _ _ _ _. tt };
 
     ghost clear_none = { λ comments s i h. received_clear_none (place comments (eqb i 0)) s i h };

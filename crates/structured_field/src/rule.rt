@@ -87,6 +87,8 @@ pub trait ValueRule {
 
     ghost fits_part: { (state : Self.State) (s : List ℕ) (i : ℕ) (kind : Self.Kind) (e : ℕ) → i < length s → took state s i kind e → fits kind (take (e - i) (drop i s)) };
 
+    ghost tested_all: { (n room : ℕ) → can_test n room → tested n room ≡ n };
+
     ghost can_less: { (m n room : ℕ) → m ≤ n → can_test n room → can_test m room };
 
     ghost clear_none: { (state : Self.State) (s : List ℕ) (i : ℕ) → length s ≤ i → clear_from state s i ≡ true };

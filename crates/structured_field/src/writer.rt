@@ -119,6 +119,8 @@ impl ValueRule for Structured {
 
     ghost fits_part = { λ _ _ _ _ _ _ _. tt };
 
+    ghost tested_all = { λ _ _ _. refl };
+
     ghost can_less = { λ _ _ _ _ _. tt };
 
     ghost clear_none = { outside_none };
