@@ -30,11 +30,14 @@ pub fn put_byte(out: &mut [u8], b: u8) -> usize
 }
 
 // Writes src to the front of out, as far as it fits; answers src's length.
+// Kept: no copy_from_slice, which is compiled to memmove where it is inlined: the archive needs memcpy and memset alone (lib-test).
 pub fn put_slice(out: &mut [u8], src: &[u8]) -> usize
     ensures { Wrote src.now out.old out.new result }
 {
     let n = clip(src.len(), out.len());
-    out[..n].copy_from_slice(&src[..n]);
+    for i in 0..n {
+        out[i] = src[i];
+    }
     src.len()
 }
 
