@@ -1,5 +1,5 @@
 -- A scan goes exactly as far as the bytes at the front are a beginning of an address.
-use Rattle.std.specs.Prelude.{◌≡◌, refl, Bool, true, false, not, cond, ◌&&◌, ◌||◌, List, [], ◌∷◌, ◌++◌, ℕ, zero, suc, ◌+◌, ◌-◌, ◌≤◌, ◌<◌, T, eqb, length, take, drop, get_or}
+use Rattle.std.specs.Prelude.{◌≡◌, refl, Bool, true, false, not, cond, ◌&&◌, ◌||◌, List, [], ◌∷◌, ◌++◌, ℕ, zero, suc, ◌+◌, ◌-◌, ◌≤◌, ◌<◌, T, eqb, length, take, drop, get_or, Result, Ok, Err}
 use Rattle.std.proofs.Common.{sym, ap, ◌∙◌, append-nil, append_assoc, le_of_suc-le-suc, arith, eqb→eq, length-drop, length-append, take-add, length-take-le}
 use Rattle.std.proofs.Math.Facts.{yes_and, eqb_no}
 use Rattle.std.proofs.Math.Seq.{take-nil}
@@ -8,8 +8,6 @@ use Rattle.lists.specs.ListsLaws.{by_test, cond_has, cond_yes, cond_no, yes_true
 use Rattle.lists.specs.Lists.{all}
 use Rattle.lists.specs.Byte.{within}
 use Rattle.lists.specs.Run.{run}
-use Rattle.address.specs.declared.Scan.{Scan}
-use Rattle.address.specs.declared.Scan.TheVariants.{To, Stop}
 use Rattle.address.specs.Address.{later, byte_then, scan_then, is_atext, is_atom_byte, is_quoted_byte, is_literal_byte, dot_atom_end, dot_atom_from, dot_atom_scan, quoted_from, quoted_scan, literal_from, literal_scan, domain_scan, local_scan, address_scan}
 use Rattle.address.specs.TakenLaws.{reach}
 use Rattle.address.specs.Grammar.{DotAtom, Content, QuotedString, LocalPart, Domain, Address}
@@ -18,16 +16,16 @@ use Rattle.address.specs.GrammarLaws.{take_one_more, After, atom_one, atom_step,
 -- ---- no more bytes go on
 
 -- any front of the text that is longer than what a scan passes over decides it
-abbrev Decided : (List ℕ → Scan) → Type 0
+abbrev Decided : (List ℕ → Result ℕ ℕ) → Type 0
 Decided scan = (s t : List ℕ) (n : ℕ) → reach (scan s) < n → n ≤ length s → scan (take n s ++ t) ≡ scan s
 
-reach_later : (k : ℕ) (r : Scan) → reach (later k r) ≡ k + reach r
+reach_later : (k : ℕ) (r : Result ℕ ℕ) → reach (later k r) ≡ k + reach r
 unfolding later
-reach_later k (To n) = refl
-reach_later k (Stop n) = refl
+reach_later k (Ok n) = refl
+reach_later k (Err n) = refl
 
 -- a scan that goes on by one byte where a test of the byte holds, and else ends
-module _ (scan next : List ℕ → Scan) (b : ℕ) (test : Bool) (ends : Scan) (is : (s : List ℕ) → scan (b ∷ s) ≡ cond test (later 1 (next s)) ends) where
+module _ (scan next : List ℕ → Result ℕ ℕ) (b : ℕ) (test : Bool) (ends : Result ℕ ℕ) (is : (s : List ℕ) → scan (b ∷ s) ≡ cond test (later 1 (next s)) ends) where
   decided_step : (s t : List ℕ) (n : ℕ) → ((n : ℕ) → reach (next s) < n → n ≤ length s → next (take n s ++ t) ≡ next s)
       → reach (scan (b ∷ s)) < n → n ≤ length (b ∷ s) → scan (take n (b ∷ s) ++ t) ≡ scan (b ∷ s)
   decided_step s t zero f h k = absurd (omega arith)
@@ -52,37 +50,37 @@ decided_quoted : (escaped : Bool) → Decided (quoted_from escaped)
 unfolding quoted_from
 decided_quoted escaped [] t n h k = absurd (omega arith)
 decided_quoted true (b ∷ s) t n h k =
-    decided_step (quoted_from true) (quoted_from false) b (within 32 126 b) (Stop 0) (λ x. refl) s t n (decided_quoted false s t) h k
+    decided_step (quoted_from true) (quoted_from false) b (within 32 126 b) (Err 0) (λ x. refl) s t n (decided_quoted false s t) h k
 decided_quoted false (b ∷ s) t n h k =
-    let on : List ℕ → Scan = λ x. cond (is_quoted_byte b) (later 1 (quoted_from (eqb b 92) x)) (Stop 0) in
+    let on : List ℕ → Result ℕ ℕ = λ x. cond (is_quoted_byte b) (later 1 (quoted_from (eqb b 92) x)) (Err 0) in
     let more = decided_quoted (eqb b 92) s t in
     by_test (eqb b 34)
-    (λ u. decided_step (quoted_from false) (λ x. Stop 0) b false (To 1) (λ x. cond_yes (eqb b 34) (To 1) (on x) u) s t n (λ m p q. refl) h k)
-    (λ u. decided_step (quoted_from false) (quoted_from (eqb b 92)) b (is_quoted_byte b) (Stop 0) (λ x. cond_no (eqb b 34) (To 1) (on x) u) s t n more h k)
+    (λ u. decided_step (quoted_from false) (λ x. Err 0) b false (Ok 1) (λ x. cond_yes (eqb b 34) (Ok 1) (on x) u) s t n (λ m p q. refl) h k)
+    (λ u. decided_step (quoted_from false) (quoted_from (eqb b 92)) b (is_quoted_byte b) (Err 0) (λ x. cond_no (eqb b 34) (Ok 1) (on x) u) s t n more h k)
 
-literal_cons : (b : ℕ) (s : List ℕ) → literal_from (b ∷ s) ≡ cond (is_literal_byte b) (later 1 (literal_from s)) (cond (eqb b 93) (To 1) (Stop 0))
+literal_cons : (b : ℕ) (s : List ℕ) → literal_from (b ∷ s) ≡ cond (is_literal_byte b) (later 1 (literal_from s)) (cond (eqb b 93) (Ok 1) (Err 0))
 unfolding literal_from run later
 literal_cons b s =
     by_test (is_literal_byte b)
     (λ u. rw (yes_true (is_literal_byte b) u) (go (eqb (get_or s (run is_literal_byte s) 0) 93) (run is_literal_byte s)))
     (λ u. rw (no_false (is_literal_byte b) u))
   where
-    go : (x : Bool) (k : ℕ) → cond x (To (suc k + 1)) (Stop (suc k)) ≡ later 1 (cond x (To (k + 1)) (Stop k))
+    go : (x : Bool) (k : ℕ) → cond x (Ok (suc k + 1)) (Err (suc k)) ≡ later 1 (cond x (Ok (k + 1)) (Err k))
     go true k = let e : suc k + 1 ≡ 1 + (k + 1) = omega arith in rw e
     go false k = let e : suc k ≡ 1 + k = omega arith in rw e
 
 decided_literal : Decided literal_from
 decided_literal [] t n h k = absurd (omega arith)
 decided_literal (b ∷ s) t n h k =
-    decided_step literal_from literal_from b (is_literal_byte b) (cond (eqb b 93) (To 1) (Stop 0)) (literal_cons b) s t n (decided_literal s t) h k
+    decided_step literal_from literal_from b (is_literal_byte b) (cond (eqb b 93) (Ok 1) (Err 0)) (literal_cons b) s t n (decided_literal s t) h k
 
-decided_byte_then : (b : ℕ) (next : List ℕ → Scan) → Decided next → Decided (byte_then b next)
+decided_byte_then : (b : ℕ) (next : List ℕ → Result ℕ ℕ) → Decided next → Decided (byte_then b next)
 unfolding byte_then
 decided_byte_then b next d [] t n h k = absurd (omega arith)
-decided_byte_then b next d (x ∷ s) t n h k = decided_step (byte_then b next) next x (eqb x b) (Stop 0) (λ y. refl) s t n (d s t) h k
+decided_byte_then b next d (x ∷ s) t n h k = decided_step (byte_then b next) next x (eqb x b) (Err 0) (λ y. refl) s t n (d s t) h k
 
 -- a choice by the first byte
-decided_choice : (b : ℕ) (f g : List ℕ → Scan) → Decided f → Decided g → Decided (λ s. cond (eqb (get_or s 0 0) b) (f s) (g s))
+decided_choice : (b : ℕ) (f g : List ℕ → Result ℕ ℕ) → Decided f → Decided g → Decided (λ s. cond (eqb (get_or s 0 0) b) (f s) (g s))
 decided_choice b f g df dg [] t n h k = absurd (omega arith)
 decided_choice b f g df dg (x ∷ s) t zero h k = absurd (omega arith)
 decided_choice b f g df dg (x ∷ s) t (suc n) h k = go (eqb x b) h
@@ -97,15 +95,15 @@ drop_take (suc l) zero s = let e : 0 - suc l ≡ 0 = omega arith in rw e
 drop_take (suc l) (suc n) [] = rw (take-nil (suc n - suc l))
 drop_take (suc l) (suc n) (b ∷ s) = let e : suc n - suc l ≡ n - l = omega arith in rw e (drop_take l n s)
 
-decided_scan_then : (f next : List ℕ → Scan) → Decided f → Decided next → Decided (λ s. scan_then (f s) next s)
+decided_scan_then : (f next : List ℕ → Result ℕ ℕ) → Decided f → Decided next → Decided (λ s. scan_then (f s) next s)
 unfolding scan_then
 decided_scan_then f next df dn s t n h k = go (f s) refl h
   where
-    go : (r : Scan) → f s ≡ r → reach (scan_then r next s) < n → scan_then (f (take n s ++ t)) next (take n s ++ t) ≡ scan_then r next s
-    go (Stop l) e h = rw (df s t n (rw e h) k, e)
-    go (To l) e h =
+    go : (r : Result ℕ ℕ) → f s ≡ r → reach (scan_then r next s) < n → scan_then (f (take n s ++ t)) next (take n s ++ t) ≡ scan_then r next s
+    go (Err l) e h = rw (df s t n (rw e h) k, e)
+    go (Ok l) e h =
         let size : l + reach (next (drop l s)) < n = rw (reach_later l (next (drop l s))) at h in
-        let first : f (take n s ++ t) ≡ To l = df s t n (rw e (omega arith)) k ∙ e in
+        let first : f (take n s ++ t) ≡ Ok l = df s t n (rw e (omega arith)) k ∙ e in
         let rest : drop l (take n s ++ t) ≡ take (n - l) (drop l s) ++ t =
         drop-append-le l (take n s) t (omega (arith, length-take-le n s k)) ∙ ap (λ (x : List ℕ). x ++ t) (drop_take l n s) in
         rw (first, rest, dn (drop l s) t (n - l) (omega arith) (omega (arith, length-drop l s)))
@@ -130,11 +128,11 @@ record Starts (N : List ℕ → Type 0) (t : List ℕ) : Type 0 where
   is : N (t ++ rest)
 
 -- the bytes that a scan passes over start what it looks for
-abbrev Begun : (List ℕ → Type 0) → (List ℕ → Scan) → Type 0
+abbrev Begun : (List ℕ → Type 0) → (List ℕ → Result ℕ ℕ) → Type 0
 Begun N scan = (s : List ℕ) → Starts N (take (reach (scan s)) s)
 
 -- one byte more
-starts_more : {N : List ℕ → Type 0} (b : ℕ) (s : List ℕ) (r : Scan) (rest : List ℕ) → N (b ∷ (take (reach r) s ++ rest)) → Starts N (take (reach (later 1 r)) (b ∷ s))
+starts_more : {N : List ℕ → Type 0} (b : ℕ) (s : List ℕ) (r : Result ℕ ℕ) (rest : List ℕ) → N (b ∷ (take (reach r) s ++ rest)) → Starts N (take (reach (later 1 r)) (b ∷ s))
 starts_more {N} b s r rest n = rw (take_one_more b s (reach (later 1 r)) (reach r) (reach_later 1 r)) (record { rest = rest; is = n })
 
 starts_weaken : {M N : List ℕ → Type 0} {t : List ℕ} → ((u : List ℕ) → M u → N u) → Starts M t → Starts N t
@@ -169,16 +167,16 @@ begun_quoted true [] = quoted_end true
 begun_quoted false [] = quoted_end false
 begun_quoted true (b ∷ s) =
     let more = begun_quoted false s in
-    cond_has (λ r. Starts (Inside true) (take (reach r) (b ∷ s))) (within 32 126 b) (later 1 (quoted_from false s)) (Stop 0)
+    cond_has (λ r. Starts (Inside true) (take (reach r) (b ∷ s))) (within 32 126 b) (later 1 (quoted_from false s)) (Err 0)
     (λ t. starts_more b s (quoted_from false s) more.rest (inside_escaped b (take (reach (quoted_from false s)) s ++ more.rest) t more.is))
     (λ t. quoted_end true)
 begun_quoted false (b ∷ s) =
     let more = begun_quoted (eqb b 92) s in
     let on = later 1 (quoted_from (eqb b 92) s) in
-    cond_has (λ r. Starts (Inside false) (take (reach r) (b ∷ s))) (eqb b 34) (To 1) (cond (is_quoted_byte b) on (Stop 0))
+    cond_has (λ r. Starts (Inside false) (take (reach r) (b ∷ s))) (eqb b 34) (Ok 1) (cond (is_quoted_byte b) on (Err 0))
     (λ t. record { rest = []; is = record { text = []; content = Content.none; is = rw (eqb→eq b 34 t) } })
     (λ t.
-    cond_has (λ r. Starts (Inside false) (take (reach r) (b ∷ s))) (is_quoted_byte b) on (Stop 0)
+    cond_has (λ r. Starts (Inside false) (take (reach r) (b ∷ s))) (is_quoted_byte b) on (Err 0)
     (λ u. starts_more b s (quoted_from (eqb b 92) s) more.rest (inside_plain b (take (reach (quoted_from (eqb b 92) s)) s ++ more.rest) u (eqb_no {a = b} {b = 34} t) more.is))
     (λ u. quoted_end false))
 
@@ -190,14 +188,14 @@ unfolding literal_from run
 begun_literal [] = literal_end
 begun_literal (b ∷ s) =
     let more = begun_literal s in
-    let close = cond (eqb b 93) (To 1) (Stop 0) in
+    let close = cond (eqb b 93) (Ok 1) (Err 0) in
     rw (literal_cons b s)
     (cond_has (λ r. Starts Closing (take (reach r) (b ∷ s))) (is_literal_byte b) (later 1 (literal_from s)) close
     (λ t.
     starts_more b s (literal_from s) more.rest
     (record { text = b ∷ more.is.text; bytes = yes_and (is_literal_byte b) (all is_literal_byte more.is.text) t more.is.bytes; is = ap (λ (l : List ℕ). b ∷ l) more.is.is }))
     (λ t.
-    cond_has (λ r. Starts Closing (take (reach r) (b ∷ s))) (eqb b 93) (To 1) (Stop 0)
+    cond_has (λ r. Starts Closing (take (reach r) (b ∷ s))) (eqb b 93) (Ok 1) (Err 0)
     (λ u. record { rest = []; is = record { text = []; bytes = tt; is = rw (eqb→eq b 93 u) } })
     (λ u. literal_end)))
 
@@ -207,10 +205,10 @@ record ByteAnd (b : ℕ) (N : List ℕ → Type 0) (t : List ℕ) : Type 0 where
   text : t ≡ b ∷ after
   is : N after
 
-begun_byte_then : (b : ℕ) (next : List ℕ → Scan) (N : List ℕ → Type 0) → Begun N next → Begun (ByteAnd b N) (byte_then b next)
+begun_byte_then : (b : ℕ) (next : List ℕ → Result ℕ ℕ) (N : List ℕ → Type 0) → Begun N next → Begun (ByteAnd b N) (byte_then b next)
 unfolding byte_then
 begun_byte_then b next N f s =
-    cond_has (λ r. Starts (ByteAnd b N) (take (reach r) s)) (eqb (get_or s 0 0) b) (later 1 (next (drop 1 s))) (Stop 0)
+    cond_has (λ r. Starts (ByteAnd b N) (take (reach r) s)) (eqb (get_or s 0 0) b) (later 1 (next (drop 1 s))) (Err 0)
     (λ t. go s t)
     (λ t. none)
   where
@@ -239,13 +237,13 @@ begun_address : Begun Address address_scan
 unfolding address_scan scan_then
 begun_address s = go (local_scan s) refl (begun_local s)
   where
-    go : (r : Scan) → local_scan s ≡ r → Starts LocalPart (take (reach (local_scan s)) s) → Starts Address (take (reach (scan_then r (byte_then 64 domain_scan) s)) s)
-    go (Stop n) e l =
+    go : (r : Result ℕ ℕ) → local_scan s ≡ r → Starts LocalPart (take (reach (local_scan s)) s) → Starts Address (take (reach (scan_then r (byte_then 64 domain_scan) s)) s)
+    go (Err n) e l =
         let first : LocalPart (take n s ++ l.rest) = rw e at l.is in
         record { rest = l.rest ++ (64 ∷ 97 ∷ []); is = rw (← append_assoc (take n s) l.rest (64 ∷ 97 ∷ [])) (Address.address first (Domain.atoms letter)) }
-    go (To n) e l = after n (byte_then 64 domain_scan (drop n s)) (local_sound s n e) (begun_byte_then 64 domain_scan Domain begun_domain (drop n s))
+    go (Ok n) e l = after n (byte_then 64 domain_scan (drop n s)) (local_sound s n e) (begun_byte_then 64 domain_scan Domain begun_domain (drop n s))
       where
-        after : (n : ℕ) (r : Scan) → LocalPart (take n s) → Starts (ByteAnd 64 Domain) (take (reach r) (drop n s)) → Starts Address (take (reach (later n r)) s)
+        after : (n : ℕ) (r : Result ℕ ℕ) → LocalPart (take n s) → Starts (ByteAnd 64 Domain) (take (reach r) (drop n s)) → Starts Address (take (reach (later n r)) s)
         after n r first d =
             let whole : take (reach (later n r)) s ++ d.rest ≡ take n s ++ (64 ∷ d.is.after) =
             ap (λ (k : ℕ). take k s ++ d.rest) (reach_later n r)
@@ -263,7 +261,7 @@ pub record Begins (s : List ℕ) : Type 0 where
 pub reach_longest : (s : List ℕ) (n : ℕ) → reach (address_scan s) < n → n ≤ length s → Begins (take n s) → ⊥
 reach_longest s n h k b =
     let whole = take n s ++ b.rest in
-    let all : address_scan whole ≡ To (length whole) = rw append-nil at (address_complete b.address [] nothing_closed) in
+    let all : address_scan whole ≡ Ok (length whole) = rw append-nil at (address_complete b.address [] nothing_closed) in
     let same : address_scan whole ≡ address_scan s = decided_address s b.rest n h k in
     omega (arith, ap reach (sym same ∙ all), length-append (take n s) b.rest, length-take-le n s k, h)
 

@@ -1,6 +1,6 @@
 -- Laws of what the scans take: within the text, of which bytes, how many at least.
 use Rattle.std.proofs.Math.Path.{◌≡◌}
-use Rattle.std.specs.Prelude.{Bool, true, false, not, cond, ◌&&◌, ◌||◌, List, [], ◌∷◌, ℕ, suc, ◌+◌, ◌-◌, ◌≤◌, ◌<◌, T, eqb, leb, ltb, take, drop, get_or}
+use Rattle.std.specs.Prelude.{Bool, true, false, not, cond, ◌&&◌, ◌||◌, List, [], ◌∷◌, ℕ, suc, ◌+◌, ◌-◌, ◌≤◌, ◌<◌, T, eqb, leb, ltb, take, drop, get_or, Result, Ok, Err}
 use Rattle.std.proofs.Math.Bool.{or-true, or-false}
 use Rattle.std.proofs.Common.{add-zero, eqb→eq, take-append-drop, take-add, take_all, take-suc, get_or-drop, lt-ltb, add-one}
 use native.Mathlib.Omega.{arith}
@@ -16,19 +16,17 @@ use Rattle.lists.specs.Byte.{within, is_ascii}
 use Rattle.lists.specs.ByteLaws.{all_below, below, implies}
 use Rattle.lists.specs.Run.{run}
 use Rattle.lists.specs.RunLaws.{run_le, run_all}
-use Rattle.address.specs.declared.Scan.{Scan}
-use Rattle.address.specs.declared.Scan.TheVariants.{To, Stop}
 use Rattle.address.specs.Address.{later, byte_then, scan_then, is_high, is_atext, is_atom_byte, is_quoted_byte, is_literal_byte, dot_atom_end, dot_atom_from, dot_atom_scan, quoted_from, quoted_scan, literal_from, literal_scan, domain_scan, local_scan, address_scan, takes_all, is_address, is_ascii_address}
 
 -- the place that a scan answers
-abbrev pub reach : Scan → ℕ
-reach (To n) = n
-reach (Stop n) = n
+abbrev pub reach : Result ℕ ℕ → ℕ
+reach (Ok n) = n
+reach (Err n) = n
 
 -- what a scan finds has so many bytes at least
-abbrev pub AtLeast : ℕ → Scan → Type 0
-AtLeast k (To n) = k ≤ n
-AtLeast k (Stop n) = Unit {0}
+abbrev pub AtLeast : ℕ → Result ℕ ℕ → Type 0
+AtLeast k (Ok n) = k ≤ n
+AtLeast k (Err n) = Unit {0}
 
 -- The first n bytes are there, and each is 32 to 126 or not ASCII: none is CR, LF, TAB or NUL.
 pub record Covers (s : List ℕ) (n : ℕ) : Type 0 where
@@ -36,7 +34,7 @@ pub record Covers (s : List ℕ) (n : ℕ) : Type 0 where
   pub bytes : T (all is_quoted_byte (take n s))
 
 -- A scan of a text passes over bytes of it, and finds a thing of so many bytes at least, or none.
-pub record Taken (least : ℕ) (s : List ℕ) (r : Scan) : Type 0 where
+pub record Taken (least : ℕ) (s : List ℕ) (r : Result ℕ ℕ) : Type 0 where
   pub covers : Covers s (reach r)
   pub some : AtLeast least r
 
@@ -80,33 +78,33 @@ covers_then {s} {k} {n} a b = record {
   bytes = rw (take-add k n s) (all_append is_quoted_byte (take k s) (take n (drop k s)) a.bytes b.bytes);
 }
 
-taken_stop : {least n : ℕ} {s : List ℕ} → Covers s n → Taken least s (Stop n)
+taken_stop : {least n : ℕ} {s : List ℕ} → Covers s n → Taken least s (Err n)
 taken_stop c = record { covers = c; some = tt }
 
-taken_to : {least n : ℕ} {s : List ℕ} → Covers s n → least ≤ n → Taken least s (To n)
+taken_to : {least n : ℕ} {s : List ℕ} → Covers s n → least ≤ n → Taken least s (Ok n)
 taken_to c h = record { covers = c; some = h }
 
-taken_later : {least more k : ℕ} {s : List ℕ} → Covers s k → (r : Scan) → Taken more (drop k s) r → least ≤ k + more → Taken least s (later k r)
+taken_later : {least more k : ℕ} {s : List ℕ} → Covers s k → (r : Result ℕ ℕ) → Taken more (drop k s) r → least ≤ k + more → Taken least s (later k r)
 unfolding later
-taken_later c (To n) t h = record { covers = covers_then c t.covers; some = omega (arith, t.some, h) }
-taken_later c (Stop n) t h = record { covers = covers_then c t.covers; some = tt }
+taken_later c (Ok n) t h = record { covers = covers_then c t.covers; some = omega (arith, t.some, h) }
+taken_later c (Err n) t h = record { covers = covers_then c t.covers; some = tt }
 
 -- a byte that is not 0 stands at the front
 front_byte : (s : List ℕ) (b : ℕ) → T (eqb (get_or s 0 0) (suc b)) → T (is_quoted_byte (suc b)) → Covers s 1
 front_byte [] b t q = absurd (omega (arith, eqb→eq 0 (suc b) t))
 front_byte (x ∷ s) b t q = covers_byte x s (rw (eqb→eq x (suc b) t) q)
 
-taken_byte_then : (b more : ℕ) (next : List ℕ → Scan) → T (is_quoted_byte (suc b)) → ((s : List ℕ) → Taken more s (next s)) → (s : List ℕ) → Taken (1 + more) s (byte_then (suc b) next s)
+taken_byte_then : (b more : ℕ) (next : List ℕ → Result ℕ ℕ) → T (is_quoted_byte (suc b)) → ((s : List ℕ) → Taken more s (next s)) → (s : List ℕ) → Taken (1 + more) s (byte_then (suc b) next s)
 unfolding byte_then
 taken_byte_then b more next q f s =
-    cond_has (Taken (1 + more) s) (eqb (get_or s 0 0) (suc b)) (later 1 (next (drop 1 s))) (Stop 0)
+    cond_has (Taken (1 + more) s) (eqb (get_or s 0 0) (suc b)) (later 1 (next (drop 1 s))) (Err 0)
     (λ t. taken_later (front_byte s b t q) (next (drop 1 s)) (f (drop 1 s)) (omega arith))
     (λ t. taken_stop (covers_none s))
 
-taken_scan_then : {least more : ℕ} (r : Scan) (next : List ℕ → Scan) (s : List ℕ) → Taken least s r → ((s : List ℕ) → Taken more s (next s)) → Taken (least + more) s (scan_then r next s)
+taken_scan_then : {least more : ℕ} (r : Result ℕ ℕ) (next : List ℕ → Result ℕ ℕ) (s : List ℕ) → Taken least s r → ((s : List ℕ) → Taken more s (next s)) → Taken (least + more) s (scan_then r next s)
 unfolding scan_then
-taken_scan_then (To n) next s t f = taken_later t.covers (next (drop n s)) (f (drop n s)) (omega (arith, t.some))
-taken_scan_then (Stop n) next s t f = taken_stop t.covers
+taken_scan_then (Ok n) next s t f = taken_later t.covers (next (drop n s)) (f (drop n s)) (omega (arith, t.some))
+taken_scan_then (Err n) next s t f = taken_stop t.covers
 
 -- ---- each scan
 
@@ -144,16 +142,16 @@ taken_quoted_from true [] = taken_stop (covers_none [])
 taken_quoted_from false [] = taken_stop (covers_none [])
 taken_quoted_from true (b ∷ s) =
     let rest = taken_quoted_from false s in
-    cond_has (Taken 1 (b ∷ s)) (within 32 126 b) (later 1 (quoted_from false s)) (Stop 0)
+    cond_has (Taken 1 (b ∷ s)) (within 32 126 b) (later 1 (quoted_from false s)) (Err 0)
     (λ t. taken_later (covers_byte b s (visible_quoted b t)) (quoted_from false s) rest (omega arith))
     (λ t. taken_stop (covers_none (b ∷ s)))
 taken_quoted_from false (b ∷ s) =
     let rest = taken_quoted_from (eqb b 92) s in
-    let more = cond (is_quoted_byte b) (later 1 (quoted_from (eqb b 92) s)) (Stop 0) in
-    cond_has (Taken 1 (b ∷ s)) (eqb b 34) (To 1) more
+    let more = cond (is_quoted_byte b) (later 1 (quoted_from (eqb b 92) s)) (Err 0) in
+    cond_has (Taken 1 (b ∷ s)) (eqb b 34) (Ok 1) more
     (λ t. taken_to (covers_byte b s (rw (eqb→eq b 34 t) (visible_quoted 34 tt))) (omega arith))
     (λ t.
-    cond_has (Taken 1 (b ∷ s)) (is_quoted_byte b) (later 1 (quoted_from (eqb b 92) s)) (Stop 0)
+    cond_has (Taken 1 (b ∷ s)) (is_quoted_byte b) (later 1 (quoted_from (eqb b 92) s)) (Err 0)
     (λ u. taken_later (covers_byte b s u) (quoted_from (eqb b 92) s) rest (omega arith))
     (λ u. taken_stop (covers_none (b ∷ s))))
 
@@ -166,7 +164,7 @@ unfolding literal_from
 taken_literal_from s =
     let n = run is_literal_byte s in
     let run_covers : Covers s n = record { within = run_le is_literal_byte s; bytes = all_weaken is_literal_byte is_quoted_byte literal_quoted (take n s) (run_all is_literal_byte s) } in
-    cond_has (Taken 1 s) (eqb (get_or s n 0) 93) (To (n + 1)) (Stop n)
+    cond_has (Taken 1 s) (eqb (get_or s n 0) 93) (Ok (n + 1)) (Err n)
     (λ t. taken_to (covers_then run_covers (front_byte (drop n s) 92 (rw (get_or-drop n s 0 0, add-zero) t) (visible_quoted 93 tt))) (omega arith))
     (λ t. taken_stop run_covers)
 
@@ -175,9 +173,9 @@ unfolding literal_scan
 taken_literal = taken_byte_then 90 1 literal_from (visible_quoted 91 tt) taken_literal_from
 
 -- a longer thing is one of at least fewer bytes
-taken_fewer : {least more : ℕ} {s : List ℕ} (r : Scan) → Taken more s r → least ≤ more → Taken least s r
-taken_fewer (To n) t h = record { covers = t.covers; some = omega (arith, t.some, h) }
-taken_fewer (Stop n) t h = record { covers = t.covers; some = tt }
+taken_fewer : {least more : ℕ} {s : List ℕ} (r : Result ℕ ℕ) → Taken more s r → least ≤ more → Taken least s r
+taken_fewer (Ok n) t h = record { covers = t.covers; some = omega (arith, t.some, h) }
+taken_fewer (Err n) t h = record { covers = t.covers; some = tt }
 
 pub taken_domain : (s : List ℕ) → Taken 1 s (domain_scan s)
 unfolding domain_scan
@@ -203,13 +201,13 @@ pub record Found (least : ℕ) (s : List ℕ) (i n : ℕ) : Type 0 where
   pub within : n ≤ length s
   pub bytes : T (all is_quoted_byte (take (n - i) (drop i s)))
 
-module _ {least : ℕ} (s : List ℕ) (i : ℕ) (r : Scan) (t : Taken (suc least) (drop i s) r) where
-  pub found : (n : ℕ) → To n ≡ later i r → Found (suc least) s i n
+module _ {least : ℕ} (s : List ℕ) (i : ℕ) (r : Result ℕ ℕ) (t : Taken (suc least) (drop i s) r) where
+  pub found : (n : ℕ) → Ok n ≡ later i r → Found (suc least) s i n
   unfolding later
   found n e = go r t e
     where
-      go : (r : Scan) → Taken (suc least) (drop i s) r → To n ≡ later i r → Found (suc least) s i n
-      go (To m) t e =
+      go : (r : Result ℕ ℕ) → Taken (suc least) (drop i s) r → Ok n ≡ later i r → Found (suc least) s i n
+      go (Ok m) t e =
           let place : n ≡ i + m = cc in
           let size : n - i ≡ m = omega arith in
           record {
@@ -217,16 +215,16 @@ module _ {least : ℕ} (s : List ℕ) (i : ℕ) (r : Scan) (t : Taken (suc least
             within = omega (arith, t.some, t.covers.within, length-drop i s);
             bytes = rw size t.covers.bytes;
           }
-      go (Stop m) t e = absurd (let z : ◌≡◌ {A = ℕ} 0 1 = cc in omega arith)
+      go (Err m) t e = absurd (let z : ◌≡◌ {A = ℕ} 0 1 = cc in omega arith)
 
   -- the place where a scan stops is in the text, or its end
-  pub stopped : (n : ℕ) → Stop n ≡ later i r → i ≤ length s → (i ≤ n) × (n ≤ length s)
+  pub stopped : (n : ℕ) → Err n ≡ later i r → i ≤ length s → (i ≤ n) × (n ≤ length s)
   unfolding later
   stopped n e h = go r t e
     where
-      go : (r : Scan) → Taken (suc least) (drop i s) r → Stop n ≡ later i r → (i ≤ n) × (n ≤ length s)
-      go (To m) t e = absurd (let z : ◌≡◌ {A = ℕ} 0 1 = cc in omega arith)
-      go (Stop m) t e = let place : n ≡ i + m = cc in (omega arith, omega (arith, t.covers.within, length-drop i s))
+      go : (r : Result ℕ ℕ) → Taken (suc least) (drop i s) r → Err n ≡ later i r → (i ≤ n) × (n ≤ length s)
+      go (Ok m) t e = absurd (let z : ◌≡◌ {A = ℕ} 0 1 = cc in omega arith)
+      go (Err m) t e = let place : n ≡ i + m = cc in (omega arith, omega (arith, t.covers.within, length-drop i s))
 
 -- ---- ASCII and UTF-8 of a part
 
@@ -251,11 +249,11 @@ utf8_through s n h l k =
 -- ---- a whole address
 
 -- a text that is taken whole is taken
-pub whole_taken : {least : ℕ} (s : List ℕ) (r : Scan) → Taken least s r → T (takes_all r s) → (least ≤ length s) × T (all is_quoted_byte s)
-whole_taken s (To n) t h =
+pub whole_taken : {least : ℕ} (s : List ℕ) (r : Result ℕ ℕ) → Taken least s r → T (takes_all r s) → (least ≤ length s) × T (all is_quoted_byte s)
+whole_taken s (Ok n) t h =
     let size : n ≡ length s = eqb→eq n (length s) h in
     (omega (arith, t.some), rw (size, take-length) at t.covers.bytes)
-whole_taken s (Stop n) t h = absurd h
+whole_taken s (Err n) t h = absurd h
 
 -- an address has at least 3 bytes, each of them 32 to 126 or not ASCII
 pub address_bytes : (s : List ℕ) → T (is_address s) → (3 ≤ length s) × T (all is_quoted_byte s)

@@ -7,14 +7,6 @@ use address_list::Examined;
 use rules::Rules;
 use std::io;
 
-fn say(rt: &impl Print, words: &[u8]) -> io::Result<()> {
-    rt.write_all(words)
-}
-
-fn number(rt: &impl Print, n: usize) -> io::Result<()> {
-    print!(rt; "{n}")
-}
-
 // What becomes of a field.
 fn write(out: &mut [u8], rules: Rules, field: &[u8]) -> usize {
     outgoing_field::add_field(out, 0, rules, field)
@@ -30,27 +22,25 @@ fn examined(rules: Rules, field: &[u8]) -> Examined {
 fn say_byte(rt: &impl Print, b: u8) -> io::Result<()> {
     let one = [b];
     match b {
-        9 => say(rt, b"{TAB}"),
-        10 => say(rt, b"{LF}"),
-        13 => say(rt, b"{CR}"),
-        _ => say(rt, &one),
+        9 => print!(rt; "{{TAB}}"),
+        10 => print!(rt; "{{LF}}"),
+        13 => print!(rt; "{{CR}}"),
+        _ => rt.write_all(&one),
     }
 }
 
 fn say_readably(rt: &impl Print, field: &[u8]) -> io::Result<()> {
-    let mut i = 0;
-    while i < field.len() {
-        say_byte(rt, field[i])?;
-        i += 1;
+    for b in field {
+        say_byte(rt, *b)?;
     }
-    say(rt, b"\r\n")
+    print!(rt; "\r\n")
 }
 
 fn say_examined(rt: &impl Print, examined: Examined) -> io::Result<()> {
     match examined {
-        Examined::DoesNotFit => say(rt, b"does not fit, "),
-        Examined::Kept => say(rt, b"fits, every address kept, "),
-        Examined::Changed => say(rt, b"fits, an address replaced or removed, "),
+        Examined::DoesNotFit => print!(rt; "does not fit, "),
+        Examined::Kept => print!(rt; "fits, every address kept, "),
+        Examined::Changed => print!(rt; "fits, an address replaced or removed, "),
     }
 }
 
@@ -70,21 +60,20 @@ fn fits(rules: Rules, field: &[u8], whole: &[u8], size: usize) -> bool {
 
 // The same of every size up to 1,024.
 fn all_sizes(rules: Rules, field: &[u8], whole: &[u8]) -> bool {
-    let mut size = 0;
-    while size <= 1024 {
+    for size in 0..1025 {
         if !fits(rules, field, whole, size) {
             return false;
         }
-        size += 1;
     }
     true
 }
 
+// Kept: as `verdict` of word_cases.
 fn say_same(rt: &impl Print, same: bool) -> io::Result<()> {
     if same {
-        say(rt, b"the same in buffers of 0 to 1024 bytes\r\n")
+        print!(rt; "the same in buffers of 0 to 1024 bytes\r\n")
     } else {
-        say(rt, b"OTHER in a buffer of 0 to 1024 bytes\r\n")
+        print!(rt; "OTHER in a buffer of 0 to 1024 bytes\r\n")
     }
 }
 
@@ -93,21 +82,20 @@ fn show_written(rt: &impl Print, rules: Rules, field: &[u8]) -> io::Result<()> {
     let mut out = [b'#'; 8192];
     let n = write(&mut out, rules, field);
     let whole = line::part(&out, 0, n);
-    number(rt, n)?;
-    say(rt, b" bytes, ")?;
+    print!(rt; "{n} bytes, ")?;
     say_same(rt, all_sizes(rules, field, whole))?;
-    say(rt, whole)
+    rt.write_all(whole)
 }
 
 fn show(rt: &impl Print, label: &[u8], rules: Rules, field: &[u8]) -> io::Result<()> {
-    say(rt, label)?;
-    say(rt, b"\r\n")?;
+    rt.write_all(label)?;
+    print!(rt; "\r\n")?;
     say_readably(rt, field)?;
     say_examined(rt, examined(rules, field))?;
     show_written(rt, rules, field)
 }
 
-// A line of the input.
+// A line of the input. Kept: each program has its own columns and calls its own `show`.
 fn show_line(rt: &impl Print, line: &[u8]) -> io::Result<()> {
     if !case_line::is_case(line) {
         return Ok(());
@@ -119,17 +107,11 @@ fn show_line(rt: &impl Print, line: &[u8]) -> io::Result<()> {
     show(rt, case_line::column(line, 0), rules, &field[..n])
 }
 
-fn show_lines(rt: &impl Print, cases: &[u8]) -> io::Result<()> {
-    let mut at = 0;
-    while at < cases.len() {
-        let end = case_line::find(cases, at, b'\n');
-        show_line(rt, line::part(cases, at, end))?;
-        at = buffer::place_after(end, 1);
-    }
-    Ok(())
-}
-
+// Kept: one loop for all programs would take a closure, and a public function may not require that it can be called.
 fn main(rt: HostRuntime) -> io::Result<()> {
     let input = program_input::read(rt.alloc(), rt.reader(), 65536)?;
-    show_lines(&rt, &input)
+    for line in input.split(|b| *b == b'\n') {
+        show_line(&rt, line)?;
+    }
+    Ok(())
 }

@@ -1,5 +1,5 @@
 -- Words, phrases and addresses that the grammar makes are found in a text, where what follows does not go on with them.
-use Rattle.std.specs.Prelude.{◌≡◌, refl, Bool, true, false, ◌&&◌, ◌||◌, List, [], ◌∷◌, ◌++◌, ℕ, suc, ◌+◌, ◌≤◌, ◌<◌, T, eqb, length, drop, get_or}
+use Rattle.std.specs.Prelude.{◌≡◌, refl, Bool, true, false, ◌&&◌, ◌||◌, List, [], ◌∷◌, ◌++◌, ℕ, suc, ◌+◌, ◌≤◌, ◌<◌, T, eqb, length, drop, get_or, Result, Ok, Err}
 use Rattle.std.proofs.Common.{sym, ◌∙◌, append_assoc, add-zero, arith, lt-ltb, ne_eqb, length-append, drop_at}
 use Rattle.std.proofs.Math.Bool.{and-false}
 use Rattle.std.proofs.Math.Seq.{drop-append_seam}
@@ -9,8 +9,6 @@ use Rattle.lists.specs.ListsLaws.{cond_has, by_test, yes_true, no_false}
 use Rattle.lists.specs.Run.{run}
 use Rattle.lists.specs.RunLaws.{run_past}
 use Rattle.line.specs.Line.{blank}
-use Rattle.address.specs.declared.Scan.{Scan}
-use Rattle.address.specs.declared.Scan.TheVariants.{To, Stop}
 use Rattle.address.specs.Address.{later, byte_then, scan_then, is_atext, is_atom_byte, dot_atom_end, dot_atom_from, dot_atom_scan, domain_scan, local_scan, address_scan}
 use Rattle.address.specs.Grammar.{Atom, DotAtom, QuotedString, LocalPart, Address as AddressForm}
 use Rattle.address.specs.GrammarLaws.{Closed, quoted_string_complete, address_complete}
@@ -135,11 +133,11 @@ word_found {w} h y a = go h.form h.size
     go (WordForm.run {w} s t) n = rw (no_quote w y s t, run_whole is_word_byte w y t a.word) (sym (capped_in _ n))
 
 -- a word and what follows it are no address
-data Ends (n : ℕ) (r : Scan) : Type 0 where
-  to : r ≡ To n → Ends n r
-  stop : (m : ℕ) → r ≡ Stop m → Ends n r
+data Ends (n : ℕ) (r : Result ℕ ℕ) : Type 0 where
+  to : r ≡ Ok n → Ends n r
+  stop : (m : ℕ) → r ≡ Err m → Ends n r
 
-later_ends : (n : ℕ) (r : Scan) → Ends n r → Ends (suc n) (later 1 r)
+later_ends : (n : ℕ) (r : Result ℕ ℕ) → Ends n r → Ends (suc n) (later 1 r)
 unfolding later
 later_ends n r (Ends.to e) = Ends.to (rw e (let k : 1 + n ≡ suc n = omega arith in rw k))
 later_ends n r (Ends.stop m e) = Ends.stop (1 + m) (rw e)
@@ -158,7 +156,7 @@ atoms_end due [] (b ∷ y) h e =
 atoms_end true (b ∷ w) y h e =
     let both = and_yes (is_atom_byte b || eqb b 46) (all is_word_byte w) h in
     rw (and-false (eqb b 46))
-    (cond_has (Ends (suc (length w))) (is_atom_byte b || false) (later 1 (dot_atom_from false (w ++ y))) (Stop 0)
+    (cond_has (Ends (suc (length w))) (is_atom_byte b || false) (later 1 (dot_atom_from false (w ++ y))) (Err 0)
     (λ t. later_ends (length w) _ (atoms_end false w y both.1 e))
     (λ t. Ends.stop 0 refl))
 atoms_end false (b ∷ w) y h e =
@@ -176,7 +174,7 @@ unfolding local_scan dot_atom_scan
 local_ends (WordForm.string (QuotedString.quoted {text} q)) y a = Ends.to (quoted_string_complete (QuotedString.quoted q) y)
 local_ends (WordForm.run {w} s t) y a = rw (no_quote w y s t) (atoms_end true w y t a.word)
 
-no_sign : (w y : List ℕ) → Apart y → (r : Scan) → Ends (length w) r → found (scan_then r (byte_then 64 domain_scan) (w ++ y)) ≡ 0
+no_sign : (w y : List ℕ) → Apart y → (r : Result ℕ ℕ) → Ends (length w) r → found (scan_then r (byte_then 64 domain_scan) (w ++ y)) ≡ 0
 unfolding scan_then byte_then later
 no_sign w y a r (Ends.to e) = rw (e, drop-append_seam w y, a.sign)
 no_sign w y a r (Ends.stop m e) = rw e

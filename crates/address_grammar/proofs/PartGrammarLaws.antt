@@ -1,5 +1,5 @@
 -- The parts of every text are what their kinds say, and joined they are the text.
-use Rattle.std.specs.Prelude.{◌≡◌, refl, Bool, cond, ◌&&◌, List, [], ◌∷◌, ◌++◌, ℕ, zero, suc, pred, ◌+◌, ◌-◌, ◌≤◌, ◌<◌, T, ltb, leb, eqb, length, take, drop, get_or}
+use Rattle.std.specs.Prelude.{◌≡◌, refl, Bool, cond, ◌&&◌, List, [], ◌∷◌, ◌++◌, ℕ, zero, suc, pred, ◌+◌, ◌-◌, ◌≤◌, ◌<◌, T, ltb, leb, eqb, length, take, drop, get_or, Result, Ok, Err}
 use Rattle.std.proofs.Common.{ap, sym, ◌∙◌, append_assoc, append-nil, not-suc-le-zero, add-one, arith, length-append, length-drop, take-append-drop, drop-cons, drop-drop, drop_at, take-add, length-take-le}
 use Rattle.std.proofs.Math.Seq.{drop-append_seam, take-nil, take-append_seam}
 use Rattle.std.proofs.Math.Facts.{and_yes, ltb_yes, leb_yes}
@@ -8,8 +8,6 @@ use Rattle.lists.specs.Lists.{nonempty}
 use Rattle.lists.specs.Run.{run}
 use Rattle.lists.specs.RunLaws.{run_le, run_all}
 use Rattle.line.specs.Line.{blank}
-use Rattle.address.specs.declared.Scan.{Scan}
-use Rattle.address.specs.declared.Scan.TheVariants.{To, Stop}
 use Rattle.address.specs.Address.{quoted_scan, address_scan}
 use Rattle.address.specs.AddressLaws.{byte_within}
 use Rattle.address.specs.GrammarLaws.{quoted_string_sound, address_sound}
@@ -58,17 +56,17 @@ word_made s = capped_some (λ n. WordText (take n s)) (cond (eqb (get_or s 0 0) 
     (λ t. string (quoted_scan s) refl)
     (λ t p h. record { form = WordForm.run (run_some is_word_byte s p) (run_all is_word_byte s); size = size_in _ s h }))
   where
-    string : (r : Scan) → quoted_scan s ≡ r → 0 < found r → found r ≤ 900 → WordText (take (found r) s)
-    string (To n) e p h = record { form = WordForm.string (quoted_string_sound s n e); size = size_in n s h }
-    string (Stop n) e p h = none_some p
+    string : (r : Result ℕ ℕ) → quoted_scan s ≡ r → 0 < found r → found r ≤ 900 → WordText (take (found r) s)
+    string (Ok n) e p h = record { form = WordForm.string (quoted_string_sound s n e); size = size_in n s h }
+    string (Err n) e p h = none_some p
 
 pub address_made : (s : List ℕ) → 0 < address_len s → AddressText (take (address_len s) s)
 unfolding address_len
 address_made s = capped_some (λ n. AddressText (take n s)) (found (address_scan s)) (go (address_scan s) refl)
   where
-    go : (r : Scan) → address_scan s ≡ r → 0 < found r → found r ≤ 900 → AddressText (take (found r) s)
-    go (To n) e p h = record { form = address_sound s n e; size = size_in n s h }
-    go (Stop n) e p h = none_some p
+    go : (r : Result ℕ ℕ) → address_scan s ≡ r → 0 < found r → found r ≤ 900 → AddressText (take (found r) s)
+    go (Ok n) e p h = record { form = address_sound s n e; size = size_in n s h }
+    go (Err n) e p h = none_some p
 
 -- ---- phrases
 

@@ -1,6 +1,6 @@
 -- Laws of the parts of a text, as code finds them by position.
 use Rattle.line.specs.LineLaws.{part_rest}
-use Rattle.std.specs.Prelude.{◌≡◌, refl, true, false, cond, ◌&&◌, not, List, [], ◌∷◌, ℕ, zero, suc, pred, ◌+◌, ◌-◌, ◌≤◌, ◌<◌, ltb, eqb, length, take, drop, get_or}
+use Rattle.std.specs.Prelude.{◌≡◌, refl, true, false, cond, ◌&&◌, not, List, [], ◌∷◌, ℕ, zero, suc, pred, ◌+◌, ◌-◌, ◌≤◌, ◌<◌, ltb, eqb, length, take, drop, get_or, Option, None, Some, unwrap_or}
 use Rattle.std.proofs.Common.{ap, sym, ◌∙◌, zero-le, not-suc-le-zero, arith, drop_of_length-le, length-drop, drop-drop, length-take-le}
 use Rattle.std.proofs.Math.Bool.{and-false}
 use borrow.Author.Tests.{lt-ltb, le-ltb, eq-eqb, ne_eqb}
@@ -139,11 +139,14 @@ module _ (s : List ℕ) (a : ℕ) (q : a ≡ address_len (drop 0 s)) where
 pub took_stray : {d : Front} {t : List ℕ} {r : Front} → r ≡ stray → stray ≡ d → 0 < length t → Took d t r
 took_stray q e h = record { is = q ∙ e; some = rw q (omega arith); within = rw q h; inner = rw q zero-le }
 
+pub took_none : {d : Front} {t : List ℕ} {o : Option Front} → o ≡ None → stray ≡ d → 0 < length t → Took d t (unwrap_or o stray)
+took_none {d} {t} {o} q e h = rw q (took_stray {d = d} {t = t} {r = stray} refl e h)
+
 pub took_as : {d e : Front} {t : List ℕ} {r : Front} → Took d t r → d ≡ e → Took e t r
 took_as w q = record { is = w.is ∙ q; some = w.some; within = w.within; inner = w.inner }
 
-pub took_mark : {d : Front} {t : List ℕ} {r : Front} (k : PartKind) → inner_end k ≡ 0 → r ≡ front k 1 → front k 1 ≡ d → 0 < length t → Took d t r
-took_mark k z q e h = record { is = q ∙ e; some = rw q (omega arith); within = rw q h; inner = rw (q, z) zero-le }
+pub took_mark : {d : Front} {t : List ℕ} {o : Option Front} (k : PartKind) → inner_end k ≡ 0 → o ≡ Some (front k 1) → front k 1 ≡ d → 0 < length t → Took d t (unwrap_or o stray)
+took_mark {d} {t} k z q e h = let took : Took d t (front k 1) = record { is = e; some = omega arith; within = h; inner = rw z zero-le } in rw q took
 
 module _ (rules : Rules) (t : List ℕ) where
   pub part_blank : blank (get_or t 0 0) ≡ true → front Blank 1 ≡ part_at rules t

@@ -8,7 +8,7 @@ pub use list::examine;
 pub use part::part_from;
 
 // A part of an address field's text.
-#[derive(Clone, Copy)]
+#[derive(Clone, Copy, Debug, PartialEq, Eq)]
 pub enum PartKind {
     Blank,
     Comment,
@@ -26,14 +26,14 @@ pub enum PartKind {
 }
 
 // The part at the front of a text, with its length.
-#[derive(Clone, Copy)]
+#[derive(Clone, Copy, Debug, PartialEq, Eq)]
 pub struct Front {
     pub kind: PartKind,
     pub size: usize,
 }
 
 // The state of a walk over the parts: what is due, or what stands before.
-#[derive(Clone, Copy)]
+#[derive(Clone, Copy, Debug, PartialEq, Eq)]
 pub enum State {
     ItemDue,
     ItemNamed,
@@ -46,7 +46,7 @@ pub enum State {
 }
 
 // Whether a text fits; and then whether each address is kept, or any is replaced or removed.
-#[derive(Clone, Copy)]
+#[derive(Clone, Copy, Debug, PartialEq, Eq)]
 pub enum Examined {
     DoesNotFit,
     Kept,

@@ -1,5 +1,5 @@
 // The parts of an address field's text.
-ghost use Rattle.std.specs.Prelude.{◌≡◌, ◌+◌, ◌≤◌, ◌<◌, length};
+ghost use Rattle.std.specs.Prelude.{◌≡◌, ◌+◌, ◌≤◌, ◌<◌, length, unwrap_or};
 ghost use Rattle.address_list.specs.Parts.{alternative_at, angled_at, comment_at, named_at, part_at, stray, Took, TookFrom};
 
 use crate::{Front, PartKind};
@@ -8,148 +8,113 @@ use line::{blanks_end, byte_at};
 use phrase::{address_len, phrase_len};
 use rules::Rules;
 
-fn stray() -> Front
-    ensures { result ≡ stray }
-{
-    Front {
-        kind: PartKind::Stray,
-        size: 1,
-    }
-}
+const STRAY: Front = Front {
+    kind: PartKind::Stray,
+    size: 1,
+};
 
 // `<address <alternative>>` at the front: its first address is from a to b.
-fn alternative(t: &[u8], a: usize, b: usize) -> Front
+fn alternative(t: &[u8], a: usize, b: usize) -> Option<Front>
     requires { (a ≤ b) × ((b ≤ length t.now) × (0 < length t.now)) }
-    ensures { Took (alternative_at t.now a b) t.now result }
+    ensures { Took (alternative_at t.now a b) t.now (unwrap_or result stray) }
 {
     let inner = blanks_end(t, b);
     if inner == b {
-        return stray();
+        return None;
     }
     if utf8::is_ascii(&t[a..b]) {
-        return stray();
+        return None;
     }
     if byte_at(t, inner) != b'<' {
-        return stray();
+        return None;
     }
     let start = blanks_end(t, inner + 1);
-    let size = address_len(t, start);
-    if size == 0 {
-        return stray();
-    }
+    let size = address_len(t, start)?;
     let end = start + size;
     if byte_at(t, end) != b'>' {
-        return stray();
+        return None;
     }
     if byte_at(t, end + 1) != b'>' {
-        return stray();
+        return None;
     }
-    if utf8::is_ascii(&t[start..end]) {
-        return Front {
-            kind: PartKind::Alternative(start, size),
-            size: end + 2,
-        };
+    if !utf8::is_ascii(&t[start..end]) {
+        return None;
     }
-    stray()
+    let kind = PartKind::Alternative(start, size);
+    let size = end + 2;
+    Some(Front { kind, size })
 }
 
 // `<address>` at the front, or with an alternative where the rules allow it.
-fn angled(t: &[u8], rules: Rules) -> Front
+fn angled(t: &[u8], rules: Rules) -> Option<Front>
     requires { 0 < length t.now }
-    ensures { Took (angled_at rules t.now) t.now result }
+    ensures { Took (angled_at rules t.now) t.now (unwrap_or result stray) }
 {
     let start = blanks_end(t, 1);
-    let size = address_len(t, start);
-    if size == 0 {
-        return stray();
-    }
+    let size = address_len(t, start)?;
     let end = start + size;
     if byte_at(t, end) == b'>' {
-        return Front {
-            kind: PartKind::Angled(start, size),
-            size: end + 1,
-        };
+        let kind = PartKind::Angled(start, size);
+        let size = end + 1;
+        return Some(Front { kind, size });
     }
     if !rules::allows_alternative(rules) {
-        return stray();
+        return None;
     }
     alternative(t, start, end)
 }
 
 // The comment at the front, where it is closed and no run of it is too long.
-fn commented(t: &[u8]) -> Front
+fn commented(t: &[u8]) -> Option<Front>
     requires { 0 < length t.now }
-    ensures { Took (comment_at t.now) t.now result }
+    ensures { Took (comment_at t.now) t.now (unwrap_or result stray) }
 {
-    let size = comment_end(t, 0);
-    if size == 0 {
-        return stray();
-    }
+    let size = comment_end(t, 0)?;
     if !parts_fit(&t[..size]) {
-        return stray();
+        return None;
     }
-    Front {
-        kind: PartKind::Comment,
-        size: size,
-    }
+    let kind = PartKind::Comment;
+    Some(Front { kind, size })
 }
 
 // A bare address at the front, or else a phrase.
-fn named(t: &[u8]) -> Front
+fn named(t: &[u8]) -> Option<Front>
     requires { 0 < length t.now }
-    ensures { Took (named_at t.now) t.now result }
+    ensures { Took (named_at t.now) t.now (unwrap_or result stray) }
 {
-    let address = address_len(t, 0);
-    if address != 0 {
-        return Front {
-            kind: PartKind::Address,
-            size: address,
-        };
+    if let Some(size) = address_len(t, 0) {
+        let kind = PartKind::Address;
+        return Some(Front { kind, size });
     }
-    let phrase = phrase_len(t);
-    if phrase != 0 {
-        return Front {
-            kind: PartKind::Phrase,
-            size: phrase,
-        };
-    }
-    stray()
+    let size = phrase_len(t)?;
+    let kind = PartKind::Phrase;
+    Some(Front { kind, size })
 }
 
-fn mark(kind: PartKind) -> Front
-    ensures { result ≡ record { kind = kind; size = 1 } }
+// A part of one byte.
+fn mark(kind: PartKind) -> Option<Front>
+    ensures { result ≡ Some (record { kind = kind; size = 1 }) }
 {
-    Front {
-        kind: kind,
-        size: 1,
-    }
+    Some(Front { kind, size: 1 })
 }
 
 // The part at the front.
-fn part_at(t: &[u8], rules: Rules) -> Front
+fn part_at(t: &[u8], rules: Rules) -> Option<Front>
     requires { 0 < length t.now }
-    ensures { Took (part_at rules t.now) t.now result }
+    ensures { Took (part_at rules t.now) t.now (unwrap_or result stray) }
 {
     let first = t[0];
     if line::is_blank(first) {
         return mark(PartKind::Blank);
     }
-    if first == b',' {
-        return mark(PartKind::Comma);
+    match first {
+        b',' => mark(PartKind::Comma),
+        b':' => mark(PartKind::Colon),
+        b';' => mark(PartKind::Semicolon),
+        b'<' => angled(t, rules),
+        b'(' => commented(t),
+        _ => named(t),
     }
-    if first == b':' {
-        return mark(PartKind::Colon);
-    }
-    if first == b';' {
-        return mark(PartKind::Semicolon);
-    }
-    if first == b'<' {
-        return angled(t, rules);
-    }
-    if first == b'(' {
-        return commented(t);
-    }
-    named(t)
 }
 
 // The part at a place of a text; past its end a stray byte.
@@ -157,7 +122,7 @@ pub fn part_from(s: &[u8], at: usize, rules: Rules) -> Front
     ensures { TookFrom rules s.now at result }
 {
     if s.len() <= at {
-        return stray();
+        return STRAY;
     }
-    part_at(&s[at..], rules)
+    part_at(&s[at..], rules).unwrap_or(STRAY)
 }

@@ -1,5 +1,5 @@
 -- How long a rewritten address field can be.
-use Rattle.std.specs.Prelude.{Bool, false, cond, ℕ, zero, suc, pred, ◌+◌, ◌-◌, ◌*◌, ◌≤◌, ◌<◌, T, leb, take, drop}
+use Rattle.std.specs.Prelude.{Bool, false, cond, ℕ, zero, suc, pred, ◌+◌, ◌-◌, ◌*◌, ◌≤◌, ◌<◌, T, leb, take, drop, Result, Ok, Err}
 use Rattle.std.proofs.Math.Bool.{true}
 use mathlib.Core.List.{List, [], ◌∷◌, map}
 use Rattle.std.proofs.Common.{zero-le, arith, not-suc-le-zero, length-drop, length-take, length-append}
@@ -20,8 +20,6 @@ use Rattle.encoded_word.specs.Segments.Segment.{words}
 use Rattle.field.specs.Field.{encoded_field}
 use Rattle.field.proofs.FieldLaws.{length_encoded, length_named}
 use Rattle.address.specs.AddressLaws.{byte_within}
-use Rattle.address.specs.declared.Scan.{Scan}
-use Rattle.address.specs.declared.Scan.TheVariants.{To, Stop}
 use Rattle.address.specs.Address.{address_scan}
 use Rattle.address.specs.TakenLaws.{Taken, taken_address}
 use Rattle.phrase.specs.Words.{found, capped, address_len, phrase_len}
@@ -135,9 +133,9 @@ front_length : (n m : ℕ) (s : List ℕ) → m ≤ n → m ≤ length s → m �
 front_length n m s h k = omega (arith, length-take n s)
 
 -- an address has at least 3 bytes, all of them in the text
-found_least : {s : List ℕ} (r : Scan) → Taken 3 s r → 0 < found r → (3 ≤ found r) × (found r ≤ length s)
-found_least (To n) t h = (t.some, t.covers.within)
-found_least (Stop n) t h = absurd (not-suc-le-zero h)
+found_least : {s : List ℕ} (r : Result ℕ ℕ) → Taken 3 s r → 0 < found r → (3 ≤ found r) × (found r ≤ length s)
+found_least (Ok n) t h = (t.some, t.covers.within)
+found_least (Err n) t h = absurd (not-suc-le-zero h)
 
 address_least : (s : List ℕ) → 0 < address_len s → (3 ≤ address_len s) × (address_len s ≤ length s)
 unfolding address_len capped

@@ -17,10 +17,12 @@ use Rattle.address_list.specs.Parts.{inner_end}
 use Rattle.address_list.specs.PartsLaws.{parts_end}
 use Rattle.address_list.specs.declared.PartKind.{PartKind}
 use Rattle.address_list.specs.declared.PartKind.TheVariants.{Blank, Comment, Comma, Colon, Semicolon, Phrase, Address, Angled, Alternative, Stray}
-use Rattle.group.specs.Group.{is_lost, Turn, turns_from, turn_for, parts_at, NextAt}
+use Rattle.group.specs.Group.{is_lost, Turn, turns_from, turn_for, turn_inner, parts_at, NextAt}
 use Rattle.group.specs.Trimmed.{trimmed}
 use Rattle.group.proofs.NestingLaws.{is_removed}
 use Rattle.group.specs.declared.Next.{Next}
+use Rattle.group.specs.declared.TurnKind.{TurnKind}
+use Rattle.group.specs.declared.TurnKind.TheVariants.{OnePart, LostGroup}
 use Rattle.piece.specs.Piece.{piece}
 use Rattle.piece.proofs.PieceLaws.{rendered_one}
 use Rattle.address_pieces.specs.Pieces.{phrase_pieces, removed, in_angles, address_pieces, pieces, turn_pieces, pieces_of}
@@ -77,13 +79,13 @@ module _ (t : List ℕ) where
 -- ---- the pieces of a text, turn by turn
 
 module _ (rules : Rules) (t : List ℕ) where
-  pub turn_group : {lost : Bool} (kind : PartKind) → lost ≡ true → rendered (removed rules (trimmed t)) ≡ rendered (turn_pieces rules (turn_for lost kind t))
+  pub turn_group : {k : TurnKind} → k ≡ LostGroup → rendered (removed rules (trimmed t)) ≡ rendered (turn_pieces rules (turn_for k t))
   unfolding turn_pieces
-  turn_group kind h = rw h
+  turn_group h = rw h
 
-  pub turn_part : {lost : Bool} (kind : PartKind) → lost ≡ false → rendered (pieces rules kind t) ≡ rendered (turn_pieces rules (turn_for lost kind t))
+  pub turn_part : {k : TurnKind} (part : PartKind) → k ≡ OnePart part → rendered (pieces rules part t) ≡ rendered (turn_pieces rules (turn_for k t))
   unfolding turn_pieces
-  turn_part kind h = rw h
+  turn_part part h = rw h
 
 module _ {rules : Rules} {s : List ℕ} {i : ℕ} where
   module _ {r : Next} (w : NextAt rules s i r) where
@@ -91,12 +93,12 @@ module _ {rules : Rules} {s : List ℕ} {i : ℕ} where
     turn_text = take (r.end - r.start) (drop r.start s)
 
     pub turns_step : rendered (pieces_of rules (turns_from false (parts_at rules s i)))
-        ≡ rendered (turn_pieces rules (turn_for r.lost r.kind turn_text)) ++ rendered (pieces_of rules (turns_from false (parts_at rules s r.next)))
+        ≡ rendered (turn_pieces rules (turn_for r.kind turn_text)) ++ rendered (pieces_of rules (turns_from false (parts_at rules s r.next)))
     unfolding pieces_of
-    turns_step = rw w.is (rendered_append (turn_pieces rules (turn_for r.lost r.kind turn_text)) (pieces_of rules (turns_from false (parts_at rules s r.next))))
+    turns_step = rw w.is (rendered_append (turn_pieces rules (turn_for r.kind turn_text)) (pieces_of rules (turns_from false (parts_at rules s r.next))))
 
     -- a part has the address in it, and the scratch can serve it
-    pub turn_fits : (room : ℕ) → length s ≤ 32768 → 2 * length s ≤ room → (length turn_text ≤ 32768) × ((2 * length turn_text ≤ room) × (inner_end r.kind ≤ length turn_text))
+    pub turn_fits : (room : ℕ) → length s ≤ 32768 → 2 * length s ≤ room → (length turn_text ≤ 32768) × ((2 * length turn_text ≤ room) × (turn_inner r.kind ≤ length turn_text))
     turn_fits room k l =
         let size : length turn_text ≡ r.end - r.start = length-take-le (r.end - r.start) (drop r.start s) (omega (arith, w.covers, w.within, length-drop r.start s)) in
         (omega (arith, size, w.covers, w.within), (omega (arith, size, w.covers, w.within), omega (arith, size, w.inner)))

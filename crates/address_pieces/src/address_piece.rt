@@ -1,12 +1,43 @@
 // Pieces: CRLF, space, piece. Each is written to the front of the rest of the output that is lent to it.
-ghost use Rattle.std.specs.Prelude.{map, ◌≤◌, length};
+ghost use Rattle.std.specs.Prelude.{List, ℕ, map, ◌≤◌, length};
 ghost use Rattle.buffer.specs.Buffer.{Wrote};
 ghost use Rattle.rules.specs.Rules.{removal_start, removal_end};
-ghost use Rattle.encoded_word.specs.Segments.{bytes_of, rendered};
-ghost use Rattle.piece.specs.Piece.{piece};
+ghost use Rattle.encoded_word.specs.Segments.{Segment, bytes_of, rendered};
+ghost use Rattle.piece.specs.Piece.{piece, piece as as_it_stands};
 ghost use Rattle.address_pieces.specs.Pieces.{in_angles, removed};
 
 use rules::Rules;
+
+// How an address stands in its piece.
+pub(crate) trait Form {
+    ghost piece: { List ℕ → Segment };
+
+    fn put(out: &mut [u8], address: &[u8]) -> usize
+        requires { length address.now ≤ 32768 }
+        ensures { Wrote (bytes_of (piece address.now)) out.old out.new result };
+}
+
+// A piece that is some bytes as they stand.
+pub(crate) struct Bare;
+
+impl Form for Bare {
+    ghost piece = { as_it_stands };
+
+    fn put(out: &mut [u8], text: &[u8]) -> usize {
+        put_piece(out, text)
+    }
+}
+
+// A piece that is an address in `< >`.
+pub(crate) struct InAngles;
+
+impl Form for InAngles {
+    ghost piece = { in_angles };
+
+    fn put(out: &mut [u8], address: &[u8]) -> usize {
+        put_in_angles(out, address)
+    }
+}
 
 // A piece that is some bytes as they stand.
 pub(crate) fn put_piece(out: &mut [u8], text: &[u8]) -> usize
@@ -31,8 +62,7 @@ fn put_removal_start(out: &mut [u8], rules: Rules) -> usize
     ensures { Wrote (rendered (map piece (removal_start rules))) out.old out.new result }
 {
     match rules {
-        Rules::Spool => put_piece(out, b"Internationalized Address"),
-        Rules::Current => put_piece(out, b"Internationalized Address"),
+        Rules::Spool | Rules::Current => put_piece(out, b"Internationalized Address"),
         Rules::Mailbox => 0,
     }
 }
@@ -42,8 +72,7 @@ fn put_removal_end(out: &mut [u8], rules: Rules) -> usize
     ensures { Wrote (bytes_of (piece (removal_end rules))) out.old out.new result }
 {
     match rules {
-        Rules::Spool => put_piece(out, b"Removed:;"),
-        Rules::Current => put_piece(out, b"Removed:;"),
+        Rules::Spool | Rules::Current => put_piece(out, b"Removed:;"),
         Rules::Mailbox => put_piece(out, b":;"),
     }
 }

@@ -39,8 +39,7 @@ fn add_copy(out: &mut [u8], at: usize, rules: Rules, name: &[u8], text: &[u8]) -
     ensures { AppendedCapped (rendered (copy_of rules name.now text.now)) at out.old out.new result }
 {
     match rules {
-        Rules::Spool => field::add_encoded(out, at, name, text, true),
-        Rules::Current => field::add_encoded(out, at, name, text, true),
+        Rules::Spool | Rules::Current => field::add_encoded(out, at, name, text, true),
         Rules::Mailbox => at,
     }
 }

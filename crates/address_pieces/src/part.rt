@@ -3,32 +3,20 @@ ghost use Rattle.std.specs.Prelude.{◌*◌, ◌≤◌, length};
 ghost use Rattle.buffer.specs.Buffer.{Wrote};
 ghost use Rattle.encoded_word.specs.Segments.{rendered};
 ghost use Rattle.address_list.specs.Parts.{inner_end};
-ghost use Rattle.piece.specs.Piece.{piece};
-ghost use Rattle.address_pieces.specs.Pieces.{in_angles, address_pieces, pieces};
+ghost use Rattle.address_pieces.specs.Pieces.{address_pieces, pieces};
 
-use crate::address_piece::{put_in_angles, put_piece, put_removed};
+use crate::address_piece::{Bare, Form, InAngles, put_in_angles, put_piece, put_removed};
 use crate::phrase_pieces::put_phrase;
 use address_list::PartKind;
 use rules::Rules;
 
-// A bare address.
-fn put_bare(out: &mut [u8], rules: Rules, address: &[u8]) -> usize
+// An address, or what is written in its place.
+fn put_address<F: Form>(out: &mut [u8], rules: Rules, address: &[u8]) -> usize
     requires { length address.now ≤ 32768 }
-    ensures { Wrote (rendered (address_pieces rules piece address.now)) out.old out.new result }
+    ensures { Wrote (rendered (address_pieces rules F.piece address.now)) out.old out.new result }
 {
     if utf8::is_ascii(address) {
-        return put_piece(out, address);
-    }
-    put_removed(out, rules, address)
-}
-
-// An address that stands in `< >`.
-fn put_angled(out: &mut [u8], rules: Rules, address: &[u8]) -> usize
-    requires { length address.now ≤ 32768 }
-    ensures { Wrote (rendered (address_pieces rules in_angles address.now)) out.old out.new result }
-{
-    if utf8::is_ascii(address) {
-        return put_in_angles(out, address);
+        return F::put(out, address);
     }
     put_removed(out, rules, address)
 }
@@ -45,21 +33,20 @@ pub(crate) fn put_part(
     ensures { Wrote (rendered (pieces rules kind t.now)) out.old out.new result }
 {
     match kind {
-        PartKind::Blank => 0,
+        PartKind::Blank | PartKind::Stray => 0,
         PartKind::Comment => piece::put_comment(out, t, scratch),
         PartKind::Comma => buffer::put_byte(out, b','),
         PartKind::Colon => put_piece(out, b":"),
         PartKind::Semicolon => put_piece(out, b";"),
         PartKind::Phrase => put_phrase(out, t, scratch),
-        PartKind::Address => put_bare(out, rules, t),
+        PartKind::Address => put_address::<Bare>(out, rules, t),
         PartKind::Angled(start, size) => {
             let end = start + size;
-            put_angled(out, rules, &t[start..end])
+            put_address::<InAngles>(out, rules, &t[start..end])
         }
         PartKind::Alternative(start, size) => {
             let end = start + size;
             put_in_angles(out, &t[start..end])
         }
-        PartKind::Stray => 0,
     }
 }

@@ -9,6 +9,8 @@ ghost use Rattle.address_pieces.specs.Pieces.{phrase_pieces};
 
 use crate::address_piece::put_piece;
 
+// Kept: what these functions and those of part.rt and turn.rt require of a text and its scratch, as in piece/src/comment_pieces.rt.
+
 // Each word of a phrase as it stands, a piece each.
 fn put_words(out: &mut [u8], phrase: &[u8]) -> usize
     requires { length phrase.now ≤ 32768 }

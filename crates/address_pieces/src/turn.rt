@@ -2,31 +2,24 @@
 ghost use Rattle.std.specs.Prelude.{◌*◌, ◌≤◌, length};
 ghost use Rattle.buffer.specs.Buffer.{Wrote, AppendedCapped};
 ghost use Rattle.encoded_word.specs.Segments.{rendered};
-ghost use Rattle.address_list.specs.Parts.{inner_end, parts_of};
-ghost use Rattle.group.specs.Group.{turn_for, turns_of};
+ghost use Rattle.address_list.specs.Parts.{parts_of};
+ghost use Rattle.group.specs.Group.{turn_for, turn_inner, turns_of};
 ghost use Rattle.address_pieces.specs.Pieces.{turn_pieces, pieces_of};
 
 use crate::address_piece::put_removed;
 use crate::part::put_part;
-use address_list::PartKind;
+use group::TurnKind;
 use rules::Rules;
 
 // The pieces in place of a group that loses a member, from its colon on; or else those of a part.
-fn put_turn(
-    out: &mut [u8],
-    rules: Rules,
-    t: &[u8],
-    lost: bool,
-    kind: PartKind,
-    scratch: &mut [u8],
-) -> usize
-    requires { (length t.now ≤ 32768) × ((2 * length t.now ≤ length scratch.old) × (inner_end kind ≤ length t.now)) }
-    ensures { Wrote (rendered (turn_pieces rules (turn_for lost kind t.now))) out.old out.new result }
+fn put_turn(out: &mut [u8], rules: Rules, t: &[u8], kind: TurnKind, scratch: &mut [u8]) -> usize
+    requires { (length t.now ≤ 32768) × ((2 * length t.now ≤ length scratch.old) × (turn_inner kind ≤ length t.now)) }
+    ensures { Wrote (rendered (turn_pieces rules (turn_for kind t.now))) out.old out.new result }
 {
-    if lost {
-        return put_removed(out, rules, group::trimmed(t));
+    match kind {
+        TurnKind::OnePart(part) => put_part(out, rules, t, part, scratch),
+        TurnKind::LostGroup => put_removed(out, rules, group::trimmed(t)),
     }
-    put_part(out, rules, t, kind, scratch)
 }
 
 // The pieces of a text, turn by turn: the rest of the output is lent on from the place reached.
@@ -44,15 +37,9 @@ pub(crate) fn add_turns(
     let mut i = 0;
     while i < text.len() {
         let turn = group::next_from(text, i, rules);
-        let lost = turn.lost;
-        let kind = turn.kind;
-        let start = turn.start;
-        let end = turn.end;
+        let t = &text[turn.start..turn.end];
         let a = buffer::clip(next, out.len());
-        next = buffer::place_after(
-            next,
-            put_turn(&mut out[a..], rules, &text[start..end], lost, kind, scratch),
-        );
+        next = buffer::place_after(next, put_turn(&mut out[a..], rules, t, turn.kind, scratch));
         i = turn.next;
     }
     next

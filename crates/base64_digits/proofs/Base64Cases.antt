@@ -1,6 +1,6 @@
 -- RFC 4648, section 10, both ways; and what is no base64.
 use Rattle.std.specs.Prelude.{◌≡◌, refl, List, [], ◌∷◌, map, ℕ, take}
-use Rattle.std.proofs.Math.Option.{Option, none, some}
+use Rattle.std.proofs.Math.Option.{none, some}
 use Rattle.base64_digits.specs.Base64.{digit64, in_base64}
 use Rattle.base64_digits.specs.Reading.{is_digit64, value64, from_quad, from_three, from_two, from_last, from_base64}
 

@@ -4,7 +4,7 @@ use Rattle.std.proofs.Math.Path.{refl}
 use Rattle.std.proofs.Common.{sym, ap, ◌∙◌, add-zero, zero-add, add-suc, suc-add, le_of_suc-le-suc, not-suc-le-zero, add-one, arith, drop_of_length-le, length-take, length-drop, drop-cons, drop-drop, take_all}
 use Rattle.buffer.specs.Buffer.{overlay, Appended, AppendedCapped}
 use Rattle.buffer.specs.BufferLaws.{wrote_from, overlay_front, length_overlay, reached_start, reached_then, reached_end}
-use Rattle.base64_digits.specs.Base64.{digit64, in_base64, base64_length}
+use Rattle.base64_digits.specs.Base64.{digit64, in_base64}
 use Rattle.base64_digits.proofs.Base64Laws.{length_base64}
 use Rattle.base64_digits.specs.WritingLaws.{bits_of, digits64, digits_from}
 
@@ -126,3 +126,36 @@ filled {text} {piece} {piece'} w e a =
     let o = wrote_from w in
     let same : text ≡ piece' = sym (overlay_front text piece (omega arith)) ∙ take_all (length text) (overlay text piece) (omega (arith, length_overlay text piece)) ∙ sym o.bytes in
     rw same a
+
+-- the first group of what is left, and the others
+pub quad_front : (rest : List ℕ) {group more : List ℕ} → group ≡ take 3 rest → more ≡ drop 3 rest → 3 ≤ length rest
+    → in_base64 rest ≡ in_base64 (get_or group 0 0 ∷ get_or group 1 0 ∷ get_or group 2 0 ∷ []) ++ in_base64 more
+unfolding in_base64
+quad_front [] e f h = absurd (omega arith)
+quad_front (a ∷ []) e f h = absurd (omega arith)
+quad_front (a ∷ b ∷ []) e f h = absurd (omega arith)
+quad_front (a ∷ b ∷ c ∷ s) e f h = rw (e, f) refl
+
+-- the first five groups
+pub five_front : (rest : List ℕ) {five more : List ℕ} → five ≡ take 15 rest → more ≡ drop 15 rest → 15 ≤ length rest → in_base64 rest ≡ in_base64 five ++ in_base64 more
+five_front rest e f h = rw (e, f) (whole_groups 5 rest (omega arith))
+
+pub five_digits : (rest : List ℕ) {five : List ℕ} → five ≡ take 15 rest → 15 ≤ length rest → length (in_base64 five) ≡ 20
+five_digits rest {five} e h = let size : length five ≡ 15 = rw (e, length-take) (omega arith) in length_base64 five ∙ omega (arith, size)
+
+pub two_left : (s : List ℕ) → length s ≡ 2 → in_base64 s ≡ in_base64 (get_or s 0 0 ∷ get_or s 1 0 ∷ [])
+two_left s h = base64_two s 0 (omega (arith, h))
+
+pub one_left : (s : List ℕ) → length s ≡ 1 → in_base64 s ≡ in_base64 (get_or s 0 0 ∷ [])
+one_left s h = base64_one s 0 (omega (arith, h))
+
+pub none_left : (s : List ℕ) → length s ≤ 0 → in_base64 s ≡ []
+none_left s h = base64_end s 0 h
+
+-- the next group of at most three bytes, as code takes it from what is left
+module _ (rest : List ℕ) {part : List ℕ} {n : ℕ} (some : 0 < length rest) (size : n ≡ min 3 (length rest)) (e : part ≡ take n rest) where
+  pub part_front : {more : List ℕ} → more ≡ drop n rest → in_base64 rest ≡ in_base64 part ++ in_base64 more
+  part_front f = rw (e, f, size) (first_group rest)
+
+  pub part_digits : length (in_base64 part) ≡ 4
+  part_digits = let long : length part ≡ min 3 (length rest) = rw (e, length-take) (omega arith) in length_base64 part ∙ omega (arith, long)

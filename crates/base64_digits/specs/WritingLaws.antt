@@ -1,10 +1,6 @@
 -- Base64 as code writes it: the table of its digits, and the digits of a text from a place on.
-use Rattle.std.specs.Prelude.{◌≡◌, List, [], ◌∷◌, ◌++◌, ℕ, zero, suc, ◌+◌, ◌-◌, ◌*◌, ◌/◌, ◌%◌, ◌≤◌, ◌<◌, min, length, take, drop, get_or}
-use Rattle.std.proofs.Math.Path.{refl}
-use Rattle.std.proofs.Common.{sym, ap, ◌∙◌, add-zero, zero-add, add-suc, suc-add, le_of_suc-le-suc, not-suc-le-zero, add-one, arith, drop_of_length-le, length-take, length-drop, drop-cons, drop-drop, take_all}
-use Rattle.buffer.specs.Buffer.{overlay, Appended, AppendedCapped}
-use Rattle.buffer.specs.BufferLaws.{wrote_from, overlay_front, length_overlay, reached_start, reached_then, reached_end}
-use Rattle.base64_digits.specs.Base64.{digit64, in_base64, base64_length}
+use Rattle.std.specs.Prelude.{List, [], ◌∷◌, ℕ, zero, suc, ◌+◌, ◌*◌}
+use Rattle.base64_digits.specs.Base64.{digit64}
 
 -- ---- a digit
 

@@ -107,19 +107,17 @@ pub fn downgrade(
 )
     ensures { afterwards records.new envelope_buffer.new header_buffer.new ≡ batch rules input.now records.old envelope_buffer.old header_buffer.old }
 {
-    let mut at: usize = 0;
     let mut envelope_at: usize = 0;
     let mut header_at: usize = 0;
-    while 9 <= records.len() - at {
+    for k in 0..records.len() / 9 {
         let answer = downgrade_record(
             rules,
             input,
-            &mut records[at..],
+            &mut records[9 * k..],
             &mut envelope_buffer[envelope_at..],
             &mut header_buffer[header_at..],
         );
         envelope_at += answer.envelope_len;
         header_at += answer.header_len;
-        at += 9;
     }
 }

@@ -6,17 +6,11 @@ ghost use Rattle.std.specs.Prelude.{◌≤◌, length};
 
 use std::io;
 
-fn say(rt: &impl Print, words: &[u8]) -> io::Result<()> {
-    rt.write_all(words)
-}
-
 // The number that decimal digits say, at most the greatest of 32 bits.
 fn number(digits: &[u8]) -> u32 {
     let mut n: usize = 0;
-    let mut i = 0;
-    while i < digits.len() {
-        n = buffer::clip(n * 10 + hex_digit::value(digits[i]) as usize, 4294967295);
-        i += 1;
+    for digit in digits {
+        n = buffer::clip(n * 10 + usize::from(hex_digit::value(*digit)), 4294967295);
     }
     n as u32
 }
@@ -48,15 +42,12 @@ fn read_numbers(numbers: &mut [u32], text: &[u8]) -> usize
 }
 
 fn say_number(rt: &impl Print, n: u32) -> io::Result<()> {
-    say(rt, b" ")?;
-    print!(rt; "{n}")
+    print!(rt; " {n}")
 }
 
 fn say_numbers(rt: &impl Print, numbers: &[u32]) -> io::Result<()> {
-    let mut i = 0;
-    while i < numbers.len() {
-        say_number(rt, numbers[i])?;
-        i += 1;
+    for n in numbers {
+        say_number(rt, *n)?;
     }
     Ok(())
 }
@@ -72,9 +63,9 @@ fn say_rest(
     let envelope_rest = line::part(envelope_space, n, envelope_space.len());
     let header_rest = line::part(header_space, m, header_space.len());
     if case_line::is_untouched(envelope_rest) & case_line::is_untouched(header_rest) {
-        say(rt, b", rest untouched\r\n")
+        print!(rt; ", rest untouched\r\n")
     } else {
-        say(rt, b", REST CHANGED\r\n")
+        print!(rt; ", REST CHANGED\r\n")
     }
 }
 
@@ -120,14 +111,14 @@ fn show(
         &mut header_space,
         m,
     );
-    say(rt, label)?;
-    say(rt, b":")?;
+    rt.write_all(label)?;
+    print!(rt; ":")?;
     say_numbers(rt, numbers)?;
     say_rest(rt, &envelope_space, n, &header_space, m)?;
-    say(rt, line::part(&envelope_space, 0, n))?;
-    say(rt, b"\r\n")?;
-    say(rt, line::part(&header_space, 0, m))?;
-    say(rt, b"\r\n")
+    rt.write_all(line::part(&envelope_space, 0, n))?;
+    print!(rt; "\r\n")?;
+    rt.write_all(line::part(&header_space, 0, m))?;
+    print!(rt; "\r\n")
 }
 
 // A line of the input.
@@ -150,17 +141,11 @@ fn show_line(rt: &impl Print, line: &[u8]) -> io::Result<()> {
     )
 }
 
-fn show_lines(rt: &impl Print, cases: &[u8]) -> io::Result<()> {
-    let mut at = 0;
-    while at < cases.len() {
-        let end = case_line::find(cases, at, b'\n');
-        show_line(rt, line::part(cases, at, end))?;
-        at = buffer::place_after(end, 1);
-    }
-    Ok(())
-}
-
+// Kept: one loop for all programs would take a closure, and a public function may not require that it can be called.
 fn main(rt: HostRuntime) -> io::Result<()> {
     let input = program_input::read(rt.alloc(), rt.reader(), 65536)?;
-    show_lines(&rt, &input)
+    for line in input.split(|b| *b == b'\n') {
+        show_line(&rt, line)?;
+    }
+    Ok(())
 }

@@ -63,6 +63,14 @@ overlay_clip (b ∷ text) (o ∷ out) zero h = absurd (not-suc-le-zero (simp una
 overlay_clip (b ∷ text) (o ∷ out) (suc i) h =
     ap (λ (l : List ℕ). b ∷ l) (overlay_clip text out i (omega (arith, simp unary_clauses at h)))
 
+-- the part that fits, and what stands past it
+pub overlay_parts : (text out : List ℕ) (n : ℕ) → n ≡ min (length text) (length out) → overlay text out ≡ take n text ++ drop n out
+unfolding overlay
+overlay_parts [] out n e = let z : n ≡ 0 = omega arith in rw z
+overlay_parts (b ∷ text) [] n e = let z : n ≡ 0 = omega arith in rw z
+overlay_parts (b ∷ text) (o ∷ out) zero e = absurd (omega arith)
+overlay_parts (b ∷ text) (o ∷ out) (suc n) e = ap (λ (l : List ℕ). b ∷ l) (overlay_parts text out n (omega arith))
+
 pub length_wrote : {text before after : List ℕ} {r : ℕ} → Wrote text before after r → length after ≡ length before
 length_wrote {text} {before} {after} {r} w = rw (w.bytes, length_overlay)
 

@@ -9,18 +9,14 @@ ghost use Rattle.buffer.specs.Buffer.{Wrote, AppendedCapped, greatest};
 pub fn clip(n: usize, m: usize) -> usize
     ensures { result ≡ min n m }
 {
-    if n < m { n } else { m }
+    n.min(m)
 }
 
 // The place n bytes after a place, at most the greatest usize.
 pub fn place_after(at: usize, n: usize) -> usize
     ensures { result ≡ min (at + n) greatest }
 {
-    if n <= 18446744073709551615 - at {
-        at + n
-    } else {
-        18446744073709551615
-    }
+    at.saturating_add(n)
 }
 
 // Writes a byte to the front of out, where it fits; answers 1.
@@ -34,14 +30,13 @@ pub fn put_byte(out: &mut [u8], b: u8) -> usize
 }
 
 // Writes src to the front of out, as far as it fits; answers src's length.
+// Kept: no copy_from_slice, which is compiled to memmove where it is inlined: the archive needs memcpy and memset alone (lib-test).
 pub fn put_slice(out: &mut [u8], src: &[u8]) -> usize
     ensures { Wrote src.now out.old out.new result }
 {
     let n = clip(src.len(), out.len());
-    let mut i = 0;
-    while i < n {
+    for i in 0..n {
         out[i] = src[i];
-        i += 1;
     }
     src.len()
 }

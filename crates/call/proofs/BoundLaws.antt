@@ -1,5 +1,6 @@
 -- Bounds of an outcome: every number fits 32 bits, what is written fits its buffer, and the rest of the buffer stays.
-use Rattle.std.specs.Prelude.{◌≡◌, ℕ, suc, ◌+◌, ◌≤◌, ◌<◌, ltb, eqb, take, drop}
+use Rattle.call.specs.Outcome.{Verdict}
+use Rattle.std.specs.Prelude.{◌≡◌, ℕ, suc, ◌+◌, ◌≤◌, ◌<◌, ltb, eqb, take, drop, Ok, Err, Result, Option, Some, None}
 use Rattle.std.proofs.Math.Path.{refl}
 use Rattle.std.proofs.Common.{ap, length-append, length-take, length-drop}
 use mathlib.Core.List.{List, [], ◌∷◌}
@@ -16,29 +17,22 @@ use Rattle.buffer.specs.BufferLaws.{length_overlay, overlay_past}
 use Rattle.line.specs.Line.{crlf, line_len}
 use Rattle.envelope_line.specs.EnvelopeLine.{orcpt_fault}
 use Rattle.envelope_line.specs.declared.Fault.{Fault}
-use Rattle.envelope_line.specs.declared.Fault.TheVariants.{Fine, Malformed, NoAlternative, BadAlternative, RetiredAlternative}
-use Rattle.envelope.specs.declared.Checked.{Checked}
-use Rattle.envelope.specs.declared.Checked.TheVariants.{Passed, Refused}
-use Rattle.envelope.specs.declared.Orcpt.{Orcpt}
-use Rattle.envelope.specs.declared.Orcpt.TheVariants.{Clean, At}
-use Rattle.envelope.specs.Envelope.{lines, line_text, fault_of, fault_number, is_fine, counted, checked_from, checked, texts, orcpt_from, orcpt_line, written}
-use Rattle.envelope.proofs.CheckLaws.{fine_few}
+use Rattle.envelope_line.specs.declared.Fault.TheVariants.{Malformed, NoAlternative, BadAlternative, RetiredAlternative}
+use Rattle.envelope.specs.declared.FaultAt.{FaultAt}
+use Rattle.envelope.specs.Envelope.{lines, line_text, fault_of, fault_number, counted, checked_from, checked, texts, orcpt_from, orcpt_line, written, refused}
+use Rattle.envelope.proofs.CheckLaws.{by_fault, fine_few}
 use Rattle.envelope.proofs.LengthLaws.{written_le}
-use Rattle.header_line.specs.declared.LineCheck.{LineCheck}
-use Rattle.header_line.specs.declared.LineCheck.TheVariants.{WellFormed, Malformed as MalformedLine}
-use Rattle.header_line.specs.Lines.{line_ok, lines_of, lines_from, checked_lines}
+use Rattle.header_line.specs.Lines.{line_ok, lines_of, lines_from, checked_lines, bad_line, LineCheck}
 use Rattle.header.specs.Fields.{field_len, fields_of, line_count}
 use Rattle.rules.specs.declared.Rules.{Rules}
-use Rattle.outgoing_field.specs.declared.HeldField.{HeldField}
-use Rattle.outgoing_field.specs.declared.HeldField.TheVariants.{Absent, At as HeldAt}
+use Rattle.outgoing_field.specs.Fate.{FirstHeld}
+use Rattle.outgoing_field.specs.Fate.FirstHeld.{Absent, At as HeldAt}
 use Rattle.outgoing_field.specs.Fate.{fate_of, is_held, held_from, held_of}
 use Rattle.header_stop.specs.HeaderStopLaws.{line_stop_lem}
 use Rattle.offset.specs.Offset.{front_line, line_start, line_at, orcpt_byte, fault_byte, fault_offset, orcpt_offset, header_line_offset, field_offset}
 use Rattle.offset.specs.OffsetLaws.{front_within, fault_inside, orcpt_inside}
 use Rattle.call.specs.declared.Refusal.{Refusal}
 use Rattle.call.specs.declared.Refusal.TheVariants.{EnvelopeOver, EnvelopeLine, OrcptLine, EnvelopeNeeds, Header}
-use Rattle.call.specs.declared.Verdict.{Verdict}
-use Rattle.call.specs.declared.Verdict.TheVariants.{Accept, Refuse}
 use Rattle.outgoing_header.specs.declared.HeaderRefusal.TheVariants.{Over, Line, Held, Needs}
 use Rattle.outgoing_header.specs.HeaderOutcome.{of_size, of_lines, of_held, of_room, number_of as header_number, place_of as header_place, offset_of as header_offset}
 use Rattle.outgoing_header.proofs.HeaderOutcomeLaws.{size_over, size_within, room_short, room_enough}
@@ -52,43 +46,40 @@ use Rattle.call.specs.BoundLaws.{greatest32}
 -- ---- places and offsets
 
 -- the line of a fault
-data FaultWithin (n : ℕ) : Checked → Type 0 where
-  passed : {count : ℕ} → FaultWithin n (Passed count)
-  refused : {fault : Fault} {line : ℕ} → line ≤ n → FaultWithin n (Refused fault line)
+abbrev FaultWithin : ℕ → Result ℕ FaultAt → Type 0
+FaultWithin n (Ok count) = Unit {0}
+FaultWithin n (Err at) = at.line ≤ n
 
 checked_within : (rules : Rules) (n : ℕ) (ls : List (List ℕ)) → n ≤ 101 → FaultWithin 101 (checked_from rules n ls)
 unfolding checked_from counted
-checked_within rules n [] k = cond_has (FaultWithin 101) (ltb n 2) _ _ (λ t. refused k) (λ t. passed)
+checked_within rules n [] k = cond_has (FaultWithin 101) (ltb n 2) _ _ (λ t. k) (λ t. tt)
 checked_within rules n (line ∷ more) k =
-    cond_has (FaultWithin 101) (is_fine (fault_of rules n line)) _ _
-    (λ t. checked_within rules (suc n) more (omega (arith, fine_few rules n line (yes_true (is_fine (fault_of rules n line)) t))))
-    (λ t. refused k)
+    by_fault (fault_of rules n line)
+    (λ f. rw f (checked_within rules (suc n) more (omega (arith, fine_few rules n line f))))
+    (λ fault f. rw f k)
 
-fault_line : {n line : ℕ} {fault : Fault} → FaultWithin n (Refused fault line) → line ≤ n
-fault_line (refused k) = k
-
-fault_line_le : (rules : Rules) (e : List ℕ) (fault : Fault) (line : ℕ) → checked rules e ≡ Refused fault line → line ≤ 101
+fault_line_le : (rules : Rules) (e : List ℕ) (fault : Fault) (line : ℕ) → checked rules e ≡ refused fault line → line ≤ 101
 unfolding checked
-fault_line_le rules e fault line q = fault_line (rw q at (checked_within rules 0 (lines e) (omega arith)))
+fault_line_le rules e fault line q = rw q at (checked_within rules 0 (lines e) (omega arith))
 
 fault_offset_le : (e : List ℕ) (fault : Fault) (n : ℕ) → fault_offset e fault n ≤ length e
 unfolding fault_offset line_at
 fault_offset_le e fault n = fault_inside e n (line_start n e) refl refl fault (fault_byte fault n (line_at n e)) refl
 
 -- the line of an ORCPT
-data OrcptWithin (n : ℕ) : Orcpt → Type 0 where
-  clean : OrcptWithin n Clean
-  at_line : {line : ℕ} → line ≤ n → OrcptWithin n (At line)
+data OrcptWithin (n : ℕ) : Option ℕ → Type 0 where
+  clean : OrcptWithin n None
+  at_line : {line : ℕ} → line ≤ n → OrcptWithin n (Some line)
 
 orcpt_within : (n m : ℕ) (ts : List (List ℕ)) → n + length ts ≤ m → OrcptWithin m (orcpt_from n ts)
 unfolding orcpt_from
 orcpt_within n m [] k = clean
-orcpt_within n m (text ∷ more) k = cond_has (OrcptWithin m) (orcpt_fault (eqb n 0) text) (At n) (orcpt_from (suc n) more) (λ t. at_line (omega arith)) (λ t. orcpt_within (suc n) m more (omega arith))
+orcpt_within n m (text ∷ more) k = cond_has (OrcptWithin m) (orcpt_fault (eqb n 0) text) (Some n) (orcpt_from (suc n) more) (λ t. at_line (omega arith)) (λ t. orcpt_within (suc n) m more (omega arith))
 
-orcpt_line_lem : {n line : ℕ} → OrcptWithin n (At line) → line ≤ n
+orcpt_line_lem : {n line : ℕ} → OrcptWithin n (Some line) → line ≤ n
 orcpt_line_lem (at_line k) = k
 
-orcpt_line_le : (e : List ℕ) (line : ℕ) → orcpt_line e ≡ At line → line ≤ length e
+orcpt_line_le : (e : List ℕ) (line : ℕ) → orcpt_line e ≡ Some line → line ≤ length e
 unfolding orcpt_line texts lines
 orcpt_line_le e line q =
     orcpt_line_lem (rw q at (orcpt_within 0 (length e) (texts e) (omega (arith, length-map (lines e) line_text, cut_few (λ rest. line_len rest + 2) e))))
@@ -101,60 +92,60 @@ orcpt_offset_le e n = orcpt_inside e n (line_start n e) refl refl refl (orcpt_by
 
 -- a first verdict either accepts, and the next ones decide, or is the answer
 module _ (rules : Rules) (P : Verdict → Type 0) (more : List Verdict) where
-  first_over : (limit size : ℕ) (refusal : Refusal) → (size ≤ limit → P (first_of more)) → (limit < size → P (Refuse refusal)) → P (first_of (over limit size refusal ∷ more))
+  first_over : (limit size : ℕ) (refusal : Refusal) → (size ≤ limit → P (first_of more)) → (limit < size → P (Err refusal)) → P (first_of (over limit size refusal ∷ more))
   unfolding first_of
   first_over limit size refusal f g =
       by_test (ltb limit size)
       (λ t. let k = ltb_yes {a = limit} {b = size} t in rw (over_yes limit size refusal k) (g k))
       (λ t. let k = ltb_no {a = limit} {b = size} t in rw (over_no limit size refusal k) (f k))
 
-  first_envelope : (e : List ℕ) → ((count : ℕ) → checked rules e ≡ Passed count → P (first_of more))
-      → ((fault : Fault) (line : ℕ) → checked rules e ≡ Refused fault line → P (Refuse (EnvelopeLine fault line (fault_offset e fault line))))
+  first_envelope : (e : List ℕ) → ((count : ℕ) → checked rules e ≡ Ok count → P (first_of more))
+      → ((fault : Fault) (line : ℕ) → checked rules e ≡ refused fault line → P (Err (EnvelopeLine fault line (fault_offset e fault line))))
       → P (first_of (of_envelope e (checked rules e) ∷ more))
   unfolding first_of of_envelope
   first_envelope e f g = go (checked rules e) refl
     where
-      go : (r : Checked) → checked rules e ≡ r → P (first_of (of_envelope e r ∷ more))
-      go (Passed count) q = f count q
-      go (Refused fault line) q = g fault line q
+      go : (r : Result ℕ FaultAt) → checked rules e ≡ r → P (first_of (of_envelope e r ∷ more))
+      go (Ok count) q = f count q
+      go (Err at) q = g at.fault at.line q
 
-  first_size : (h : List ℕ) → (length h ≤ 32768 → P (first_of more)) → (32768 < length h → P (Refuse (Header Over))) → P (first_of (of_header (of_size h) ∷ more))
+  first_size : (h : List ℕ) → (length h ≤ 32768 → P (first_of more)) → (32768 < length h → P (Err (Header Over))) → P (first_of (of_header (of_size h) ∷ more))
   unfolding first_of of_header
   first_size h f g =
       by_test (ltb 32768 (length h))
       (λ t. let k = ltb_yes {a = 32768} {b = length h} t in rw (size_over h k) (g k))
       (λ t. let k = ltb_no {a = 32768} {b = length h} t in rw (size_within h k) (f k))
 
-  first_room : (room size : ℕ) → (size ≤ room → P (first_of more)) → (room < size → P (Refuse (Header (Needs size)))) → P (first_of (of_header (of_room room size) ∷ more))
+  first_room : (room size : ℕ) → (size ≤ room → P (first_of more)) → (room < size → P (Err (Header (Needs size)))) → P (first_of (of_header (of_room room size) ∷ more))
   unfolding first_of of_header
   first_room room size f g =
       by_test (ltb room size)
       (λ t. let k = ltb_yes {a = room} {b = size} t in rw (room_short room size k) (g k))
       (λ t. let k = ltb_no {a = room} {b = size} t in rw (room_enough room size k) (f k))
 
-  first_lines : (h : List ℕ) → (checked_lines h ≡ WellFormed → P (first_of more))
-      → ((line at : ℕ) → checked_lines h ≡ MalformedLine line at → P (Refuse (Header (Line line (header_line_offset h line at)))))
+  first_lines : (h : List ℕ) → (checked_lines h ≡ Ok tt → P (first_of more))
+      → ((line at : ℕ) → checked_lines h ≡ bad_line line at → P (Err (Header (Line line (header_line_offset h line at)))))
       → P (first_of (of_header (of_lines h (checked_lines h)) ∷ more))
   unfolding first_of of_lines of_header
   first_lines h f g = go (checked_lines h) refl
     where
       go : (r : LineCheck) → checked_lines h ≡ r → P (first_of (of_header (of_lines h r) ∷ more))
-      go WellFormed q = f q
-      go (MalformedLine line at) q = g line at q
+      go (Ok tt) q = f q
+      go (Err bad) q = g bad.line bad.at q
 
-  first_orcpt : (e : List ℕ) → P (first_of more) → ((line : ℕ) → orcpt_line e ≡ At line → P (Refuse (OrcptLine line (orcpt_offset e line)))) → P (first_of (of_orcpt e (orcpt_line e) ∷ more))
+  first_orcpt : (e : List ℕ) → P (first_of more) → ((line : ℕ) → orcpt_line e ≡ Some line → P (Err (OrcptLine line (orcpt_offset e line)))) → P (first_of (of_orcpt e (orcpt_line e) ∷ more))
   unfolding first_of of_orcpt
   first_orcpt e f g = go (orcpt_line e) refl
     where
-      go : (r : Orcpt) → orcpt_line e ≡ r → P (first_of (of_orcpt e r ∷ more))
-      go Clean q = f
-      go (At line) q = g line q
+      go : (r : Option ℕ) → orcpt_line e ≡ r → P (first_of (of_orcpt e r ∷ more))
+      go None q = f
+      go (Some line) q = g line q
 
-  first_held_lem : (h : List ℕ) → P (first_of more) → ((line at : ℕ) → held_of rules h ≡ HeldAt line at → P (Refuse (Header (Held line (field_offset h at))))) → P (first_of (of_header (of_held h (held_of rules h)) ∷ more))
+  first_held_lem : (h : List ℕ) → P (first_of more) → ((line at : ℕ) → held_of rules h ≡ HeldAt line at → P (Err (Header (Held line (field_offset h at))))) → P (first_of (of_header (of_held h (held_of rules h)) ∷ more))
   unfolding first_of of_held of_header
   first_held_lem h f g = go (held_of rules h) refl
     where
-      go : (r : HeldField) → held_of rules h ≡ r → P (first_of (of_header (of_held h r) ∷ more))
+      go : (r : FirstHeld) → held_of rules h ≡ r → P (first_of (of_header (of_held h r) ∷ more))
       go Absent q = f
       go (HeldAt line at) q = g line at q
 
@@ -170,12 +161,11 @@ record Fitting (rules : Rules) (e h : List ℕ) (room₁ room₂ : ℕ) : Type 0
   small₂ : length (outgoing_header rules e h) ≤ greatest32
 
 data Bound (rules : Rules) (e h : List ℕ) (room₁ room₂ : ℕ) : Verdict → Type 0 where
-  fitting : Fitting rules e h room₁ room₂ → Bound rules e h room₁ room₂ Accept
-  small : {refusal : Refusal} → SmallRefusal refusal → Bound rules e h room₁ room₂ (Refuse refusal)
+  fitting : Fitting rules e h room₁ room₂ → Bound rules e h room₁ room₂ (Ok tt)
+  small : {refusal : Refusal} → SmallRefusal refusal → Bound rules e h room₁ room₂ (Err refusal)
 
 fault_number_le : (fault : Fault) → fault_number fault ≤ 10
 unfolding fault_number
-fault_number_le Fine = omega arith
 fault_number_le Malformed = omega arith
 fault_number_le NoAlternative = omega arith
 fault_number_le BadAlternative = omega arith
@@ -186,7 +176,7 @@ module _ (rules : Rules) (e h : List ℕ) (room₁ room₂ : ℕ) where
   Bounds v = Bound rules e h room₁ room₂ v
 
   -- where the envelope and the header pass
-  rooms_bound : length e ≤ 16384 → length h ≤ 32768 → (count : ℕ) → checked rules e ≡ Passed count → checked_lines h ≡ WellFormed
+  rooms_bound : length e ≤ 16384 → length h ≤ 32768 → (count : ℕ) → checked rules e ≡ Ok count → checked_lines h ≡ Ok tt
       → Bounds (first_of (over room₁ (length (written e)) (EnvelopeNeeds (length (written e))) ∷ of_header (of_room room₂ (length (outgoing_header rules e h))) ∷ []))
   unfolding first_of number_of place_of offset_of header_number header_place header_offset new_fields_most
   rooms_bound k l count p w =
@@ -285,4 +275,4 @@ outcome_bounded rules e h b c = go (verdict rules e h (length b) (length c)) (ve
       past₂ = overlay_past (outgoing_header rules e h) c;
       refused = λ z. absurd (z refl);
     }
-    go (Refuse refusal) (small s) = refused_bounded (number_of refusal) (input_of refusal) (place_of refusal) (offset_of refusal) b c (omega (arith, s.number)) s.place s.offset
+    go (Err refusal) (small s) = refused_bounded (number_of refusal) (input_of refusal) (place_of refusal) (offset_of refusal) b c (omega (arith, s.number)) s.place s.offset

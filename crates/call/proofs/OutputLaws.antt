@@ -1,5 +1,6 @@
 -- Laws of the outcome where the input is accepted: measured, then written.
-use Rattle.std.specs.Prelude.{◌≡◌, refl, List, [], ◌∷◌, ◌++◌, ℕ, ◌+◌, ◌*◌, ◌≤◌, ◌<◌, min}
+use Rattle.call.specs.Outcome.{Verdict}
+use Rattle.std.specs.Prelude.{◌≡◌, refl, List, [], ◌∷◌, ◌++◌, ℕ, ◌+◌, ◌*◌, ◌≤◌, ◌<◌, min, Ok, Err, Result}
 use Rattle.std.proofs.Common.{sym, ◌∙◌, arith, length-append, lt-ltb, le-ltb}
 use Rattle.std.proofs.Math.Path.{ap}
 use Rattle.std.proofs.Math.ListN.{length}
@@ -9,19 +10,16 @@ use Rattle.letter_case.specs.LetterCase.{bytes}
 use Rattle.encoded_word.specs.Segments.{rendered}
 use Rattle.encoded_word.specs.SegmentsLaws.{rendered_append}
 use Rattle.envelope_line.specs.declared.Fault.{Fault}
-use Rattle.envelope.specs.declared.Checked.{Checked}
-use Rattle.envelope.specs.declared.Checked.TheVariants.{Passed, Refused}
-use Rattle.envelope.specs.Envelope.{checked, texts, written_of, written, orcpt_line, mail_replacement, only_rcpt_of, rcpt_replacement}
+use Rattle.envelope.specs.declared.FaultAt.{FaultAt}
+use Rattle.envelope.specs.Envelope.{checked, texts, written_of, written, orcpt_line, mail_replacement, only_rcpt_of, rcpt_replacement, refused}
 use Rattle.envelope.specs.LineStarts.{EnvelopeChecked, texts_at}
 use Rattle.envelope.proofs.WrittenLaws.{stored}
 use Rattle.envelope.proofs.LengthLaws.{written_le}
 use Rattle.envelope.proofs.ReplacementLaws.{mail_replacement_short, rcpt_replacement_short}
-use Rattle.header_line.specs.declared.LineCheck.{LineCheck}
-use Rattle.header_line.specs.declared.LineCheck.TheVariants.{WellFormed, Malformed}
-use Rattle.header_line.specs.Lines.{checked_lines}
+use Rattle.header_line.specs.Lines.{checked_lines, LineCheck}
 use Rattle.rules.specs.declared.Rules.{Rules}
-use Rattle.outgoing_field.specs.declared.HeldField.{HeldField}
-use Rattle.outgoing_field.specs.declared.HeldField.TheVariants.{Absent, At}
+use Rattle.outgoing_field.specs.Fate.{FirstHeld}
+use Rattle.outgoing_field.specs.Fate.FirstHeld.{Absent, At}
 use Rattle.outgoing_field.specs.Fate.{segments_of, header_segments, header_written, limited, held_of}
 use Rattle.outgoing_field.proofs.FateLaws.{limited_short, unheld_header}
 use Rattle.outgoing_field.specs.Most.{most_of}
@@ -29,8 +27,6 @@ use Rattle.outgoing_field.proofs.MostLaws.{most_le}
 use Rattle.outgoing_field.proofs.OwedLaws.{owed_header}
 use Rattle.call.specs.declared.Refusal.{Refusal}
 use Rattle.call.specs.declared.Refusal.TheVariants.{EnvelopeOver, EnvelopeLine, EnvelopeNeeds, Header}
-use Rattle.call.specs.declared.Verdict.{Verdict}
-use Rattle.call.specs.declared.Verdict.TheVariants.{Accept, Refuse}
 use Rattle.call.specs.declared.Answer.{Answer}
 use Rattle.call.specs.OutgoingHeader.{new_field, new_fields, new_fields_most, outgoing_segments, outgoing_header}
 use Rattle.call.specs.Outcome.{over, of_envelope, of_header, of_orcpt, first_of, verdict, outcome_of, outcome, observed}
@@ -46,34 +42,34 @@ use Rattle.call.specs.OutputLaws.{Accepted, Ready, Short, StartsOf, Texts, heade
 -- ---- refusals
 
 -- where a verdict refuses, so does the call
-pub refused_observed : (rules : Rules) (e h b c : List ℕ) {refusal : Refusal} {r : Answer} → verdict rules e h (length b) (length c) ≡ Refuse refusal → RefusedBy refusal r → observed r b c ≡ outcome rules e h b c
+pub refused_observed : (rules : Rules) (e h b c : List ℕ) {refusal : Refusal} {r : Answer} → verdict rules e h (length b) (length c) ≡ Err refusal → RefusedBy refusal r → observed r b c ≡ outcome rules e h b c
 unfolding outcome outcome_of
 refused_observed rules e h b c v a = rw (v, a.number, a.input, a.place, a.offset, a.none₁, a.none₂)
 
-pub over_yes : (limit size : ℕ) (refusal : Refusal) → limit < size → over limit size refusal ≡ Refuse refusal
+pub over_yes : (limit size : ℕ) (refusal : Refusal) → limit < size → over limit size refusal ≡ Err refusal
 unfolding over
 over_yes limit size refusal k = rw (lt-ltb limit size k)
 
-pub over_no : (limit size : ℕ) (refusal : Refusal) → size ≤ limit → over limit size refusal ≡ Accept
+pub over_no : (limit size : ℕ) (refusal : Refusal) → size ≤ limit → over limit size refusal ≡ (Ok tt)
 unfolding over
 over_no limit size refusal k = rw (le-ltb limit size k)
 
 module _ (rules : Rules) (e h : List ℕ) (room₁ room₂ : ℕ) where
-  pub envelope_over : 16384 < length e → verdict rules e h room₁ room₂ ≡ Refuse EnvelopeOver
+  pub envelope_over : 16384 < length e → verdict rules e h room₁ room₂ ≡ Err EnvelopeOver
   unfolding verdict first_of
   envelope_over k = rw (over_yes 16384 (length e) EnvelopeOver k)
 
   module _ (short₁ : length e ≤ 16384) where
-    pub header_over : 32768 < length h → verdict rules e h room₁ room₂ ≡ Refuse (Header Over)
+    pub header_over : 32768 < length h → verdict rules e h room₁ room₂ ≡ Err (Header Over)
     unfolding verdict first_of of_header
     header_over k = rw (over_no 16384 (length e) EnvelopeOver short₁, size_over h k)
 
     module _ (short₂ : length h ≤ 32768) where
-      pub envelope_line_lem : (fault : Fault) (line offset : ℕ) → checked rules e ≡ Refused fault line → offset ≡ fault_offset e fault line → verdict rules e h room₁ room₂ ≡ Refuse (EnvelopeLine fault line offset)
+      pub envelope_line_lem : (fault : Fault) (line offset : ℕ) → checked rules e ≡ refused fault line → offset ≡ fault_offset e fault line → verdict rules e h room₁ room₂ ≡ Err (EnvelopeLine fault line offset)
       unfolding verdict first_of of_envelope of_header
       envelope_line_lem fault line offset k q = rw (over_no 16384 (length e) EnvelopeOver short₁, size_within h short₂, k, q)
 
-      module _ (count : ℕ) (passed : checked rules e ≡ Passed count) where
+      module _ (count : ℕ) (passed : checked rules e ≡ Ok count) where
         past_envelope : verdict rules e h room₁ room₂
             ≡ first_of
             (of_header (of_lines h (checked_lines h))
@@ -86,17 +82,17 @@ module _ (rules : Rules) (e h : List ℕ) (room₁ room₂ : ℕ) where
         past_envelope = rw (over_no 16384 (length e) EnvelopeOver short₁, size_within h short₂, passed)
 
 -- of verdicts one after another
-first_refused : (a b : List Verdict) (refusal : Refusal) → first_of a ≡ Refuse refusal → first_of (a ++ b) ≡ Refuse refusal
+first_refused : (a b : List Verdict) (refusal : Refusal) → first_of a ≡ Err refusal → first_of (a ++ b) ≡ Err refusal
 unfolding first_of
 first_refused [] b refusal k = absurd (let z : ◌≡◌ {A = ℕ} 0 1 = cc in omega arith)
-first_refused (Accept ∷ a) b refusal k = first_refused a b refusal k
-first_refused (Refuse r ∷ a) b refusal k = k
+first_refused ((Ok tt) ∷ a) b refusal k = first_refused a b refusal k
+first_refused (Err r ∷ a) b refusal k = k
 
-first_accepted : (a b : List Verdict) → first_of a ≡ Accept → first_of (a ++ b) ≡ first_of b
+first_accepted : (a b : List Verdict) → first_of a ≡ (Ok tt) → first_of (a ++ b) ≡ first_of b
 unfolding first_of
 first_accepted [] b k = refl
-first_accepted (Accept ∷ a) b k = first_accepted a b k
-first_accepted (Refuse r ∷ a) b k = absurd (let z : ◌≡◌ {A = ℕ} 0 1 = cc in omega arith)
+first_accepted ((Ok tt) ∷ a) b k = first_accepted a b k
+first_accepted (Err r ∷ a) b k = absurd (let z : ◌≡◌ {A = ℕ} 0 1 = cc in omega arith)
 
 -- 1 to 6: the refusals that the buffers do not decide
 abbrev pub of_input : Rules → List ℕ → List ℕ → List Verdict
@@ -110,7 +106,7 @@ of_input rules e h =
     ∷ []
 
 -- an input that none of them refuses is decided by the buffers
-module _ (rules : Rules) (e h : List ℕ) (room₁ room₂ : ℕ) (q : first_of (of_input rules e h) ≡ Accept) where
+module _ (rules : Rules) (e h : List ℕ) (room₁ room₂ : ℕ) (q : first_of (of_input rules e h) ≡ (Ok tt)) where
   by_rooms : verdict rules e h room₁ room₂
       ≡ first_of
       (over room₁ (length (written e)) (EnvelopeNeeds (length (written e)))
@@ -119,51 +115,51 @@ module _ (rules : Rules) (e h : List ℕ) (room₁ room₂ : ℕ) (q : first_of 
   unfolding verdict
   by_rooms = first_accepted (of_input rules e h) _ q
 
-  pub envelope_short : room₁ < length (written e) → verdict rules e h room₁ room₂ ≡ Refuse (EnvelopeNeeds (length (written e)))
+  pub envelope_short : room₁ < length (written e) → verdict rules e h room₁ room₂ ≡ Err (EnvelopeNeeds (length (written e)))
   unfolding first_of
   envelope_short l = by_rooms ∙ rw (over_yes room₁ (length (written e)) (EnvelopeNeeds (length (written e))) l)
 
   module _ (k : length (written e) ≤ room₁) where
-    pub both_fit : length (outgoing_header rules e h) ≤ room₂ → verdict rules e h room₁ room₂ ≡ Accept
+    pub both_fit : length (outgoing_header rules e h) ≤ room₂ → verdict rules e h room₁ room₂ ≡ (Ok tt)
     unfolding first_of of_header
     both_fit l =
         by_rooms
         ∙ rw (over_no room₁ (length (written e)) (EnvelopeNeeds (length (written e))) k, room_enough room₂ (length (outgoing_header rules e h)) l)
 
-    pub header_short : room₂ < length (outgoing_header rules e h) → verdict rules e h room₁ room₂ ≡ Refuse (Header (Needs (length (outgoing_header rules e h))))
+    pub header_short : room₂ < length (outgoing_header rules e h) → verdict rules e h room₁ room₂ ≡ Err (Header (Needs (length (outgoing_header rules e h))))
     unfolding first_of of_header
     header_short l =
         by_rooms
         ∙ rw (over_no room₁ (length (written e)) (EnvelopeNeeds (length (written e))) k, room_short room₂ (length (outgoing_header rules e h)) l)
 
-last_accepted : (a b v : Verdict) → first_of (a ∷ b ∷ v ∷ []) ≡ Accept → v ≡ Accept
+last_accepted : (a b v : Verdict) → first_of (a ∷ b ∷ v ∷ []) ≡ (Ok tt) → v ≡ (Ok tt)
 unfolding first_of
-last_accepted Accept Accept Accept k = refl
-last_accepted Accept Accept (Refuse r) k = k
-last_accepted Accept (Refuse r) v k = absurd (let z : ◌≡◌ {A = ℕ} 0 1 = cc in omega arith)
-last_accepted (Refuse r) b v k = absurd (let z : ◌≡◌ {A = ℕ} 0 1 = cc in omega arith)
+last_accepted (Ok a) (Ok b) (Ok v) k = refl
+last_accepted (Ok a) (Ok b) (Err r) k = k
+last_accepted (Ok a) (Err r) v k = absurd (let z : ◌≡◌ {A = ℕ} 0 1 = cc in omega arith)
+last_accepted (Err r) b v k = absurd (let z : ◌≡◌ {A = ℕ} 0 1 = cc in omega arith)
 
-accepted_lines : {rules : Rules} {e h : List ℕ} {most : ℕ} → Accepted rules e h most → checked_lines h ≡ WellFormed
+accepted_lines : {rules : Rules} {e h : List ℕ} {most : ℕ} → Accepted rules e h most → checked_lines h ≡ Ok tt
 unfolding first_of of_lines of_header
 accepted_lines {rules} {e} {h} ok = go (checked_lines h) refl ok.content
   where
-    go : (l : LineCheck) → checked_lines h ≡ l → first_of (of_header (of_lines h l) ∷ of_orcpt e (orcpt_line e) ∷ of_header (of_held h (held_of rules h)) ∷ []) ≡ Accept → checked_lines h ≡ WellFormed
-    go WellFormed q k = q
-    go (Malformed line at) q k = absurd (let z : ◌≡◌ {A = ℕ} 0 1 = cc in omega arith)
+    go : (l : LineCheck) → checked_lines h ≡ l → first_of (of_header (of_lines h l) ∷ of_orcpt e (orcpt_line e) ∷ of_header (of_held h (held_of rules h)) ∷ []) ≡ (Ok tt) → checked_lines h ≡ Ok tt
+    go (Ok tt) q k = q
+    go (Err bad) q k = absurd (let z : ◌≡◌ {A = ℕ} 0 1 = cc in omega arith)
 
 accepted_none : {rules : Rules} {e h : List ℕ} {most : ℕ} → Accepted rules e h most → held_of rules h ≡ Absent
 unfolding of_held of_header
 accepted_none {rules} {e} {h} ok = by_held (held_of rules h) refl (last_accepted (of_header (of_lines h (checked_lines h))) (of_orcpt e (orcpt_line e)) (of_header (of_held h (held_of rules h))) ok.content)
   where
-    by_held : (f : HeldField) → held_of rules h ≡ f → of_header (of_held h f) ≡ Accept → held_of rules h ≡ Absent
+    by_held : (f : FirstHeld) → held_of rules h ≡ f → of_header (of_held h f) ≡ (Ok tt) → held_of rules h ≡ Absent
     by_held Absent q k = q
     by_held (At line at) q k = absurd (let z : ◌≡◌ {A = ℕ} 0 1 = cc in omega arith)
 
-header_le : (rules : Rules) (h : List ℕ) → checked_lines h ≡ WellFormed → length (rendered (header_segments rules h)) ≤ most_of rules h
+header_le : (rules : Rules) (h : List ℕ) → checked_lines h ≡ Ok tt → length (rendered (header_segments rules h)) ≤ most_of rules h
 unfolding segments_of
 header_le rules h w = (owed_header rules h w).short
 
-header_of_le : (rules : Rules) {mail rcpt : List ℕ} (h : List ℕ) → Short mail rcpt → checked_lines h ≡ WellFormed → length (header_of rules mail rcpt h) ≤ most_of rules h + new_fields_most
+header_of_le : (rules : Rules) {mail rcpt : List ℕ} (h : List ℕ) → Short mail rcpt → checked_lines h ≡ Ok tt → length (header_of rules mail rcpt h) ≤ most_of rules h + new_fields_most
 unfolding header_of bytes new_fields_most
 header_of_le rules {mail} {rcpt} h s w =
     let first = new_field (bytes "Downgraded-Mail-From:") mail in
@@ -212,7 +208,7 @@ unfolding header_of outgoing_header outgoing_segments new_fields
 header_of_lem rules t h = rw (t.of_mail, t.of_rcpt)
 
 -- the outgoing header has at most the most of a well-formed header, and that of the new first fields
-pub outgoing_le : (rules : Rules) (e h : List ℕ) (count : ℕ) → checked rules e ≡ Passed count → length h ≤ 32768 → checked_lines h ≡ WellFormed
+pub outgoing_le : (rules : Rules) (e h : List ℕ) (count : ℕ) → checked rules e ≡ Ok count → length h ≤ 32768 → checked_lines h ≡ Ok tt
     → length (outgoing_header rules e h) ≤ most_of rules h + new_fields_most
 outgoing_le rules e h count p k w =
     let t : Texts e (mail_replacement e) (rcpt_replacement e) = record { of_mail = refl; of_rcpt = refl } in
@@ -220,7 +216,7 @@ outgoing_le rules e h count p k w =
     record { of_mail = omega (arith, mail_replacement_short rules e count p); of_rcpt = omega (arith, rcpt_replacement_short rules e count p) } in
     rw (header_of_lem rules t h) at (header_of_le rules h s w)
 
-pub to_ready : {rules : Rules} {e h before after : List ℕ} {count : ℕ} {r : Checked} → length e ≤ 16384 → length h ≤ 32768 → EnvelopeChecked rules e before after r → r ≡ Passed count → length before ≡ 100
+pub to_ready : {rules : Rules} {e h before after : List ℕ} {count : ℕ} {r : Result ℕ FaultAt} → length e ≤ 16384 → length h ≤ 32768 → EnvelopeChecked rules e before after r → r ≡ Ok count → length before ≡ 100
     → Ready rules e h after count
 to_ready s t c k l = let d = rw k at c in record { short₁ = s; short₂ = t; passed = sym d.answer; starts = stored d l }
 
@@ -230,8 +226,8 @@ unfolding written
 starts_written s a = wrote_of (rw s.starts at a) (omega (arith, s.size))
 
 module _ {rules : Rules} {e h array : List ℕ} {count : ℕ} (r : Ready rules e h array count) where
-  pub content_refused : (room₁ room₂ : ℕ) {refusal : Refusal} → first_of (of_header (of_lines h (checked_lines h)) ∷ of_orcpt e (orcpt_line e) ∷ of_header (of_held h (held_of rules h)) ∷ []) ≡ Refuse refusal
-      → verdict rules e h room₁ room₂ ≡ Refuse refusal
+  pub content_refused : (room₁ room₂ : ℕ) {refusal : Refusal} → first_of (of_header (of_lines h (checked_lines h)) ∷ of_orcpt e (orcpt_line e) ∷ of_header (of_held h (held_of rules h)) ∷ []) ≡ Err refusal
+      → verdict rules e h room₁ room₂ ≡ Err refusal
   content_refused room₁ room₂ {refusal} k =
       past_envelope rules e h room₁ room₂ r.short₁ r.short₂ count r.passed
       ∙ first_refused (of_header (of_lines h (checked_lines h)) ∷ of_orcpt e (orcpt_line e) ∷ of_header (of_held h (held_of rules h)) ∷ []) _ refusal k
@@ -294,7 +290,7 @@ module _ {rules : Rules} {e h array : List ℕ} {count : ℕ} (r : Ready rules e
     downgraded {mail} {rcpt} {n} {m} {b'} {c'} {a} t q k d l x i y z v u =
         let p : length (outgoing_header rules e h) ≤ length c = rw (header_of_lem rules t h) at (d.enough l) in
         let w : Wrote (outgoing_header rules e h) c c' a.header_len = rw (header_of_lem rules t h) at u in
-        let fine : verdict rules e h (length b) (length c) ≡ Accept =
+        let fine : verdict rules e h (length b) (length c) ≡ (Ok tt) =
         past_content
         ∙ rw (over_no (length b) (length (written e)) (EnvelopeNeeds (length (written e))) (rw q at k), room_enough (length c) (length (outgoing_header rules e h)) p) in
         rw (fine, x, i, y, z, v.size, w.size, v.bytes, w.bytes)

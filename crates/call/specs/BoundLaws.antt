@@ -16,29 +16,22 @@ use Rattle.buffer.specs.BufferLaws.{length_overlay, overlay_past}
 use Rattle.line.specs.Line.{crlf, line_len}
 use Rattle.envelope_line.specs.EnvelopeLine.{orcpt_fault}
 use Rattle.envelope_line.specs.declared.Fault.{Fault}
-use Rattle.envelope_line.specs.declared.Fault.TheVariants.{Fine, Malformed, NoAlternative, BadAlternative, RetiredAlternative}
-use Rattle.envelope.specs.declared.Checked.{Checked}
-use Rattle.envelope.specs.declared.Checked.TheVariants.{Passed, Refused}
-use Rattle.envelope.specs.declared.Orcpt.{Orcpt}
-use Rattle.envelope.specs.declared.Orcpt.TheVariants.{Clean, At}
-use Rattle.envelope.specs.Envelope.{lines, line_text, fault_of, fault_number, is_fine, counted, checked_from, checked, texts, orcpt_from, orcpt_line, written}
+use Rattle.envelope_line.specs.declared.Fault.TheVariants.{Malformed, NoAlternative, BadAlternative, RetiredAlternative}
+use Rattle.envelope.specs.declared.FaultAt.{FaultAt}
+use Rattle.envelope.specs.Envelope.{lines, line_text, fault_of, fault_number, counted, checked_from, checked, texts, orcpt_from, orcpt_line, written}
 use Rattle.envelope.proofs.CheckLaws.{fine_few}
 use Rattle.envelope.proofs.LengthLaws.{written_le}
-use Rattle.header_line.specs.declared.LineCheck.{LineCheck}
-use Rattle.header_line.specs.declared.LineCheck.TheVariants.{WellFormed, Malformed as MalformedLine}
 use Rattle.header_line.specs.Lines.{line_ok, lines_of, lines_from, checked_lines}
 use Rattle.header.specs.Fields.{field_len, fields_of, line_count}
 use Rattle.rules.specs.declared.Rules.{Rules}
-use Rattle.outgoing_field.specs.declared.HeldField.{HeldField}
-use Rattle.outgoing_field.specs.declared.HeldField.TheVariants.{Absent, At as HeldAt}
+use Rattle.outgoing_field.specs.Fate.{FirstHeld}
+use Rattle.outgoing_field.specs.Fate.FirstHeld.{Absent, At as HeldAt}
 use Rattle.outgoing_field.specs.Fate.{fate_of, is_held, held_from, held_of}
 use Rattle.header_stop.specs.HeaderStopLaws.{line_stop_lem}
 use Rattle.offset.specs.Offset.{front_line, line_start, line_at, orcpt_byte, fault_byte, fault_offset, orcpt_offset, header_line_offset, field_offset}
 use Rattle.offset.specs.OffsetLaws.{front_within, fault_inside, orcpt_inside}
 use Rattle.call.specs.declared.Refusal.{Refusal}
 use Rattle.call.specs.declared.Refusal.TheVariants.{EnvelopeOver, EnvelopeLine, OrcptLine, EnvelopeNeeds, Header}
-use Rattle.call.specs.declared.Verdict.{Verdict}
-use Rattle.call.specs.declared.Verdict.TheVariants.{Accept, Refuse}
 use Rattle.outgoing_header.specs.declared.HeaderRefusal.TheVariants.{Over, Line, Held, Needs}
 use Rattle.outgoing_header.specs.HeaderOutcome.{of_size, of_lines, of_held, of_room, number_of as header_number, place_of as header_place, offset_of as header_offset}
 use Rattle.outgoing_header.proofs.HeaderOutcomeLaws.{size_over, size_within, room_short, room_enough}

@@ -1,26 +1,24 @@
 -- What one call answers, and both buffers afterwards.
-use Rattle.std.specs.Prelude.{cond, List, [], ◌∷◌, ℕ, ltb, length}
+use Rattle.outgoing_header.specs.HeaderOutcome.{HeaderVerdict}
+use Rattle.std.specs.Prelude.{cond, List, [], ◌∷◌, ℕ, ltb, length, Result, Ok, Err, Option, Some, None, ⊤}
 use Rattle.buffer.specs.Buffer.{overlay}
-use Rattle.envelope.specs.declared.Checked.{Checked}
-use Rattle.envelope.specs.declared.Checked.TheVariants.{Passed, Refused}
-use Rattle.envelope.specs.declared.Orcpt.{Orcpt}
-use Rattle.envelope.specs.declared.Orcpt.TheVariants.{Clean, At}
+use Rattle.envelope.specs.declared.FaultAt.{FaultAt}
 use Rattle.envelope.specs.Envelope.{checked, fault_number, orcpt_line, written}
 use Rattle.header_line.specs.Lines.{checked_lines}
 use Rattle.rules.specs.declared.Rules.{Rules}
 use Rattle.outgoing_field.specs.Fate.{held_of}
 use Rattle.offset.specs.Offset.{fault_offset, orcpt_offset}
-use Rattle.outgoing_header.specs.declared.HeaderVerdict.{HeaderVerdict}
-use Rattle.outgoing_header.specs.declared.HeaderVerdict.TheVariants.{Accept as HeaderAccept, Refuse as HeaderRefuse}
 use Rattle.outgoing_header.specs.HeaderOutcome.{of_size, of_lines, of_held, of_room, number_of as header_number, place_of as header_place, offset_of as header_offset}
 use Rattle.call.specs.declared.Refusal.{Refusal}
 use Rattle.call.specs.declared.Refusal.TheVariants.{EnvelopeOver, EnvelopeLine, OrcptLine, EnvelopeNeeds, Header}
-use Rattle.call.specs.declared.Verdict.{Verdict}
-use Rattle.call.specs.declared.Verdict.TheVariants.{Accept, Refuse}
 use Rattle.call.specs.declared.Answer.{Answer}
 use Rattle.call.specs.OutgoingHeader.{outgoing_header}
 
 -- ---- the refusals
+
+-- a call passes, or is refused
+abbrev pub Verdict : Type 0
+Verdict = Result ⊤ Refusal
 
 -- the paper's number for each refusal
 unfoldable pub number_of : Refusal → ℕ
@@ -58,28 +56,28 @@ input_of (Header refusal) = 2
 
 -- a size over a limit
 unfoldable pub over : ℕ → ℕ → Refusal → Verdict
-over limit size refusal = cond (ltb limit size) (Refuse refusal) Accept
+over limit size refusal = cond (ltb limit size) (Err refusal) (Ok tt)
 
 -- 2, 3, 4 and 10: "the first envelope line at fault"
-unfoldable pub of_envelope : List ℕ → Checked → Verdict
-of_envelope e (Passed count) = Accept
-of_envelope e (Refused fault line) = Refuse (EnvelopeLine fault line (fault_offset e fault line))
+unfoldable pub of_envelope : List ℕ → Result ℕ FaultAt → Verdict
+of_envelope e (Ok count) = (Ok tt)
+of_envelope e (Err at) = Err (EnvelopeLine at.fault at.line (fault_offset e at.fault at.line))
 
 -- 6 of an ORCPT
-unfoldable pub of_orcpt : List ℕ → Orcpt → Verdict
-of_orcpt e Clean = Accept
-of_orcpt e (At line) = Refuse (OrcptLine line (orcpt_offset e line))
+unfoldable pub of_orcpt : List ℕ → Option ℕ → Verdict
+of_orcpt e None = (Ok tt)
+of_orcpt e (Some line) = Err (OrcptLine line (orcpt_offset e line))
 
 -- 1, 5, 6 and 8 of the header
 unfoldable pub of_header : HeaderVerdict → Verdict
-of_header HeaderAccept = Accept
-of_header (HeaderRefuse refusal) = Refuse (Header refusal)
+of_header (Ok tt) = (Ok tt)
+of_header (Err refusal) = Err (Header refusal)
 
 -- the first refusal of these
 unfoldable pub first_of : List Verdict → Verdict
-first_of [] = Accept
-first_of (Accept ∷ more) = first_of more
-first_of (Refuse refusal ∷ more) = Refuse refusal
+first_of [] = (Ok tt)
+first_of ((Ok tt) ∷ more) = first_of more
+first_of (Err refusal ∷ more) = Err refusal
 
 -- "Order: 1 (envelope first); then 2, 3 and 4 as the first envelope line at fault ..; then the first 5; then 6, ORCPT lines before
 -- header fields ..; then 7; then 8." 10 stands "in place of 4". For an envelope, a header, and the lengths of both buffers.
@@ -111,7 +109,7 @@ pub record Outcome : Type 0 where
 
 -- "A refusal changes no byte of either buffer and gives both lengths as 0. After 0 the bytes past each length are as before."
 unfoldable pub outcome_of : Rules → Verdict → List ℕ → List ℕ → List ℕ → List ℕ → Outcome
-outcome_of rules (Refuse refusal) e h b c = record {
+outcome_of rules (Err refusal) e h b c = record {
   number = number_of refusal;
   input = input_of refusal;
   place = place_of refusal;
@@ -121,7 +119,7 @@ outcome_of rules (Refuse refusal) e h b c = record {
   envelope_buffer = b;
   header_buffer = c;
 }
-outcome_of rules Accept e h b c = record {
+outcome_of rules (Ok tt) e h b c = record {
   number = 0;
   input = 0;
   place = 0;

@@ -1,23 +1,16 @@
 -- Laws of the outcome, case by case.
-use Rattle.std.specs.Prelude.{◌≡◌, refl, List, [], ◌∷◌, ℕ, ◌≤◌, length}
+use Rattle.std.specs.Prelude.{Ok, Err}
+use Rattle.call.specs.Outcome.{Verdict}
+use Rattle.outgoing_header.specs.HeaderContent.{HeaderContent}
+use Rattle.std.specs.Prelude.{◌≡◌, refl, List, [], ◌∷◌, ℕ, ◌≤◌, length, Result}
 use Rattle.std.proofs.Common.{sym, ap, ◌∙◌, arith}
 use Rattle.rules.specs.declared.Rules.{Rules}
 use Rattle.outgoing_field.specs.Fate.{limited, held_of}
 use Rattle.outgoing_field.proofs.FateLaws.{limited_short}
 use Rattle.outgoing_field.specs.Most.{most_of}
-use Rattle.outgoing_header.specs.declared.HeaderVerdict.{HeaderVerdict}
-use Rattle.outgoing_header.specs.declared.HeaderVerdict.TheVariants.{Accept as HeaderAccept, Refuse as HeaderRefuse}
-use Rattle.outgoing_header.specs.declared.HeaderContent.{HeaderContent}
-use Rattle.outgoing_header.specs.declared.HeaderContent.TheVariants.{Passes as HeaderPasses, Fails as HeaderFails}
 use Rattle.outgoing_header.specs.HeaderContent.{with_most as header_with_most}
 use Rattle.outgoing_header.specs.HeaderOutcome.{of_held}
-use Rattle.envelope.specs.declared.Orcpt.{Orcpt}
-use Rattle.envelope.specs.declared.Orcpt.TheVariants.{Clean}
 use Rattle.envelope.specs.Envelope.{orcpt_line}
-use Rattle.call.specs.declared.Verdict.{Verdict}
-use Rattle.call.specs.declared.Verdict.TheVariants.{Accept, Refuse}
-use Rattle.call.specs.declared.Content.{Content}
-use Rattle.call.specs.declared.Content.TheVariants.{Passes, Fails}
 use Rattle.call.specs.declared.Refusal.{Refusal}
 use Rattle.call.specs.declared.Refusal.TheVariants.{Header}
 use Rattle.call.specs.declared.Answer.{Answer}
@@ -34,10 +27,13 @@ pub record RefusedBy (refusal : Refusal) (answer : Answer) : Type 0 where
 
 -- ---- a verdict with the most of a header, as code finds both
 
+abbrev pub Content : Type 0
+Content = Result ℕ Refusal
+
 unfoldable pub with_most : Verdict → ℕ → Content
-with_most Accept most = Passes most
-with_most (Refuse refusal) most = Fails refusal
+with_most (Ok tt) most = Ok most
+with_most (Err refusal) most = Err refusal
 
 unfoldable pub of_content : HeaderContent → Content
-of_content (HeaderPasses most) = Passes most
-of_content (HeaderFails refusal) = Fails (Header refusal)
+of_content (Ok most) = Ok most
+of_content (Err refusal) = Err (Header refusal)

@@ -1,5 +1,5 @@
 -- Laws of the outcome where the input is accepted: measured, then written.
-use Rattle.std.specs.Prelude.{◌≡◌, refl, List, [], ◌∷◌, ◌++◌, ℕ, ◌+◌, ◌*◌, ◌≤◌, ◌<◌, min}
+use Rattle.std.specs.Prelude.{◌≡◌, refl, List, [], ◌∷◌, ◌++◌, ℕ, ◌+◌, ◌*◌, ◌≤◌, ◌<◌, min, Ok}
 use Rattle.std.proofs.Common.{sym, ◌∙◌, arith, length-append, lt-ltb, le-ltb}
 use Rattle.std.proofs.Math.Path.{ap}
 use Rattle.std.proofs.Math.ListN.{length}
@@ -9,19 +9,16 @@ use Rattle.letter_case.specs.LetterCase.{bytes}
 use Rattle.encoded_word.specs.Segments.{rendered}
 use Rattle.encoded_word.specs.SegmentsLaws.{rendered_append}
 use Rattle.envelope_line.specs.declared.Fault.{Fault}
-use Rattle.envelope.specs.declared.Checked.{Checked}
-use Rattle.envelope.specs.declared.Checked.TheVariants.{Passed, Refused}
+use Rattle.envelope.specs.declared.FaultAt.{FaultAt}
 use Rattle.envelope.specs.Envelope.{checked, texts, written_of, written, orcpt_line, mail_replacement, only_rcpt_of, rcpt_replacement}
 use Rattle.envelope.specs.LineStarts.{EnvelopeChecked, texts_at}
 use Rattle.envelope.proofs.WrittenLaws.{stored}
 use Rattle.envelope.proofs.LengthLaws.{written_le}
 use Rattle.envelope.proofs.ReplacementLaws.{mail_replacement_short, rcpt_replacement_short}
-use Rattle.header_line.specs.declared.LineCheck.{LineCheck}
-use Rattle.header_line.specs.declared.LineCheck.TheVariants.{WellFormed, Malformed}
 use Rattle.header_line.specs.Lines.{checked_lines}
 use Rattle.rules.specs.declared.Rules.{Rules}
-use Rattle.outgoing_field.specs.declared.HeldField.{HeldField}
-use Rattle.outgoing_field.specs.declared.HeldField.TheVariants.{Absent, At}
+use Rattle.outgoing_field.specs.Fate.{FirstHeld}
+use Rattle.outgoing_field.specs.Fate.FirstHeld.{Absent, At}
 use Rattle.outgoing_field.specs.Fate.{segments_of, header_segments, header_written, limited, held_of}
 use Rattle.outgoing_field.proofs.FateLaws.{limited_short, unheld_header}
 use Rattle.outgoing_field.specs.Most.{most_of}
@@ -29,8 +26,6 @@ use Rattle.outgoing_field.proofs.MostLaws.{most_le}
 use Rattle.outgoing_field.proofs.OwedLaws.{owed_header}
 use Rattle.call.specs.declared.Refusal.{Refusal}
 use Rattle.call.specs.declared.Refusal.TheVariants.{EnvelopeOver, EnvelopeLine, EnvelopeNeeds, Header}
-use Rattle.call.specs.declared.Verdict.{Verdict}
-use Rattle.call.specs.declared.Verdict.TheVariants.{Accept, Refuse}
 use Rattle.call.specs.declared.Answer.{Answer}
 use Rattle.call.specs.OutgoingHeader.{new_field, new_fields, new_fields_most, outgoing_segments, outgoing_header}
 use Rattle.call.specs.Outcome.{over, of_envelope, of_header, of_orcpt, first_of, verdict, outcome_of, outcome, observed}
@@ -43,7 +38,7 @@ use Rattle.call.specs.OutcomeLaws.{RefusedBy}
 
 -- no header line is malformed, and no ORCPT and no held field carries non-ASCII; and this is the most of the header
 pub record Accepted (rules : Rules) (e h : List ℕ) (most : ℕ) : Type 0 where
-  pub content : first_of (of_header (of_lines h (checked_lines h)) ∷ of_orcpt e (orcpt_line e) ∷ of_header (of_held h (held_of rules h)) ∷ []) ≡ Accept
+  pub content : first_of (of_header (of_lines h (checked_lines h)) ∷ of_orcpt e (orcpt_line e) ∷ of_header (of_held h (held_of rules h)) ∷ []) ≡ (Ok tt)
   pub greatest : most ≡ most_of rules h
 
 -- ---- the header, by the texts of its new first fields
@@ -69,7 +64,7 @@ pub record Texts (e mail rcpt : List ℕ) : Type 0 where
 pub record Ready (rules : Rules) (e h array : List ℕ) (count : ℕ) : Type 0 where
   pub short₁ : length e ≤ 16384
   pub short₂ : length h ≤ 32768
-  pub passed : checked rules e ≡ Passed count
+  pub passed : checked rules e ≡ Ok count
   pub starts : texts_at count array e ≡ texts e
 
 -- The first `count` entries of an array are the starts of the RCPT lines of an envelope, and what is written for it is short.

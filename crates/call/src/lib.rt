@@ -9,7 +9,6 @@ ghost use Rattle.std.specs.Prelude.{◌≡◌};
 ghost use Rattle.call.specs.Outcome.{observed, outcome};
 ghost use Rattle.call.specs.OutputLaws.{Ready};
 
-use envelope::Checked;
 use envelope_line::Fault;
 use outgoing_header::HeaderRefusal;
 use refusals::refused;
@@ -17,27 +16,13 @@ use rules::Rules;
 
 // Why a call is refused, with the paper's place: of the envelope a line, and the byte that tells why, or the length needed; of the header
 // a refusal of its own.
-#[derive(Clone, Copy)]
+#[derive(Clone, Copy, Debug, PartialEq, Eq)]
 pub enum Refusal {
     EnvelopeOver,
     EnvelopeLine(Fault, usize, usize),
     OrcptLine(usize, usize),
     EnvelopeNeeds(usize),
     Header(HeaderRefusal),
-}
-
-#[derive(Clone, Copy)]
-pub enum Verdict {
-    Accept,
-    Refuse(Refusal),
-}
-
-// A verdict on what stands in an envelope that is well formed and in a header; where both pass, with the most bytes that are written for the
-// header.
-#[derive(Clone, Copy)]
-pub(crate) enum Content {
-    Passes(usize),
-    Fails(Refusal),
 }
 
 // What a call answers: the paper's number, which input it is about (1 the envelope, 2 the header, 0 neither), the paper's place and
@@ -67,8 +52,8 @@ fn downgrade_checked(
     ensures { observed result envelope_buffer.new header_buffer.new ≡ outcome rules envelope.now header.now envelope_buffer.old header_buffer.old }
 {
     match refusals::of_content(rules, envelope, header) {
-        Content::Fails(refusal) => refused(refusal),
-        Content::Passes(most) => {
+        Err(refusal) => refused(refusal),
+        Ok(most) => {
             output::fill(
                 rules,
                 envelope,
@@ -101,11 +86,11 @@ pub fn downgrade(
     }
     let mut starts = [0usize; 100];
     match envelope::check(rules, envelope, &mut starts) {
-        Checked::Refused(fault, line) => {
-            let offset = offset::of_fault(envelope, fault, line);
-            refused(Refusal::EnvelopeLine(fault, line, offset))
+        Err(at) => {
+            let offset = offset::of_fault(envelope, at.fault, at.line);
+            refused(Refusal::EnvelopeLine(at.fault, at.line, offset))
         }
-        Checked::Passed(count) => {
+        Ok(count) => {
             downgrade_checked(
                 rules,
                 envelope,

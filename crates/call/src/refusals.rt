@@ -6,19 +6,19 @@ ghost use Rattle.outgoing_field.specs.Fate.{held_of};
 ghost use Rattle.outgoing_field.specs.Most.{most_of};
 ghost use Rattle.outgoing_header.specs.HeaderOutcome.{of_lines, of_held};
 ghost use Rattle.call.specs.Outcome.{number_of, place_of, offset_of, input_of, first_of, of_header, of_orcpt};
-ghost use Rattle.call.specs.OutcomeLaws.{RefusedBy, with_most, of_content};
+ghost use Rattle.call.specs.OutcomeLaws.{RefusedBy, with_most};
+ghost use Rattle.call.specs.declared.Refusal.TheVariants.{Header};
 
-use crate::{Answer, Content, Refusal};
-use envelope::Orcpt;
+use crate::{Answer, Refusal};
 use envelope_line::Fault;
-use outgoing_header::{HeaderContent, HeaderVerdict};
+use outgoing_header::HeaderRefusal;
 use rules::Rules;
 
+#[tactic(auto, unfolding(envelope::specs::Envelope::fault_number))]
 fn fault_number(fault: Fault) -> u32
     ensures { result ≡ fault_number fault }
 {
     match fault {
-        Fault::Fine => 0,
         Fault::Malformed => 2,
         Fault::NoAlternative => 3,
         Fault::BadAlternative => 4,
@@ -26,53 +26,67 @@ fn fault_number(fault: Fault) -> u32
     }
 }
 
-fn number(refusal: Refusal) -> u32
-    ensures { result ≡ number_of refusal }
-{
-    match refusal {
-        Refusal::EnvelopeOver => 1,
-        Refusal::EnvelopeLine(fault, line, offset) => fault_number(fault),
-        Refusal::OrcptLine(line, offset) => 6,
-        Refusal::EnvelopeNeeds(size) => 7,
-        Refusal::Header(of_header) => outgoing_header::number_of(of_header),
+impl From<HeaderRefusal> for Refusal {
+    ghost from_gives = { λ refusal result. result ≡ Header refusal };
+
+    fn from(refusal: HeaderRefusal) -> Refusal {
+        Refusal::Header(refusal)
     }
 }
 
-fn place(refusal: Refusal) -> usize
-    ensures { result ≡ place_of refusal }
-{
-    match refusal {
-        Refusal::EnvelopeOver => 0,
-        Refusal::EnvelopeLine(fault, line, offset) => line,
-        Refusal::OrcptLine(line, offset) => line,
-        Refusal::EnvelopeNeeds(size) => size,
-        Refusal::Header(of_header) => outgoing_header::place_of(of_header),
+impl Refusal {
+    #[tactic(auto, unfolding(crate::specs::Outcome::number_of))]
+    fn number(self) -> u32
+        ensures { result ≡ number_of self }
+    {
+        match self {
+            Refusal::EnvelopeOver => 1,
+            Refusal::EnvelopeLine(fault, _, _) => fault_number(fault),
+            Refusal::OrcptLine(_, _) => 6,
+            Refusal::EnvelopeNeeds(_) => 7,
+            Refusal::Header(refusal) => refusal.number(),
+        }
     }
-}
 
-// The byte that it points to.
-fn offset(refusal: Refusal) -> usize
-    ensures { result ≡ offset_of refusal }
-{
-    match refusal {
-        Refusal::EnvelopeOver => 0,
-        Refusal::EnvelopeLine(fault, line, offset) => offset,
-        Refusal::OrcptLine(line, offset) => offset,
-        Refusal::EnvelopeNeeds(size) => 0,
-        Refusal::Header(of_header) => outgoing_header::offset_of(of_header),
+    #[tactic(auto, unfolding(crate::specs::Outcome::place_of))]
+    fn place(self) -> usize
+        ensures { result ≡ place_of self }
+    {
+        match self {
+            Refusal::EnvelopeOver => 0,
+            Refusal::EnvelopeLine(_, line, _) => line,
+            Refusal::OrcptLine(line, _) => line,
+            Refusal::EnvelopeNeeds(size) => size,
+            Refusal::Header(refusal) => refusal.place(),
+        }
     }
-}
 
-// Which input it is about.
-fn input(refusal: Refusal) -> u32
-    ensures { result ≡ input_of refusal }
-{
-    match refusal {
-        Refusal::EnvelopeOver => 1,
-        Refusal::EnvelopeLine(fault, line, offset) => 1,
-        Refusal::OrcptLine(line, offset) => 1,
-        Refusal::EnvelopeNeeds(size) => 1,
-        Refusal::Header(of_header) => 2,
+    // The byte that it points to.
+    #[tactic(auto, unfolding(crate::specs::Outcome::offset_of))]
+    fn offset(self) -> usize
+        ensures { result ≡ offset_of self }
+    {
+        match self {
+            Refusal::EnvelopeOver => 0,
+            Refusal::EnvelopeLine(_, _, offset) => offset,
+            Refusal::OrcptLine(_, offset) => offset,
+            Refusal::EnvelopeNeeds(_) => 0,
+            Refusal::Header(refusal) => refusal.offset(),
+        }
+    }
+
+    // Which input it is about.
+    #[tactic(auto, unfolding(crate::specs::Outcome::input_of))]
+    fn input(self) -> u32
+        ensures { result ≡ input_of self }
+    {
+        match self {
+            Refusal::EnvelopeOver => 1,
+            Refusal::EnvelopeLine(_, _, _) => 1,
+            Refusal::OrcptLine(_, _) => 1,
+            Refusal::EnvelopeNeeds(_) => 1,
+            Refusal::Header(_) => 2,
+        }
     }
 }
 
@@ -81,45 +95,31 @@ pub(crate) fn refused(refusal: Refusal) -> Answer
     ensures { RefusedBy refusal result }
 {
     Answer {
-        number: number(refusal),
-        input: input(refusal),
-        place: place(refusal),
-        offset: offset(refusal),
+        number: refusal.number(),
+        input: refusal.input(),
+        place: refusal.place(),
+        offset: refusal.offset(),
         envelope_len: 0,
         header_len: 0,
     }
 }
 
-// A verdict on the header.
-fn of_header(content: HeaderContent) -> Content
-    ensures { result ≡ of_content content }
-{
-    match content {
-        HeaderContent::Passes(most) => Content::Passes(most),
-        HeaderContent::Fails(refusal) => Content::Fails(Refusal::Header(refusal)),
-    }
-}
-
 // Non-ASCII in an ORCPT, or else in a held field.
-fn non_ascii(rules: Rules, envelope: &[u8], header: &[u8]) -> Content
+fn non_ascii(rules: Rules, envelope: &[u8], header: &[u8]) -> Result<usize, Refusal>
     requires { length header.now ≤ 32768 }
     ensures { result ≡ with_most (first_of (of_orcpt envelope.now (orcpt_line envelope.now) ∷ of_header (of_held header.now (held_of rules header.now)) ∷ [])) (most_of rules header.now) }
 {
-    match envelope::orcpt_line(envelope) {
-        Orcpt::Clean => of_header(outgoing_header::of_held(rules, header)),
-        Orcpt::At(line) => {
-            Content::Fails(Refusal::OrcptLine(line, offset::of_orcpt(envelope, line)))
-        }
+    if let Some(line) = envelope::orcpt_line(envelope) {
+        return Err(Refusal::OrcptLine(line, offset::of_orcpt(envelope, line)));
     }
+    Ok(outgoing_header::of_held(rules, header)?)
 }
 
-// A malformed header line, or else non-ASCII that cannot be passed on.
-pub(crate) fn of_content(rules: Rules, envelope: &[u8], header: &[u8]) -> Content
+// A malformed header line, or else non-ASCII that cannot be passed on; where there is none, the most bytes that are written for the header.
+pub(crate) fn of_content(rules: Rules, envelope: &[u8], header: &[u8]) -> Result<usize, Refusal>
     requires { length header.now ≤ 32768 }
     ensures { result ≡ with_most (first_of (of_header (of_lines header.now (checked_lines header.now)) ∷ of_orcpt envelope.now (orcpt_line envelope.now) ∷ of_header (of_held header.now (held_of rules header.now)) ∷ [])) (most_of rules header.now) }
 {
-    match outgoing_header::of_lines(header) {
-        HeaderVerdict::Accept => non_ascii(rules, envelope, header),
-        HeaderVerdict::Refuse(refusal) => Content::Fails(Refusal::Header(refusal)),
-    }
+    outgoing_header::of_lines(header)?;
+    non_ascii(rules, envelope, header)
 }

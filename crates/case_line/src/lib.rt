@@ -13,18 +13,21 @@ ghost use Rattle.lists.specs.Lists.{all};
 ghost use Rattle.lists.specs.Run.{run};
 ghost use Rattle.case_line.specs.CaseLine.{is_case, other, column_of, decimal, is_filler, Holds, IsPrefixLen};
 
+use byte_class::Class;
+
 // The place of the first byte `mark` from `at` on; where there is none, the length, or `at` where that lies past it.
 pub fn find(s: &[u8], at: usize, mark: u8) -> usize
     ensures { result ≡ at + run (other mark) (drop at s.now) }
 {
-    let mut i = at;
-    while i < s.len() {
+    if s.len() <= at {
+        return at;
+    }
+    for i in at..s.len() {
         if s[i] == mark {
             return i;
         }
-        i += 1;
     }
-    i
+    s.len()
 }
 
 // Whether a line is a case: it is not empty, and no comment after #.
@@ -51,10 +54,8 @@ pub fn number(digits: &[u8]) -> usize
     ensures { result ≡ decimal 0 digits.now }
 {
     let mut n: usize = 0;
-    let mut i = 0;
-    while i < digits.len() {
-        n = buffer::clip(n * 10 + hex_digit::value(digits[i]) as usize, 999999);
-        i += 1;
+    for i in 0..digits.len() {
+        n = buffer::clip(n * 10 + usize::from(hex_digit::value(digits[i])), 999999);
     }
     n
 }
@@ -90,18 +91,21 @@ pub fn room(n: usize, buffer: &[u8]) -> usize
     buffer::clip(n, buffer.len())
 }
 
+struct Filler;
+
+impl Class for Filler {
+    ghost member = { is_filler };
+
+    fn holds(b: u8) -> bool {
+        b == b'#'
+    }
+}
+
 // Whether all bytes are #, with which a program fills a buffer before a call.
 pub fn is_untouched(bytes: &[u8]) -> bool
     ensures { result ≡ all is_filler bytes.now }
 {
-    let mut i = 0;
-    while i < bytes.len() {
-        if bytes[i] != b'#' {
-            return false;
-        }
-        i += 1;
-    }
-    true
+    byte_class::are_all::<Filler>(bytes)
 }
 
 // Whether a buffer that was full of # holds as much of a text as `size` bytes take, and # after it.

@@ -14,7 +14,7 @@ use Rattle.base64_digits.specs.Base64.{digit64, in_base64}
 use Rattle.row.specs.declared.Encoding.TheVariants.{Q}
 use Rattle.row.specs.Word.{word}
 use Rattle.row.specs.Row.{runs, chosen, lines, row_in, row, runs_after, lines_after, row_after_in}
-use Rattle.envelope.specs.Envelope.{lines as envelope_lines, line_text, ended_fault, fault_of, fault_number, is_fine, counted, checked_from, checked, texts, orcpt_from, orcpt_line, written_ended, written_of, written, mail_of, mail_replacement, only_rcpt_of, rcpt_replacement}
+use Rattle.envelope.specs.Envelope.{lines as envelope_lines, line_text, ended_fault, fault_of, fault_number, counted, checked_from, checked, texts, orcpt_from, orcpt_line, written_ended, written_of, written, mail_of, mail_replacement, only_rcpt_of, rcpt_replacement}
 use Rattle.header_line.specs.Lines.{checked_lines, line_byte, name_byte, name_len, named, continuation, well_formed, line_ok, lines_of, lines_from}
 use Rattle.line.specs.Line.{blank, crlf, line_len}
 use Rattle.address.specs.Address.{later, byte_then, scan_then, is_atext, is_atom_byte, is_quoted_byte, is_literal_byte, dot_atom_from, dot_atom_scan, quoted_from, quoted_scan, literal_from, literal_scan, domain_scan, local_scan, address_scan, is_address, is_ascii_address}
@@ -28,7 +28,6 @@ use Rattle.field.specs.Field.{labelled_field, prefix, encoded_field}
 use Rattle.outgoing_field.specs.Fate.{holds, method_written, method_fate, fate_of, segments_of, field_segments, header_segments, is_held, held_from, held_of}
 use Rattle.encoded_word.specs.Segments.{rendered}
 use Rattle.rules.specs.declared.Rules.TheVariants.{Spool}
-use Rattle.call.specs.declared.Verdict.TheVariants.{Accept}
 use Rattle.call.specs.OutgoingHeader.{new_field, new_fields, outgoing_segments, outgoing_header}
 use Rattle.outgoing_header.specs.HeaderOutcome.{of_size, of_lines, of_held, of_room, number_of as header_number, place_of as header_place}
 use Rattle.call.specs.Outcome.{number_of, place_of, over, of_envelope, of_header, of_orcpt, first_of, verdict, Outcome, outcome_of, outcome}

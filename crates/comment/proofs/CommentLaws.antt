@@ -1,6 +1,6 @@
 -- Laws of comments and runs: by position in a text, as code goes through it.
 use borrow.Author.Tests.{ne_eqb, eqb-true}
-use Rattle.std.specs.Prelude.{◌≡◌, Bool, ◌&&◌, ◌||◌, ℕ, zero, suc, ◌+◌, ◌-◌, ◌≤◌, ◌<◌, eqb, take, drop}
+use Rattle.std.specs.Prelude.{◌≡◌, Bool, ◌&&◌, ◌||◌, ℕ, zero, suc, ◌+◌, ◌-◌, ◌≤◌, ◌<◌, eqb, take, drop, Option, Some, None}
 use Rattle.std.proofs.Math.Path.{refl}
 use Rattle.std.proofs.Common.{sym, ◌∙◌, ap, le_of_suc-le-suc, drop_of_length-le}
 use Rattle.std.proofs.Math.Bool.{true, false, not, cond, or-false}
@@ -10,9 +10,10 @@ use native.Mathlib.Omega.{arith}
 use Rattle.std.proofs.Math.ListN.{length, get_or, length-drop}
 use Rattle.std.proofs.Math.Seq.{drop-cons, drop-drop, get_or-drop}
 use Rattle.std.proofs.Math.Facts.{and_yes}
+use Rattle.lists.specs.Lists.{nonzero}
 use Rattle.lists.specs.ListsLaws.{cond_has, yes_true}
 use Rattle.unquote.specs.Unquote.{escapes}
-use Rattle.comment.specs.Comment.{is_paren, past, depth_after, closing, comment_len, run_to, run_len}
+use Rattle.comment.specs.Comment.{is_paren, past, depth_after, closing, comment_len, end_of, run_to, run_len}
 use Rattle.comment.specs.CommentLaws.{close_at}
 
 -- ---- past
@@ -291,30 +292,53 @@ after_some : (i e n : ℕ) → e ≡ past (i + 1) n → (e ≡ 0 → ⊥) → i 
 after_some i e zero h k = absurd (k (h ∙ past_none (i + 1)))
 after_some i e (suc n) h k = omega (arith, past_some (i + 1) (suc n) (omega arith), past_some 1 (suc n) (omega arith))
 
+-- the end of a comment of n bytes, by where the comment inside it is closed
+end_after : (i n m : ℕ) → (m ≡ 0 → i + n ≡ i) → ((m ≡ 0 → ⊥) → i + n ≡ m) → ((m ≡ 0 → ⊥) → i + 1 < m) → nonzero m ≡ end_of i n
+end_after i zero zero none some beyond = refl
+end_after i (suc n) zero none some beyond = absurd (omega (arith, none refl))
+end_after i zero (suc m) none some beyond = absurd (omega (arith, some (λ z. omega arith), beyond (λ z. omega arith)))
+end_after i (suc n) (suc m) none some beyond = let k : suc m ≡ i + suc n = sym (some (λ z. omega arith)) in rw k
+
+no_end : (at n : ℕ) → None ≡ end_of at n → n ≡ 0
+no_end at zero e = refl
+no_end at (suc n) e = absurd (let z : ◌≡◌ {A = ℕ} 0 1 = cc in omega arith)
+
+an_end : (at n e : ℕ) → Some e ≡ end_of at n → (e ≡ at + n) × (0 < n)
+an_end at zero e q = absurd (let z : ◌≡◌ {A = ℕ} 0 1 = cc in omega arith)
+an_end at (suc n) e q = (cc, omega arith)
+
+-- what is found is the end of a comment of n bytes
+module _ {o : Option ℕ} (at n : ℕ) (r : o ≡ end_of at n) where
+  pub not_ended : o ≡ None → n ≡ 0
+  not_ended e = no_end at n (sym e ∙ r)
+
+  pub ended_at : {e : ℕ} → o ≡ Some e → e ≡ at + n
+  ended_at {e} q = (an_end at n e (sym q ∙ r)).0
+
+  pub ended_some : {e : ℕ} → o ≡ Some e → 0 < n
+  ended_some {e} q = (an_end at n e (sym q ∙ r)).1
+
 module _ (s : List ℕ) (i : ℕ) where
-  pub comment_over : length s ≤ i → i + comment_len (drop i s) ≡ i
+  pub comment_over : length s ≤ i → None ≡ end_of i (comment_len (drop i s))
   unfolding comment_len
-  comment_over h = rw (drop_of_length-le s {i = i} h) (omega arith)
+  comment_over h = rw (drop_of_length-le s {i = i} h)
 
   module _ (h : i < length s) where
-    pub comment_other : (get_or s i 0 ≡ 40 → ⊥) → i + comment_len (drop i s) ≡ i
+    pub comment_other : (get_or s i 0 ≡ 40 → ⊥) → None ≡ end_of i (comment_len (drop i s))
     unfolding comment_len
-    comment_other n = rw (drop-cons s i 0 h, ne_eqb (get_or s i 0) 40 n) (omega arith)
+    comment_other n = rw (drop-cons s i 0 h, ne_eqb (get_or s i 0) 40 n)
 
     module _ (t : get_or s i 0 ≡ 40) where
       starts : comment_len (drop i s) ≡ past 1 (closing 1 false (drop (i + 1) s))
       unfolding comment_len
       starts = rw (add-one i, drop-cons s i 0 h, t, step_open)
 
-      -- e is past the comment, of which the inside starts at i + 1
-      module _ (e : ℕ) (r : e ≡ close_at 0 s (i + 1)) where
-        pub comment_none : e ≡ 0 → i + comment_len (drop i s) ≡ i
-        unfolding close_at
-        comment_none z = rw starts (after_none i (closing 1 false (drop (i + 1) s)) (sym r ∙ z))
-
-        pub comment_some : (e ≡ 0 → ⊥) → i + comment_len (drop i s) ≡ e
-        unfolding close_at
-        comment_some n = rw starts (after_some i e (closing 1 false (drop (i + 1) s)) r n)
+      -- the inside of the comment starts at i + 1
+      pub comment_ends : nonzero (close_at 0 s (i + 1)) ≡ end_of i (comment_len (drop i s))
+      unfolding close_at
+      comment_ends =
+          let inner : ℕ = closing 1 false (drop (i + 1) s) in
+          rw starts (end_after i (past 1 inner) (past (i + 1) inner) (after_none i inner) (after_some i (past (i + 1) inner) inner refl) (past_beyond (i + 1) (past (i + 1) inner) inner refl))
 
 -- a comment lies in the text
 closing_within : (s : List ℕ) (d : ℕ) (e : Bool) → closing d e s ≤ length s

@@ -3,7 +3,7 @@
 -- `(` is 40, `)` is 41, the backslash 92. "in all comments a backslash escapes any next character": it is enough to pass over the
 -- next byte, since the other bytes of a character are neither parentheses nor backslashes. Before a fold a backslash escapes the
 -- blank after it; here that is the CR, and neither of the two is a parenthesis or a backslash.
-use Rattle.std.specs.Prelude.{Bool, true, false, not, cond, ◌&&◌, ◌||◌, List, [], ◌∷◌, ℕ, zero, suc, ◌+◌, ◌-◌, eqb, get_or}
+use Rattle.std.specs.Prelude.{Bool, true, false, not, cond, ◌&&◌, ◌||◌, List, [], ◌∷◌, ℕ, zero, suc, ◌+◌, ◌-◌, eqb, get_or, Option, Some, None}
 use Rattle.unquote.specs.Unquote.{escapes}
 
 abbrev pub is_paren : ℕ → Bool
@@ -29,6 +29,11 @@ closing depth escaped (b ∷ s) =
 -- The length of the comment at the front of a text; 0 where none starts there or it is unclosed.
 unfoldable pub comment_len : List ℕ → ℕ
 comment_len s = cond (eqb (get_or s 0 0) 40) (closing 0 false s) 0
+
+-- where a comment of n bytes at a place ends; none where n is 0
+abbrev pub end_of : ℕ → ℕ → Option ℕ
+end_of at zero = None
+end_of at (suc n) = Some (at + suc n)
 
 -- how many bytes stand before the first that passes a test and is not escaped; all bytes where there is none
 unfoldable pub run_to : (ℕ → Bool) → Bool → List ℕ → ℕ

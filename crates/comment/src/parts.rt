@@ -2,29 +2,21 @@
 ghost use Rattle.std.specs.Prelude.{◌≡◌, ◌+◌, drop};
 ghost use Rattle.lists.specs.Lists.{all};
 ghost use Rattle.buffer.specs.Buffer.{AppendedCapped};
-ghost use Rattle.lists.specs.Run.{run};
 ghost use Rattle.comment.specs.Comment.{is_paren, is_text, run_len};
-ghost use Rattle.comment.specs.Parts.{part_len, parts, run_text, is_blank_run, fits};
+ghost use Rattle.comment.specs.Parts.{part_len, parts, stays_in_run, run_text, is_blank_run, fits};
 
-// Whether a byte of a comment is neither a parenthesis nor a backslash.
-fn is_text(b: u8) -> bool
-    ensures { result ≡ is_text is_paren b }
-{
-    !((b == b'(') | (b == b')') | (b == b'\\'))
-}
+use byte_class::Class;
+use unquote::Stays;
 
-// The place of the first parenthesis or backslash from `at` on.
-fn text_end(s: &[u8], at: usize) -> usize
-    ensures { result ≡ at + run (is_text is_paren) (drop at s.now) }
-{
-    let mut i = at;
-    while i < s.len() {
-        if !is_text(s[i]) {
-            return i;
-        }
-        i += 1;
+// The bytes of a comment that are neither a parenthesis nor a backslash.
+struct Text;
+
+impl Class for Text {
+    ghost member = { is_text is_paren };
+
+    fn holds(b: u8) -> bool {
+        !((b == b'(') | (b == b')') | (b == b'\\'))
     }
-    i
 }
 
 // Where the run of text from `at` ends: at the first parenthesis that is not escaped, or at the end.
@@ -33,7 +25,7 @@ pub fn run_end(s: &[u8], at: usize) -> usize
 {
     let mut i = at;
     while i < s.len() {
-        let p = text_end(s, i);
+        let p = byte_class::run_end::<Text>(s, i);
         if s.len() <= p {
             return p;
         }
@@ -95,19 +87,21 @@ pub fn parts_fit(comment: &[u8]) -> bool
     true
 }
 
+// Without escapes and folds.
+struct RunText;
+
+impl Stays for RunText {
+    ghost stays = { stays_in_run };
+
+    fn holds(escaped: bool, b: u8) -> bool {
+        (escaped | !(b == b'\\')) & !((b == 13) | (b == 10))
+    }
+}
+
 // Writes a run without escapes and folds from a place on, as far as it fits; answers the place after it.
+#[tactic(auto, unfolding(crate::specs::Parts::run_text))]
 pub fn add_run_text(out: &mut [u8], at: usize, run: &[u8]) -> usize
     ensures { AppendedCapped (run_text run.now) at out.old out.new result }
 {
-    let mut next = at;
-    let mut escaped = false;
-    let mut i = 0;
-    while i < run.len() {
-        let b = run[i];
-        let stays = (escaped | !(b == b'\\')) & !((b == 13) | (b == 10));
-        next = unquote::add_kept(out, next, stays, b);
-        escaped = unquote::escapes(escaped, b);
-        i += 1;
-    }
-    next
+    unquote::add_kept_text::<RunText>(out, at, run)
 }

@@ -27,14 +27,14 @@ use Rattle.address_grammar.proofs.AddressFieldLaws.{field_made, field_only}
 use Rattle.structured_field.specs.StructuredField.{ascii_outside_comments, value_segments, structured_field}
 use Rattle.structured_field.proofs.GrammarLaws.{made_reads as structured_reads, reads_made as reads_structured}
 use Rattle.received.specs.Received.{value_clear, lines_fit, passes, received_field}
-use Rattle.received.proofs.LinesLaws.{lines_fit_lem, fit_lines}
+use Rattle.received.proofs.FitLaws.{lines_fit_lem, fit_lines}
 use Rattle.received.proofs.GrammarLaws.{made_reads as received_reads, reads_made as reads_received}
 use Rattle.parameterized_field.specs.Value.{segments_from, parameterized_field, passes as parameters_pass}
 use Rattle.parameterized_field.specs.GrammarLaws.{passes_made, made_passes}
 use Rattle.outgoing_field.specs.Fate.{Fate, comments_or_encapsulated, holds, method_written, method_fate, fate_of, segments_of, field_segments, header_segments, is_held, held_from, held_of}
 use Rattle.outgoing_field.specs.Fate.Fate.{held, written}
-use Rattle.outgoing_field.specs.declared.HeldField.{HeldField}
-use Rattle.outgoing_field.specs.declared.HeldField.TheVariants.{Absent, At}
+use Rattle.outgoing_field.specs.Fate.{FirstHeld}
+use Rattle.outgoing_field.specs.Fate.FirstHeld.{Absent, At}
 use Rattle.offset.specs.Offset.{field_offset}
 use Rattle.demands.specs.Downgraded.{MethodBecomes, Becomes, FieldsBecome}
 use Rattle.demands.specs.HeaderGiven.{HeldHeader}
@@ -144,14 +144,14 @@ module _ (rules : Rules) (field : List ℕ) where
 -- ---- fields, one after another
 
 -- what is found among these fields of a header, the first of which starts at the byte `at`
-data Found (rules : Rules) (h : List ℕ) (at : ℕ) (fields : List (List ℕ)) : HeldField → Type 0 where
+data Found (rules : Rules) (h : List ℕ) (at : ℕ) (fields : List (List ℕ)) : FirstHeld → Type 0 where
   absent : FieldsBecome rules fields (joined (map (field_segments rules) fields)) → Found rules h at fields Absent
   first : {segments : List Segment} (before : List (List ℕ)) (field : List ℕ) (after : List (List ℕ)) → fields ≡ before ++ (field ∷ after)
       → FieldsBecome rules before segments → fate_of rules field ≡ held
       → Found rules h at fields (At (line_count (take (at + length (joined before)) h)) (at + length (joined before)))
 
 module _ (rules : Rules) (h : List ℕ) where
-  found_later : (at : ℕ) (field : List ℕ) {found : HeldField} {fields : List (List ℕ)} {segments : List Segment} → fate_of rules field ≡ written segments
+  found_later : (at : ℕ) (field : List ℕ) {found : FirstHeld} {fields : List (List ℕ)} {segments : List Segment} → fate_of rules field ≡ written segments
       → Found rules h (at + length field) fields found → Found rules h at (field ∷ fields) found
   unfolding field_segments segments_of
   found_later at field e (Found.absent b) = Found.absent (rw e (FieldsBecome.then (becomes rules field e) b))

@@ -1,5 +1,6 @@
 -- The three demands hold of the outcome.
-use Rattle.std.specs.Prelude.{◌≡◌, ◌≢◌, Bool, true, not, List, [], ◌∷◌, ◌++◌, T, eqb, ltb, take}
+use Rattle.call.specs.Outcome.{Verdict}
+use Rattle.std.specs.Prelude.{◌≡◌, ◌≢◌, Bool, true, not, List, [], ◌∷◌, ◌++◌, T, eqb, ltb, take, Ok, Err, Result, Option, Some, None}
 use Rattle.std.proofs.Math.Path.{refl, sym, ap}
 use Rattle.std.proofs.Common.{◌∙◌, append-nil, arith, eqb→eq}
 use Prim.Native.Nat.{ℕ, suc, pred, ◌≤◌}
@@ -15,21 +16,15 @@ use Rattle.encoded_word.specs.Segments.{Segment, rendered, sound}
 use Rattle.encoded_word.specs.SegmentsLaws.{rendered_ascii}
 use Rattle.letter_case.specs.LetterCase.{bytes}
 use Rattle.envelope_line.specs.declared.Fault.{Fault}
-use Rattle.envelope_line.specs.declared.Fault.TheVariants.{Fine, Malformed, NoAlternative, BadAlternative, RetiredAlternative}
-use Rattle.envelope.specs.declared.Checked.{Checked}
-use Rattle.envelope.specs.declared.Checked.TheVariants.{Passed, Refused}
-use Rattle.envelope.specs.declared.Orcpt.{Orcpt}
-use Rattle.envelope.specs.declared.Orcpt.TheVariants.{Clean, At}
-use Rattle.envelope.specs.Envelope.{checked, fault_number, orcpt_line, texts, mail_of, only_rcpt_of, written, mail_replacement, rcpt_replacement}
-use Rattle.envelope.proofs.PassedLaws.{checked_not_fine}
+use Rattle.envelope_line.specs.declared.Fault.TheVariants.{Malformed, NoAlternative, BadAlternative, RetiredAlternative}
+use Rattle.envelope.specs.declared.FaultAt.{FaultAt}
+use Rattle.envelope.specs.Envelope.{checked, fault_number, orcpt_line, texts, mail_of, only_rcpt_of, written, mail_replacement, rcpt_replacement, refused}
 use Rattle.envelope.proofs.AsciiLaws.{written_ascii}
 use Rattle.envelope.proofs.ReplacementLaws.{mail_replacement_utf8, rcpt_replacement_utf8, mail_replacement_none, rcpt_replacement_none}
 use Rattle.envelope_line.specs.EnvelopeLine.{replacement}
-use Rattle.header_line.specs.declared.LineCheck.{LineCheck}
-use Rattle.header_line.specs.declared.LineCheck.TheVariants.{WellFormed, Malformed as MalformedLine}
-use Rattle.outgoing_field.specs.declared.HeldField.{HeldField}
-use Rattle.outgoing_field.specs.declared.HeldField.TheVariants.{Absent, At as HeldAt}
-use Rattle.header_line.specs.Lines.{checked_lines}
+use Rattle.outgoing_field.specs.Fate.{FirstHeld}
+use Rattle.outgoing_field.specs.Fate.FirstHeld.{Absent, At as HeldAt}
+use Rattle.header_line.specs.Lines.{checked_lines, LineCheck}
 use Rattle.header.specs.Fields.{fields_of}
 use Rattle.rules.specs.declared.Rules.{Rules}
 use Rattle.rules.specs.Rules.{allows_alternative}
@@ -38,8 +33,6 @@ use Rattle.outgoing_field.specs.Fate.{segments_of, header_segments, held_of}
 use Rattle.outgoing_field.proofs.OwedLaws.{owed_header}
 use Rattle.call.specs.declared.Answer.{Answer}
 use Rattle.call.specs.declared.Refusal.TheVariants.{EnvelopeOver, EnvelopeNeeds}
-use Rattle.call.specs.declared.Verdict.{Verdict}
-use Rattle.call.specs.declared.Verdict.TheVariants.{Accept, Refuse}
 use Rattle.call.specs.OutgoingHeader.{new_field, new_fields, outgoing_segments, outgoing_header}
 use Rattle.call.specs.Outcome.{number_of, input_of, place_of, offset_of, of_envelope, of_header, of_orcpt, first_of, verdict, Outcome, outcome_of, outcome, observed}
 use Rattle.call.proofs.OutputLaws.{over_yes, over_no}
@@ -96,9 +89,9 @@ module _ (rules : Rules) (e h : List ℕ) where
   pub record Passes : Type 0 where
     pub limits : (length e ≤ 16384) × (length h ≤ 32768)
     pub recipients : ℕ
-    pub envelope : checked rules e ≡ Passed recipients
-    pub header : checked_lines h ≡ WellFormed
-    pub orcpt : orcpt_line e ≡ Clean
+    pub envelope : checked rules e ≡ Ok recipients
+    pub header : checked_lines h ≡ Ok tt
+    pub orcpt : orcpt_line e ≡ None
     pub held : held_of rules h ≡ Absent
 
   record Computed (out : List ℕ) (segments : List Segment) : Type 0 where
@@ -200,17 +193,17 @@ module _ (rules : Rules) (e h b c : List ℕ) where
       rw (over_no 16384 (length e) EnvelopeOver s.0, size_within h s.1, p.envelope, p.header, p.orcpt, p.held, over_no (length b) (length (written e)) (EnvelopeNeeds (length (written e))) k', room_enough (length c) (length (outgoing_header rules e h)) l') (refl, refl, refl, refl)
 
   -- some condition holds
-  record Some : Type 0 where
+  record SomeHolds : Type 0 where
     pub number : ℕ
     pub input : ℕ
     pub place : ℕ
     pub offset : ℕ
     pub given : Given rules e h b c number input place offset
 
-  found : {number input place offset : ℕ} → Given rules e h b c number input place offset → Some
+  found : {number input place offset : ℕ} → Given rules e h b c number input place offset → SomeHolds
   found {number} {input} {place} {offset} g = record { number = number; input = input; place = place; offset = offset; given = g }
 
-  some_room : Passes rules e h → Some
+  some_room : Passes rules e h → SomeHolds
   unfolding outgoing_header
   some_room p =
       let d = passes_downgraded rules e h p in
@@ -222,52 +215,51 @@ module _ (rules : Rules) (e h b c : List ℕ) where
       (λ u. found (none_holds d k (ltb_no {a = length c} {b = length (outgoing_header rules e h)} u))))
 
   module _ (s : (length e ≤ 16384) × (length h ≤ 32768)) where
-    module _ (m : ℕ) (p : checked rules e ≡ Passed m) where
+    module _ (m : ℕ) (p : checked rules e ≡ Ok m) where
       passed : EnvelopePasses rules Any e h (written e) (replacements e)
       passed =
           let x = envelope_passed rules e m p in
           let enough : 2 ≤ suc m = let k = x.0 in omega arith in
           none_refused s.0 s.1 enough x.1
 
-      module _ (q : checked_lines h ≡ WellFormed) where
-        module _ (r : orcpt_line e ≡ Clean) where
+      module _ (q : checked_lines h ≡ Ok tt) where
+        module _ (r : orcpt_line e ≡ None) where
           clean : EnvelopePasses rules Ascii e h (written e) (replacements e)
           clean =
               let enough : 2 ≤ suc m = let k = (envelope_passed rules e m p).0 in omega arith in
               none_refused s.0 s.1 enough (envelope_clean rules e m p r)
 
-          some_held : (held : HeldField) → held_of rules h ≡ held → Some
+          some_held : (held : FirstHeld) → held_of rules h ≡ held → SomeHolds
           some_held Absent k = some_room (record { limits = s; recipients = m; envelope = p; header = q; orcpt = r; held = k })
           some_held (HeldAt line at) k =
               found (held_non_ascii clean (header_lines h q).1 (field_held rules h line at k))
 
-        some_orcpt : (orcpt : Orcpt) → orcpt_line e ≡ orcpt → Some
-        some_orcpt Clean k = some_held k (held_of rules h) refl
-        some_orcpt (At line) k =
+        some_orcpt : (orcpt : Option ℕ) → orcpt_line e ≡ orcpt → SomeHolds
+        some_orcpt None k = some_held k (held_of rules h) refl
+        some_orcpt (Some line) k =
             let x = envelope_orcpt rules e m line p k in
             found (orcpt_non_ascii x.more passed (header_lines h q).1 x.is x.lines x.l x.high)
 
-      some_header : (check : LineCheck) → checked_lines h ≡ check → Some
-      some_header WellFormed k = some_orcpt k (orcpt_line e) refl
-      some_header (MalformedLine line at) k = found (header_malformed passed (header_malformed_found h line at k))
+      some_header : (check : LineCheck) → checked_lines h ≡ check → SomeHolds
+      some_header (Ok tt) k = some_orcpt k (orcpt_line e) refl
+      some_header (Err bad) k = found (header_malformed passed (header_malformed_found h bad.line bad.at k))
 
-    some_refused : (fault : Fault) (line : ℕ) → (fault ≡ Malformed → ⊥) → checked rules e ≡ Refused fault line → Some
+    some_refused : (fault : Fault) (line : ℕ) → (fault ≡ Malformed → ⊥) → checked rules e ≡ refused fault line → SomeHolds
     some_refused fault line n k =
         let x = envelope_refused rules e fault line n k in
         found (line_refused x.more s.0 s.1 x.is x.lines x.few x.refused)
 
-    some_fault : (fault : Fault) (line : ℕ) → checked rules e ≡ Refused fault line → Some
-    some_fault Fine line k = absurd (checked_not_fine rules e line k)
+    some_fault : (fault : Fault) (line : ℕ) → checked rules e ≡ refused fault line → SomeHolds
     some_fault Malformed line k = let x = envelope_malformed_found rules e line k in found (envelope_malformed s.0 s.1 x.front.is x.front.lines x.missing x.at)
     some_fault NoAlternative line k = some_refused NoAlternative line (λ q. absurd (let z : ◌≡◌ {A = ℕ} 0 1 = cc in omega arith)) k
     some_fault BadAlternative line k = some_refused BadAlternative line (λ q. absurd (let z : ◌≡◌ {A = ℕ} 0 1 = cc in omega arith)) k
     some_fault RetiredAlternative line k = some_refused RetiredAlternative line (λ q. absurd (let z : ◌≡◌ {A = ℕ} 0 1 = cc in omega arith)) k
 
-    some_envelope : (check : Checked) → checked rules e ≡ check → Some
-    some_envelope (Passed count) k = some_header count k (checked_lines h) refl
-    some_envelope (Refused fault line) k = some_fault fault line k
+    some_envelope : (check : Result ℕ FaultAt) → checked rules e ≡ check → SomeHolds
+    some_envelope (Ok count) k = some_header count k (checked_lines h) refl
+    some_envelope (Err at) k = some_fault at.fault at.line k
 
-  some : Some
+  some : SomeHolds
   some =
       by_test (ltb 16384 (length e)) (λ t. found (envelope_over (ltb_yes {a = 16384} {b = length e} t)))
       (λ t. let k = ltb_no {a = 16384} {b = length e} t in
@@ -284,13 +276,13 @@ module _ (rules : Rules) (e h b c : List ℕ) where
   -- a refusal has a number from 1 on
   refusal_none : (v : Verdict) → ((outcome_of rules v e h b c).number ≡ 0 → ⊥) → ((outcome_of rules v e h b c).envelope_len ≡ 0) × ((outcome_of rules v e h b c).header_len ≡ 0)
   unfolding outcome_of
-  refusal_none Accept k = absurd (k refl)
-  refusal_none (Refuse refusal) k = (refl, refl)
+  refusal_none (Ok tt) k = absurd (k refl)
+  refusal_none (Err refusal) k = (refl, refl)
 
   refusal_kept : (v : Verdict) → ((outcome_of rules v e h b c).number ≡ 0 → ⊥) → KeptPast (outcome_of rules v e h b c).envelope_len b (outcome_of rules v e h b c).envelope_buffer × KeptPast (outcome_of rules v e h b c).header_len c (outcome_of rules v e h b c).header_buffer
   unfolding outcome_of
-  refusal_kept Accept k = absurd (k refl)
-  refusal_kept (Refuse refusal) k = (kept_all b, kept_all c)
+  refusal_kept (Ok tt) k = absurd (k refl)
+  refusal_kept (Err refusal) k = (kept_all b, kept_all c)
 
   -- after 0 the whole input passes, and both outputs fit
   record Taken : Type 0 where
@@ -315,14 +307,14 @@ module _ (rules : Rules) (e h b c : List ℕ) where
   }
 
   module _ (t : Taken) where
-    accepted : verdict rules e h (length b) (length c) ≡ Accept
+    accepted : verdict rules e h (length b) (length c) ≡ (Ok tt)
     unfolding verdict first_of of_envelope of_header of_lines of_orcpt of_held
     accepted =
         let p = t.passes in
         let s = p.limits in
         rw (over_no 16384 (length e) EnvelopeOver s.0, size_within h s.1, p.envelope, p.header, p.orcpt, p.held, over_no (length b) (length (written e)) (EnvelopeNeeds (length (written e))) t.envelope_fits, room_enough (length c) (length (outgoing_header rules e h)) t.header_fits)
 
-    outcome_is : outcome_of rules Accept e h b c ≡ o
+    outcome_is : outcome_of rules (Ok tt) e h b c ≡ o
     unfolding outcome
     outcome_is = rw accepted
 

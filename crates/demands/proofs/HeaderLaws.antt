@@ -1,5 +1,5 @@
 -- A header's lines, by relations, are those that are checked, and the first malformed one is the one that is found.
-use Rattle.std.specs.Prelude.{◌≡◌, Bool, true, false, not, List, [], ◌∷◌, ◌++◌, ℕ, zero, suc, ◌+◌, ◌≤◌, ◌<◌, T, eqb, take}
+use Rattle.std.specs.Prelude.{◌≡◌, Bool, true, false, not, List, [], ◌∷◌, ◌++◌, ℕ, zero, suc, ◌+◌, ◌≤◌, ◌<◌, T, eqb, take, Ok}
 use Rattle.std.proofs.Math.Path.{refl}
 use Rattle.std.proofs.Common.{sym, ap, ◌∙◌, append_assoc, append-nil, add-one, arith, T_not, length-append, take-append-drop, take_all, take-add, drop-drop}
 use Rattle.std.proofs.Math.Nat.{add-zero}
@@ -13,9 +13,7 @@ use Rattle.line.specs.Line.{crlf, line_len, not_cr, cr_run}
 use Rattle.line.specs.LineLaws.{line_cr, line_none}
 use Rattle.line_stop.specs.FirstBad.{WithCrlf, MalformedAt}
 use Rattle.line_stop.proofs.FirstBadLaws.{first_once}
-use Rattle.header_line.specs.declared.LineCheck.{LineCheck}
-use Rattle.header_line.specs.declared.LineCheck.TheVariants.{WellFormed, Malformed}
-use Rattle.header_line.specs.Lines.{well_formed, line_ok, checked_lines}
+use Rattle.header_line.specs.Lines.{well_formed, line_ok, checked_lines, bad_line, LineCheck}
 use Rattle.header_line.specs.LineLaws.{lines_at, lines_none, front_good, front_bad}
 use Rattle.header.specs.FieldShapeLaws.{Cut, cut_line, well_piece, piece_bytes, line_not_cr, crlf_front}
 use Rattle.header_stop.specs.HeaderStop.{line_stop}
@@ -65,15 +63,15 @@ lines_past rest (HeaderLines.none) = refl
 lines_past rest (HeaderLines.then {n} {before} {line} ls w) =
     rw (append_assoc before line rest, length-append before line) (lines_past (line ++ rest) ls ∙ line_past n (length before) rest w)
 
-pub lines_header : {n : ℕ} {h : List ℕ} → HeaderLines n h → checked_lines h ≡ WellFormed
+pub lines_header : {n : ℕ} {h : List ℕ} → HeaderLines n h → checked_lines h ≡ Ok tt
 unfolding checked_lines
 lines_header {n} {h} ls = rw (append-nil h) at (lines_past [] ls ∙ lines_none n (length h))
 
 -- what a check of lines comes to
 data Checked (h : List ℕ) : LineCheck → Type 0 where
-  whole : {n : ℕ} → HeaderLines n h → Checked h WellFormed
+  whole : {n : ℕ} → HeaderLines n h → Checked h (Ok tt)
   stopped : {n : ℕ} {start : List ℕ} (rest : List ℕ) → h ≡ start ++ rest → HeaderLines n start → 0 < length rest → T (not (line_ok (eqb n 0) rest))
-      → Checked h (Malformed n (length start))
+      → Checked h (bad_line n (length start))
 
 -- a well-formed line more
 check_past : (n : ℕ) (start rest : List ℕ) (c : Cut n (length start) rest)
@@ -104,10 +102,10 @@ checked : (h : List ℕ) → Checked h (checked_lines h)
 unfolding checked_lines
 checked h = check (length h) 0 [] h (omega arith) HeaderLines.none
 
-pub header_lines : (h : List ℕ) → checked_lines h ≡ WellFormed → (n : ℕ) × HeaderLines n h
+pub header_lines : (h : List ℕ) → checked_lines h ≡ Ok tt → (n : ℕ) × HeaderLines n h
 header_lines h e = lines (rw e at (checked h))
   where
-    lines : Checked h WellFormed → (n : ℕ) × HeaderLines n h
+    lines : Checked h (Ok tt) → (n : ℕ) × HeaderLines n h
     lines (Checked.whole {n} ls) = (n, ls)
 
 -- ---- the first malformed line
@@ -152,10 +150,10 @@ module _ (h start rest : List ℕ) (n : ℕ) (is : h ≡ start ++ rest) (bad : T
   malformed_at : MalformedAt (HeaderFormedAt n) start rest (header_line_offset h n (length start))
   malformed_at = record { malformed = none_formed; byte = line_stop (eqb n 0) rest; first = line_stop_lem (eqb n 0) rest; offset_is = offset_at }
 
-pub header_malformed_found : (h : List ℕ) (n at : ℕ) → checked_lines h ≡ Malformed n at → MalformedHeader h n (header_line_offset h n at)
+pub header_malformed_found : (h : List ℕ) (n at : ℕ) → checked_lines h ≡ bad_line n at → MalformedHeader h n (header_line_offset h n at)
 header_malformed_found h n at e = there (rw e at (checked h))
   where
-    there : {n at : ℕ} → Checked h (Malformed n at) → MalformedHeader h n (header_line_offset h n at)
+    there : {n at : ℕ} → Checked h (bad_line n at) → MalformedHeader h n (header_line_offset h n at)
     there (Checked.stopped {n} {start} rest is ls some bad) =
         record { start = start; rest = rest; is = is; lines = ls; some = λ none. omega (arith, ap length none); at = malformed_at h start rest n is bad }
 
@@ -172,7 +170,7 @@ not_ok {rest = rest} n some m =
     absurd (m.malformed (c.line ++ (13 ∷ 10 ∷ [])) c.others line (c.is ∙ sym (append_assoc c.line (13 ∷ 10 ∷ []) c.others))))
     (λ t. t)
 
-pub header_malformed_exact : {h : List ℕ} {n offset : ℕ} (x : MalformedHeader h n offset) → (checked_lines h ≡ Malformed n (length x.start)) × (offset ≡ header_line_offset h n (length x.start))
+pub header_malformed_exact : {h : List ℕ} {n offset : ℕ} (x : MalformedHeader h n offset) → (checked_lines h ≡ bad_line n (length x.start)) × (offset ≡ header_line_offset h n (length x.start))
 unfolding checked_lines
 header_malformed_exact {h} {n} {offset} x =
     let start = x.start in

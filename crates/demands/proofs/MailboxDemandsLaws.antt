@@ -1,5 +1,6 @@
 -- The demands on the call for a mailbox hold of its outcome, and of nothing else.
-use Rattle.std.specs.Prelude.{◌≡◌, List, ◌∷◌, ℕ, ◌≤◌, T, ltb, eqb, take}
+use Rattle.outgoing_header.specs.HeaderOutcome.{HeaderVerdict}
+use Rattle.std.specs.Prelude.{◌≡◌, List, ◌∷◌, ℕ, ◌≤◌, T, ltb, eqb, take, Ok, Err}
 use Rattle.std.proofs.Math.Path.{refl, ap}
 use Rattle.std.proofs.Common.{sym, ◌∙◌, arith, eqb→eq}
 use Rattle.std.proofs.Math.ListN.{length}
@@ -9,17 +10,13 @@ use Rattle.lists.specs.ListsLaws.{by_test}
 use Rattle.buffer.specs.BufferLaws.{overlay_front}
 use Rattle.encoded_word.specs.Segments.{Segment, rendered, sound}
 use Rattle.encoded_word.specs.SegmentsLaws.{rendered_ascii}
-use Rattle.header_line.specs.declared.LineCheck.{LineCheck}
-use Rattle.header_line.specs.declared.LineCheck.TheVariants.{WellFormed, Malformed}
-use Rattle.header_line.specs.Lines.{checked_lines}
+use Rattle.header_line.specs.Lines.{checked_lines, LineCheck}
 use Rattle.rules.specs.declared.Rules.TheVariants.{Mailbox}
-use Rattle.outgoing_field.specs.declared.HeldField.{HeldField}
-use Rattle.outgoing_field.specs.declared.HeldField.TheVariants.{Absent, At}
+use Rattle.outgoing_field.specs.Fate.{FirstHeld}
+use Rattle.outgoing_field.specs.Fate.FirstHeld.{Absent, At}
 use Rattle.outgoing_field.specs.Fate.{segments_of, header_segments, held_of}
 use Rattle.outgoing_field.proofs.OwedLaws.{owed_header}
 use Rattle.outgoing_header.specs.declared.HeaderAnswer.{HeaderAnswer}
-use Rattle.outgoing_header.specs.declared.HeaderVerdict.{HeaderVerdict}
-use Rattle.outgoing_header.specs.declared.HeaderVerdict.TheVariants.{Accept, Refuse}
 use Rattle.outgoing_header.specs.HeaderOutcome.{number_of, place_of, offset_of, of_lines, of_held, first_of, header_out, header_verdict, HeaderOutcome, header_outcome_of, header_outcome, header_observed}
 use Rattle.outgoing_header.proofs.HeaderOutcomeLaws.{size_over, size_within, room_short, room_enough}
 use Rattle.demands.specs.Downgraded.{HeaderBecomes}
@@ -37,7 +34,7 @@ use Rattle.demands.specs.MailboxDemands.MailboxGiven.{over, malformed, held, lon
 module _ (h : List ℕ) where
   record Passes : Type 0 where
     pub short : length h ≤ 32768
-    pub lines : checked_lines h ≡ WellFormed
+    pub lines : checked_lines h ≡ Ok tt
     pub unheld : held_of Mailbox h ≡ Absent
 
   module _ {segments : List Segment} (b : HeaderBecomes Mailbox h segments) where
@@ -107,13 +104,13 @@ module _ (h c : List ℕ) where
       (λ u. found (none_holds p.short b (ltb_no {a = length c} {b = length (header_out Mailbox h)} u)))
 
   module _ (s : length h ≤ 32768) where
-    some_held : checked_lines h ≡ WellFormed → (f : HeldField) → held_of Mailbox h ≡ f → Some
+    some_held : checked_lines h ≡ Ok tt → (f : FirstHeld) → held_of Mailbox h ≡ f → Some
     some_held q Absent k = some_room (record { short = s; lines = q; unheld = k })
     some_held q (At line at) k = found (held s (header_lines h q).1 (field_held Mailbox h line at k))
 
     some_lines : (check : LineCheck) → checked_lines h ≡ check → Some
-    some_lines WellFormed k = some_held k (held_of Mailbox h) refl
-    some_lines (Malformed line at) k = found (malformed s (header_malformed_found h line at k))
+    some_lines (Ok tt) k = some_held k (held_of Mailbox h) refl
+    some_lines (Err bad) k = found (malformed s (header_malformed_found h bad.line bad.at k))
 
   some : Some
   some =
@@ -130,13 +127,13 @@ module _ (h c : List ℕ) where
   -- a refusal has a number from 1 on
   refusal_none : (v : HeaderVerdict) → ((header_outcome_of Mailbox v h c).number ≡ 0 → ⊥) → (header_outcome_of Mailbox v h c).len ≡ 0
   unfolding header_outcome_of
-  refusal_none Accept k = absurd (k refl)
-  refusal_none (Refuse refusal) k = refl
+  refusal_none (Ok tt) k = absurd (k refl)
+  refusal_none (Err refusal) k = refl
 
   refusal_kept : (v : HeaderVerdict) → ((header_outcome_of Mailbox v h c).number ≡ 0 → ⊥) → KeptPast (header_outcome_of Mailbox v h c).len c (header_outcome_of Mailbox v h c).buffer
   unfolding header_outcome_of
-  refusal_kept Accept k = absurd (k refl)
-  refusal_kept (Refuse refusal) k = kept_all c
+  refusal_kept (Ok tt) k = absurd (k refl)
+  refusal_kept (Err refusal) k = kept_all c
 
   -- after 0 the header passes, and the output fits
   record Taken : Type 0 where
@@ -154,7 +151,7 @@ module _ (h c : List ℕ) where
   after_zero z = taken o.number o.place o.offset given_answered z
 
   module _ (t : Taken) where
-    outcome_is : header_outcome_of Mailbox Accept h c ≡ o
+    outcome_is : header_outcome_of Mailbox (Ok tt) h c ≡ o
     unfolding header_outcome header_verdict first_of of_lines of_held
     outcome_is =
         let p = t.passes in

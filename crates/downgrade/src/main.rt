@@ -4,14 +4,6 @@
 
 use std::io;
 
-fn say(rt: &impl Print, words: &[u8]) -> io::Result<()> {
-    rt.write_all(words)
-}
-
-fn number(rt: &impl Print, n: usize) -> io::Result<()> {
-    print!(rt; "{n}")
-}
-
 // Where the first empty line starts: a CRLF at the very start, or one straight after another. The end where there is none.
 fn empty_line(input: &[u8]) -> usize {
     let mut i: usize = 0;
@@ -33,21 +25,14 @@ fn print_written(
     header: &[u8],
     m: usize,
 ) -> io::Result<()> {
-    say(rt, b"0 ")?;
-    number(rt, n)?;
-    say(rt, b" ")?;
-    number(rt, m)?;
-    say(rt, b"\r\n")?;
-    say(rt, line::part(envelope, 0, n))?;
-    say(rt, b"\r\n")?;
-    say(rt, line::part(header, 0, m))
+    print!(rt; "0 {n} {m}\r\n")?;
+    rt.write_all(line::part(envelope, 0, n))?;
+    print!(rt; "\r\n")?;
+    rt.write_all(line::part(header, 0, m))
 }
 
 fn print_refusal(rt: &impl Print, no: u32, place: usize) -> io::Result<()> {
-    print!(rt; "{no}")?;
-    say(rt, b" ")?;
-    number(rt, place)?;
-    say(rt, b"\r\n")
+    print!(rt; "{no} {place}\r\n")
 }
 
 fn downgrade(

@@ -4,14 +4,6 @@
 
 use std::io;
 
-fn say(rt: &impl Print, words: &[u8]) -> io::Result<()> {
-    rt.write_all(words)
-}
-
-fn number(rt: &impl Print, n: usize) -> io::Result<()> {
-    print!(rt; "{n}")
-}
-
 // Whether two buffers that were full of # are so from places on.
 fn both_untouched(envelope: &[u8], n: usize, header: &[u8], m: usize) -> bool {
     case_line::is_untouched(line::part(envelope, n, envelope.len()))
@@ -20,9 +12,9 @@ fn both_untouched(envelope: &[u8], n: usize, header: &[u8], m: usize) -> bool {
 
 fn show_refusal(rt: &impl Print, envelope: &[u8], header: &[u8]) -> io::Result<()> {
     if both_untouched(envelope, 0, header, 0) {
-        say(rt, b", buffers untouched\r\n")
+        print!(rt; ", buffers untouched\r\n")
     } else {
-        say(rt, b", BUFFERS CHANGED\r\n")
+        print!(rt; ", BUFFERS CHANGED\r\n")
     }
 }
 
@@ -34,25 +26,18 @@ fn show_written(
     m: usize,
 ) -> io::Result<()> {
     if both_untouched(envelope, n, header, m) {
-        say(rt, b", rest untouched\r\n")?;
+        print!(rt; ", rest untouched\r\n")?;
     } else {
-        say(rt, b", REST CHANGED\r\n")?;
+        print!(rt; ", REST CHANGED\r\n")?;
     }
-    say(rt, line::part(envelope, 0, n))?;
-    say(rt, b"\r\n")?;
-    say(rt, line::part(header, 0, m))?;
-    say(rt, b"\r\n")
+    rt.write_all(line::part(envelope, 0, n))?;
+    print!(rt; "\r\n")?;
+    rt.write_all(line::part(header, 0, m))?;
+    print!(rt; "\r\n")
 }
 
 fn show_numbers(rt: &impl Print, no: u32, place: usize, n: usize, m: usize) -> io::Result<()> {
-    say(rt, b": ")?;
-    print!(rt; "{no}")?;
-    say(rt, b" at ")?;
-    number(rt, place)?;
-    say(rt, b", lengths ")?;
-    number(rt, n)?;
-    say(rt, b" and ")?;
-    number(rt, m)
+    print!(rt; ": {no} at {place}, lengths {n} and {m}")
 }
 
 // A call that is lent the first n and the first m bytes of two buffers full of #.
@@ -99,7 +84,7 @@ fn show(
     );
     let envelope_len = answer.envelope_len;
     let header_len = answer.header_len;
-    say(rt, label)?;
+    rt.write_all(label)?;
     show_numbers(rt, answer.number, answer.place, envelope_len, header_len)?;
     if answer.number == 0 {
         show_written(rt, &envelope_space, envelope_len, &header_space, header_len)
@@ -128,17 +113,11 @@ fn show_line(rt: &impl Print, line: &[u8]) -> io::Result<()> {
     )
 }
 
-fn show_lines(rt: &impl Print, cases: &[u8]) -> io::Result<()> {
-    let mut at = 0;
-    while at < cases.len() {
-        let end = case_line::find(cases, at, b'\n');
-        show_line(rt, line::part(cases, at, end))?;
-        at = buffer::place_after(end, 1);
-    }
-    Ok(())
-}
-
+// Kept: one loop for all programs would take a closure, and a public function may not require that it can be called.
 fn main(rt: HostRuntime) -> io::Result<()> {
     let input = program_input::read(rt.alloc(), rt.reader(), 65536)?;
-    show_lines(&rt, &input)
+    for line in input.split(|b| *b == b'\n') {
+        show_line(&rt, line)?;
+    }
+    Ok(())
 }

@@ -4,16 +4,9 @@
 
 use std::io;
 
-fn say(rt: &impl Print, words: &[u8]) -> io::Result<()> {
-    rt.write_all(words)
-}
-
 // A number, and a place or the length.
 fn print_numbers(rt: &impl Print, no: u32, n: usize) -> io::Result<()> {
-    print!(rt; "{no}")?;
-    say(rt, b" ")?;
-    print!(rt; "{n}")?;
-    say(rt, b"\r\n")
+    print!(rt; "{no} {n}\r\n")
 }
 
 fn downgrade(rt: &impl Print, header: &[u8], buffer: &mut [u8; 2642040]) -> io::Result<()> {
@@ -22,7 +15,7 @@ fn downgrade(rt: &impl Print, header: &[u8], buffer: &mut [u8; 2642040]) -> io::
     let n = answer.length;
     if no == 0 {
         print_numbers(rt, no, n)?;
-        say(rt, line::part(buffer, 0, n))
+        rt.write_all(line::part(buffer, 0, n))
     } else {
         print_numbers(rt, no, answer.place)
     }

@@ -1,5 +1,5 @@
 -- The lines of a field, as code checks them; and how long the runs of a well-formed field are.
-use Rattle.std.specs.Prelude.{◌≡◌, refl, Bool, true, false, not, cond, ◌&&◌, ◌||◌, List, [], ◌∷◌, ◌++◌, ℕ, zero, suc, ◌+◌, ◌-◌, ◌≤◌, ◌<◌, T, leb, eqb, length, take, drop, get_or}
+use Rattle.std.specs.Prelude.{Some, None, ◌≡◌, refl, Bool, true, false, not, cond, ◌&&◌, ◌||◌, List, [], ◌∷◌, ◌++◌, ℕ, zero, suc, ◌+◌, ◌-◌, ◌≤◌, ◌<◌, T, leb, eqb, length, take, drop, get_or}
 use Rattle.std.proofs.Common.{ap, sym, ◌∙◌, not-suc-le-zero, arith, eqb→eq, length-drop, length-append, take-append-drop, drop_of_length-le, drop-drop, get_or-drop, get_or-take, length-take-le}
 use Rattle.std.proofs.Math.Bool.{and-false}
 use Rattle.std.proofs.Math.Facts.{and_yes, leb_yes, leb_no}
@@ -12,30 +12,15 @@ use Rattle.lists.specs.CutByLaws.{cut_nil, cut_front}
 use Rattle.utf8.specs.Utf8.{utf8}
 use Rattle.line.specs.Line.{blank, crlf, line_len}
 use Rattle.line.specs.LineLaws.{crlf_inside}
-use Rattle.header_line.specs.Lines.{line_byte, named_to, continuation, line_ok_to, line_after, lines_of}
-use Rattle.header_line.specs.LineLaws.{ok_front_to}
+use Rattle.header_line.specs.Lines.{line_byte, named_to, continuation, line_ok_to, after_line, lines_of}
+use Rattle.header_line.specs.LineLaws.{ok_front_to, line_bad, line_good}
 use Rattle.header.specs.Fields.{value_of}
 use Rattle.header.specs.FieldShapeLaws.{crlf_front}
 use Rattle.header_line.specs.Lines.{name_len}
 use Rattle.downgraded_field.specs.Shown.{continues, lines_formed, is_formed, spacing, solid}
-use Rattle.downgraded_field.specs.ShownLaws.{ShortRuns}
+use Rattle.downgraded_field.specs.ShownLaws.{ShortRuns, short_rest, text_part}
 
 -- ---- line after line
-
-module _ (limit : ℕ) (first : Bool) (h : List ℕ) (at : ℕ) {r : ℕ} (e : r ≡ line_after limit first h at) where
-  pub after_bad : r ≡ at → line_ok_to limit first (drop at h) ≡ false
-  unfolding line_after
-  after_bad k =
-      by_test (line_ok_to limit first (drop at h))
-      (λ t. absurd (omega (arith, k, e ∙ cond_yes (line_ok_to limit first (drop at h)) (at + (line_len (drop at h) + 2)) at t)))
-      (λ t. no_false (line_ok_to limit first (drop at h)) t)
-
-  pub after_good : (r ≡ at → ⊥) → (line_ok_to limit first (drop at h) ≡ true) × (r ≡ at + (line_len (drop at h) + 2))
-  unfolding line_after
-  after_good k =
-      by_test (line_ok_to limit first (drop at h))
-      (λ t. (yes_true (line_ok_to limit first (drop at h)) t, e ∙ cond_yes (line_ok_to limit first (drop at h)) (at + (line_len (drop at h) + 2)) at t))
-      (λ t. absurd (k (e ∙ cond_no (line_ok_to limit first (drop at h)) (at + (line_len (drop at h) + 2)) at t)))
 
 pub lines_nil : lines_of [] ≡ []
 unfolding lines_of
@@ -67,20 +52,20 @@ unfolding line_ok_to crlf line_len
 empty_line_lem [] h t = true_yes false t
 empty_line_lem (b ∷ s) h t = omega arith
 
-module _ (field : List ℕ) {r : ℕ} (e : r ≡ line_after 87 true field 0) where
-  pub formed_bad : r ≡ 0 → false ≡ is_formed field
-  formed_bad k =
+module _ (field : List ℕ) where
+  pub formed_bad : None ≡ after_line 87 true field 0 → false ≡ is_formed field
+  formed_bad e =
       by_test (leb 1 (length field))
-      (λ t. sym (formed_front field (leb_yes t) ∙ rw (after_bad 87 true field 0 e k) refl))
+      (λ t. sym (formed_front field (leb_yes t) ∙ rw (line_bad 87 field 0 true e) refl))
       (λ t. sym (empty_bad field (omega (arith, leb_no {a = 1} {b = length field} t))))
 
-  pub formed_start : (r ≡ 0 → ⊥) → Formed field r
-  formed_start k =
-      let g = after_good 87 true field 0 e k in
-      let to : r ≡ line_len field + 2 = omega (arith, g.1) in
+  pub formed_start : {r : ℕ} → Some r ≡ after_line 87 true field 0 → Formed field r
+  formed_start {r} e =
+      let g = line_good 87 field 0 true e in
+      let to : r ≡ line_len field + 2 = omega (arith, g.after) in
       by_test (leb 1 (length field))
-      (λ t. record { same = formed_front field (leb_yes t) ∙ rw (g.0, to) refl })
-      (λ t. absurd (empty_line_lem field (omega (arith, leb_no {a = 1} {b = length field} t)) g.0))
+      (λ t. record { same = formed_front field (leb_yes t) ∙ rw (g.good, to) refl })
+      (λ t. absurd (empty_line_lem field (omega (arith, leb_no {a = 1} {b = length field} t)) g.good))
 
 module _ {field : List ℕ} {at : ℕ} (f : Formed field at) where
   pub formed_end : length field ≤ at → true ≡ is_formed field
@@ -96,15 +81,15 @@ module _ {field : List ℕ} {at : ℕ} (f : Formed field at) where
     pub formed_blank : blank (get_or field at 0) ≡ false → false ≡ is_formed field
     formed_blank b = sym (f.same ∙ front ∙ rw (b, and-false) refl)
 
-    module _ {r : ℕ} (e : r ≡ line_after 87 false field at) where
-      pub formed_line : r ≡ at → false ≡ is_formed field
-      formed_line k = sym (f.same ∙ front ∙ rw (after_bad 87 false field at e k) refl)
+    pub formed_line : None ≡ after_line 87 false field at → false ≡ is_formed field
+    formed_line e = sym (f.same ∙ front ∙ rw (line_bad 87 field at false e) refl)
 
-      pub formed_next : blank (get_or field at 0) ≡ true → (r ≡ at → ⊥) → Formed field r
-      formed_next b k = let g = after_good 87 false field at e k in record { same = f.same ∙ front ∙ rw (g.0, b, ← g.1) refl }
+    module _ {r : ℕ} (e : Some r ≡ after_line 87 false field at) where
+      pub formed_next : blank (get_or field at 0) ≡ true → Formed field r
+      formed_next b = let g = line_good 87 field at false e in record { same = f.same ∙ front ∙ rw (g.good, b, ← g.after) refl }
 
-      pub formed_more : (r ≡ at → ⊥) → at < r
-      formed_more k = omega (arith, (after_good 87 false field at e k).1)
+      pub formed_more : at < r
+      formed_more = omega (arith, (line_good 87 field at false e).after)
 
 -- ---- what a well-formed field is made of
 
@@ -210,11 +195,14 @@ run_part f (suc i) zero s = omega arith
 run_part f (suc i) (suc n) [] = omega arith
 run_part f (suc i) (suc n) (b ∷ s) = run_part f i n s
 
-pub formed_short : {value : List ℕ} (field : List ℕ) → value ≡ value_of field → is_formed field ≡ true → ShortRuns value
+value_short : (field : List ℕ) → is_formed field ≡ true → ShortRuns (value_of field)
 unfolding value_of
-formed_short field e t = record {
+value_short field t = record {
   short = λ i.
       let f = formed_folds field (true_yes (is_formed field) t) in
       let k = name_len field + 1 in
-      rw (e, drop-drop) (omega (arith, run_part solid (k + i) (length field - 2) field, run_anywhere f (k + i)));
+      rw drop-drop (omega (arith, run_part solid (k + i) (length field - 2) field, run_anywhere f (k + i)));
 }
+
+pub formed_short : {s : List ℕ} (field : List ℕ) → s ≡ text_part field → is_formed field ≡ true → ShortRuns s
+formed_short field e t = rw e (short_rest (run spacing (value_of field)) (value_short field t))

@@ -1,3 +1,4 @@
+pub mod FieldFaults
+pub mod FormedLaws
 pub mod Shown
 pub mod ShownLaws
-pub mod FormedLaws

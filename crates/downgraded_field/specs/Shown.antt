@@ -1,6 +1,6 @@
 -- The text of a Downgraded field read by a function: what code is checked against. reader_grammar has the grammar.
 -- Code goes over the value with its folds: a CRLF is white space there, and is left out of what is shown.
-use Rattle.std.specs.Prelude.{Bool, true, false, not, cond, ◌&&◌, ◌||◌, List, [], ◌∷◌, ◌++◌, ℕ, ◌+◌, min, eqb, length, take, drop, get_or}
+use Rattle.std.specs.Prelude.{Bool, true, false, not, cond, ◌&&◌, ◌||◌, List, [], ◌∷◌, ◌++◌, ℕ, ◌+◌, min, eqb, length, take, drop, get_or, Ok, Err}
 use Rattle.lists.specs.Lists.{all}
 use Rattle.lists.specs.Run.{run}
 use Rattle.line.specs.Line.{blank}
@@ -10,8 +10,9 @@ use Rattle.header.specs.Fields.{value_of}
 use Rattle.header.specs.FieldShape.{without_breaks}
 use Rattle.word_reader.specs.Each.{each}
 use Rattle.word_reader.specs.Word.{is_word, added, form_number}
-use Rattle.downgraded_field.specs.declared.FieldRead.{FieldRead}
-use Rattle.downgraded_field.specs.declared.FieldRead.TheVariants.{Text, Malformed, Word, Charset, NotUtf8}
+use Rattle.std.specs.declared.result.Result.{Result}
+use Rattle.downgraded_field.specs.declared.FieldFault.{FieldFault}
+use Rattle.downgraded_field.specs.declared.FieldFault.TheVariants.{Malformed, Word, Charset, NotUtf8}
 
 -- ---- the field's lines
 
@@ -82,8 +83,8 @@ field_turns field = turns_of (drop (run spacing (value_of field)) (value_of fiel
 unfoldable pub field_text : List ℕ → List ℕ
 field_text field = shown false (field_turns field)
 
-unfoldable pub of_number : ℕ → ℕ → FieldRead
-of_number n size = cond (eqb n 2) Word (cond (eqb n 3) Charset (cond (eqb n 4) NotUtf8 (Text size)))
+unfoldable pub of_number : ℕ → ℕ → Result ℕ FieldFault
+of_number n size = cond (eqb n 2) (Err Word) (cond (eqb n 3) (Err Charset) (cond (eqb n 4) (Err NotUtf8) (Ok size)))
 
-unfoldable pub field_read : List ℕ → FieldRead
-field_read field = cond (is_formed field) (of_number (lowest (field_turns field)) (length (field_text field))) Malformed
+unfoldable pub field_read : List ℕ → Result ℕ FieldFault
+field_read field = cond (is_formed field) (of_number (lowest (field_turns field)) (length (field_text field))) (Err Malformed)

@@ -7,72 +7,63 @@ mod turn;
 
 ghost use Rattle.std.specs.Prelude.{◌≡◌};
 ghost use Rattle.buffer.specs.Buffer.{Wrote};
-ghost use Rattle.downgraded_field.specs.Shown.{is_formed, of_number, field_read, field_text};
+ghost use Rattle.downgraded_field.specs.FieldFaults.{of_word};
+ghost use Rattle.downgraded_field.specs.Shown.{is_formed, field_read, field_text};
 
-// What a field reads as: a text of this length, or why there is none.
-#[derive(Clone, Copy)]
-pub enum FieldRead {
-    Text(usize),
+use word_reader::WordFault;
+
+// Why a field has no text: its lines, or a word that is malformed, of another charset, or not UTF-8. The lowest that holds is answered.
+#[derive(Clone, Copy, Debug, PartialEq, Eq, PartialOrd, Ord)]
+pub enum FieldFault {
     Malformed,
     Word,
     Charset,
     NotUtf8,
 }
 
+impl From<WordFault> for FieldFault {
+    ghost from_gives = { λ fault result. result ≡ of_word fault };
+
+    fn from(fault: WordFault) -> FieldFault {
+        match fault {
+            WordFault::Malformed => FieldFault::Word,
+            WordFault::Charset => FieldFault::Charset,
+        }
+    }
+}
+
 // Whether the lines of a field are well formed, with names of at most 87 bytes.
 fn is_formed(field: &[u8]) -> bool
     ensures { result ≡ is_formed field.now }
 {
-    let mut at = header_line::line_after(field, 0, true, 87);
-    if at == 0 {
+    let Some(mut at) = header_line::line_after(field, 0, true, 87) else {
         return false;
-    }
+    };
     while at < field.len() {
         if !line::is_blank(field[at]) {
             return false;
         }
-        let next = header_line::line_after(field, at, false, 87);
-        if next == at {
+        let Some(next) = header_line::line_after(field, at, false, 87) else {
             return false;
-        }
+        };
         at = next;
     }
     true
 }
 
-fn of_number(number: usize, size: usize) -> FieldRead
-    ensures { result ≡ of_number number size }
-{
-    if number == 2 {
-        return FieldRead::Word;
-    }
-    if number == 3 {
-        return FieldRead::Charset;
-    }
-    if number == 4 {
-        return FieldRead::NotUtf8;
-    }
-    FieldRead::Text(size)
-}
-
-// What a field reads as.
-pub fn check(field: &[u8]) -> FieldRead
+// The length of the text that a field is shown as, or why it has none.
+pub fn check(field: &[u8]) -> Result<usize, FieldFault>
     ensures { result ≡ field_read field.now }
 {
     if !is_formed(field) {
-        return FieldRead::Malformed;
+        return Err(FieldFault::Malformed);
     }
-    let value = header::value(field);
-    let start = turn::spacing_end(value, 0);
-    let c = refusal::check_turns(value, start);
-    of_number(c.number, c.length)
+    refusal::check_turns(turn::text_of(field))
 }
 
 // Writes the text of a field to the front of out, as far as it fits; answers the length of all of it.
 pub fn put(out: &mut [u8], field: &[u8]) -> usize
     ensures { Wrote (field_text field.now) out.old out.new result }
 {
-    let value = header::value(field);
-    let start = turn::spacing_end(value, 0);
-    text::put_turns(out, value, start)
+    text::put_turns(out, turn::text_of(field))
 }

@@ -1,38 +1,26 @@
 // Whether the words of a field can be read, and the length of the text that it is shown as.
-ghost use Rattle.std.specs.Prelude.{◌≡◌, false, ◌≤◌, length, drop};
+ghost use Rattle.std.specs.Prelude.{◌≡◌, false, ◌≤◌, length, min};
 ghost use Rattle.header.specs.FieldShape.{without_breaks};
-ghost use Rattle.word_reader.specs.Word.{is_word, added};
+ghost use Rattle.word_reader.specs.Word.{added};
 ghost use Rattle.downgraded_field.specs.Shown.{word_number, turn_number, turn_text, lowest, shown, turns_of};
 ghost use Rattle.downgraded_field.specs.ShownLaws.{turn_of, ShortRuns};
+ghost use Rattle.downgraded_field.specs.FieldFaults.{number_of, number_so_far, ReadAs};
 
-use crate::{text, turn};
+use crate::turn::{Turn, split_turn};
+use crate::{FieldFault, text};
 
-// The lowest number of a refusal, 5 where there is none, and the length of the text.
-#[derive(Clone, Copy)]
-pub(crate) struct Checked {
-    pub number: usize,
-    pub length: usize,
-}
-
-// A word of a well-formed line, which has at most 998 bytes.
-fn check_word(w: &[u8]) -> Checked
+// The length of a word of a well-formed line, which has at most 998 bytes.
+fn check_word(w: &[u8]) -> Result<usize, FieldFault>
     requires { length w.now ≤ 1024 }
-    ensures { (result.number ≡ word_number w.now) × (result.length ≡ length (added w.now)) }
+    ensures { ReadAs (word_number w.now) (length (added w.now)) result }
 {
     let mut scratch = [0u8; 1024];
-    let r = word_reader::add(&mut scratch, 0, w);
-    let number = r.number;
-    let length = r.next;
-    if number != 0 {
-        return Checked {
-            number: number as usize,
-            length,
-        };
+    let read = word_reader::add(&mut scratch, 0, w);
+    read.form?;
+    if utf8::is_utf8(&scratch[..read.next]) {
+        return Ok(read.next);
     }
-    if utf8::is_utf8(&scratch[..length]) {
-        return Checked { number: 5, length };
-    }
-    Checked { number: 4, length }
+    Err(FieldFault::NotUtf8)
 }
 
 // How long white space is without the CRLF of folds.
@@ -43,45 +31,50 @@ fn gap_length(gap: &[u8]) -> usize
     text::add_gap(&mut none, 0, gap)
 }
 
-fn check_turn(gap: &[u8], run: &[u8], after: bool, word: bool) -> Checked
-    requires { (word ≡ is_word run.now) × (length run.now ≤ 1024) }
-    ensures { (result.number ≡ turn_number (turn_of gap.now run.now)) × (result.length ≡ length (turn_text after (turn_of gap.now run.now))) }
+// The length of what a turn is shown as.
+fn check_turn(turn: Turn, after: bool) -> Result<usize, FieldFault>
+    requires { length turn.run.now ≤ 1024 }
+    ensures { ReadAs (turn_number (turn_of turn.entry.gap.now turn.entry.run.now)) (length (turn_text after (turn_of turn.entry.gap.now turn.entry.run.now))) result }
 {
-    if !word {
-        return Checked {
-            number: 5,
-            length: gap_length(gap) + run.len(),
-        };
+    if !turn.is_word() {
+        return Ok(gap_length(turn.gap) + turn.run.len());
     }
-    let w = check_word(run);
+    let length = check_word(turn.run)?;
     if after {
-        return w;
+        return Ok(length);
     }
-    Checked {
-        number: w.number,
-        length: gap_length(gap) + w.length,
+    Ok(gap_length(turn.gap) + length)
+}
+
+// The lower of a fault and the one found before it, if any.
+fn lower(found: Option<FieldFault>, fault: FieldFault) -> FieldFault
+    ensures { number_of result ≡ min (number_so_far found) (number_of fault) }
+{
+    match found {
+        Some(before) => before.min(fault),
+        None => fault,
     }
 }
 
-pub(crate) fn check_turns(s: &[u8], start: usize) -> Checked
-    requires { (start ≤ length s.now) × ShortRuns s.now }
-    ensures { (result.number ≡ lowest (turns_of (drop start s.now))) × (result.length ≡ length (shown false (turns_of (drop start s.now)))) }
+// The length of the text, or the lowest fault of its turns.
+pub(crate) fn check_turns(s: &[u8]) -> Result<usize, FieldFault>
+    requires { ShortRuns s.now }
+    ensures { ReadAs (lowest (turns_of s.now)) (length (shown false (turns_of s.now))) result }
 {
-    let mut number: usize = 5;
+    let mut found = None;
     let mut length: usize = 0;
     let mut after = false;
-    let mut i = start;
-    while i < s.len() {
-        let g = turn::spacing_end(s, i);
-        let e = turn::solid_end(s, g);
-        let word = word_reader::is_word(&s[g..e]);
-        let c = check_turn(&s[i..g], &s[g..e], after, word);
-        let n = c.number;
-        let l = c.length;
-        number = buffer::clip(number, n);
-        length += l;
-        after = word;
-        i = e;
+    let mut rest = s;
+    while let Some((turn, more)) = split_turn(rest) {
+        match check_turn(turn, after) {
+            Ok(n) => length += n,
+            Err(fault) => found = Some(lower(found, fault)),
+        }
+        after = turn.is_word();
+        rest = more;
     }
-    Checked { number, length }
+    match found {
+        Some(fault) => Err(fault),
+        None => Ok(length),
+    }
 }

@@ -1,12 +1,11 @@
 // The text that a field is shown as, written.
-ghost use Rattle.std.specs.Prelude.{◌≡◌, false, [], ◌∷◌, ◌≤◌, length, drop};
+ghost use Rattle.std.specs.Prelude.{◌≡◌, false, [], ◌∷◌};
 ghost use Rattle.buffer.specs.Buffer.{Wrote, AppendedCapped};
 ghost use Rattle.header.specs.FieldShape.{without_breaks};
-ghost use Rattle.word_reader.specs.Word.{is_word};
 ghost use Rattle.downgraded_field.specs.Shown.{turn_text, shown, turns_of};
 ghost use Rattle.downgraded_field.specs.ShownLaws.{turn_of};
 
-use crate::turn;
+use crate::turn::{Turn, split_turn};
 
 // Adds a byte, unless it is a CR or LF.
 fn add_unbroken(out: &mut [u8], at: usize, b: u8) -> usize
@@ -23,46 +22,37 @@ pub(crate) fn add_gap(out: &mut [u8], at: usize, gap: &[u8]) -> usize
     ensures { AppendedCapped (without_breaks gap.now) at out.old out.new result }
 {
     let mut next = at;
-    let mut i = 0;
-    while i < gap.len() {
-        next = add_unbroken(out, next, gap[i]);
-        i += 1;
+    for b in gap {
+        next = add_unbroken(out, next, *b);
     }
     next
 }
 
-// Adds what a turn is shown as.
-fn add_turn(out: &mut [u8], at: usize, gap: &[u8], run: &[u8], after: bool, word: bool) -> usize
-    requires { word ≡ is_word run.now }
-    ensures { AppendedCapped (turn_text after (turn_of gap.now run.now)) at out.old out.new result }
+// Adds what a turn is shown as; `after` tells whether the run before it is a word.
+fn add_turn(out: &mut [u8], at: usize, turn: Turn, after: bool) -> usize
+    ensures { AppendedCapped (turn_text after (turn_of turn.entry.gap.now turn.entry.run.now)) at out.old out.new result }
 {
-    if word {
+    if turn.is_word() {
         if after {
-            let w = word_reader::add(out, at, run);
-            return w.next;
+            return word_reader::add(out, at, turn.run).next;
         }
-        let start = add_gap(out, at, gap);
-        let w = word_reader::add(out, start, run);
-        return w.next;
+        let start = add_gap(out, at, turn.gap);
+        return word_reader::add(out, start, turn.run).next;
     }
-    let start = add_gap(out, at, gap);
-    buffer::add_slice(out, start, run)
+    let start = add_gap(out, at, turn.gap);
+    buffer::add_slice(out, start, turn.run)
 }
 
-pub(crate) fn put_turns(out: &mut [u8], s: &[u8], start: usize) -> usize
-    requires { start ≤ length s.now }
-    ensures { Wrote (shown false (turns_of (drop start s.now))) out.old out.new result }
+pub(crate) fn put_turns(out: &mut [u8], s: &[u8]) -> usize
+    ensures { Wrote (shown false (turns_of s.now)) out.old out.new result }
 {
     let mut at: usize = 0;
     let mut after = false;
-    let mut i = start;
-    while i < s.len() {
-        let g = turn::spacing_end(s, i);
-        let e = turn::solid_end(s, g);
-        let word = word_reader::is_word(&s[g..e]);
-        at = add_turn(out, at, &s[i..g], &s[g..e], after, word);
-        after = word;
-        i = e;
+    let mut rest = s;
+    while let Some((turn, more)) = split_turn(rest) {
+        at = add_turn(out, at, turn, after);
+        after = turn.is_word();
+        rest = more;
     }
     at
 }

@@ -4,11 +4,15 @@ use Rattle.buffer.specs.Buffer.{overlay}
 use Rattle.letter_case.specs.LetterCase.{bytes, same_any_case}
 use Rattle.line.specs.Line.{line_len}
 use Rattle.header.specs.Fields.{field_len}
-use Rattle.downgraded_field.specs.declared.FieldRead.{FieldRead}
-use Rattle.downgraded_field.specs.declared.FieldRead.TheVariants.{Text as FieldText, Malformed as FieldMalformed, Word as FieldWord, Charset as FieldCharset, NotUtf8 as FieldNotUtf8}
+use Rattle.std.specs.Prelude.{Some, None, Ok, Err}
+use Rattle.std.specs.declared.option.Option.{Option}
+use Rattle.std.specs.declared.result.Result.{Result}
+use Rattle.downgraded_field.specs.declared.FieldFault.{FieldFault}
+use Rattle.downgraded_field.specs.FieldFaults.{number_of as fault_number}
 use Rattle.downgraded_field.specs.Shown.{field_read, field_text}
+use Rattle.downgraded_reader.specs.declared.Unread.{Unread}
+use Rattle.downgraded_reader.specs.declared.Unread.TheVariants.{Fault, Room}
 use Rattle.downgraded_reader.specs.declared.Found.{Found}
-use Rattle.downgraded_reader.specs.declared.Found.TheVariants.{Text, Malformed, Word, Charset, NotUtf8, Room, Nothing}
 use Rattle.downgraded_reader.specs.declared.ReadAnswer.{ReadAnswer}
 
 -- ---- the field
@@ -37,28 +41,28 @@ field_at h start = take (field_len (drop start h)) (drop start h)
 
 -- ---- the answer
 
-unfoldable pub of_field : ℕ → ℕ → ℕ → FieldRead → Found
-of_field room start next (FieldText size) = cond (leb size room) (Text start next size) (Room start next size)
-of_field room start next FieldMalformed = Malformed start next
-of_field room start next FieldWord = Word start next
-of_field room start next FieldCharset = Charset start next
-of_field room start next FieldNotUtf8 = NotUtf8 start next
+-- a text, where the room holds it
+unfoldable pub fitting : ℕ → Result ℕ FieldFault → Result ℕ Unread
+fitting room (Ok size) = cond (leb size room) (Ok size) (Err (Room size))
+fitting room (Err fault) = Err (Fault fault)
+
+unfoldable pub of_field : ℕ → ℕ → ℕ → Result ℕ FieldFault → Found
+of_field room start next read = record { start = start; next = next; text = fitting room read }
 
 -- for a header, a place and the length of a buffer
-unfoldable pub reading : List ℕ → ℕ → ℕ → Found
+unfoldable pub reading : List ℕ → ℕ → ℕ → Option Found
 reading h place room =
     let start = field_start h place in
-    cond (ltb start (length h)) (of_field room start (start + field_len (drop start h)) (field_read (field_at h start))) Nothing
+    cond (ltb start (length h)) (Some (of_field room start (start + field_len (drop start h)) (field_read (field_at h start)))) None
 
 -- "a refused field writes nothing"
-unfoldable pub left_by : Found → List ℕ → List ℕ → List ℕ
-left_by (Text start next size) text buffer = overlay text buffer
-left_by (Malformed start next) text buffer = buffer
-left_by (Word start next) text buffer = buffer
-left_by (Charset start next) text buffer = buffer
-left_by (NotUtf8 start next) text buffer = buffer
-left_by (Room start next size) text buffer = buffer
-left_by Nothing text buffer = buffer
+unfoldable pub text_left : Result ℕ Unread → List ℕ → List ℕ → List ℕ
+text_left (Ok size) text buffer = overlay text buffer
+text_left (Err why) text buffer = buffer
+
+unfoldable pub left_by : Option Found → List ℕ → List ℕ → List ℕ
+left_by None text buffer = buffer
+left_by (Some field) text buffer = text_left field.text text buffer
 
 -- the buffer afterwards
 unfoldable pub buffer_after : List ℕ → ℕ → List ℕ → List ℕ
@@ -66,45 +70,36 @@ buffer_after h place buffer = left_by (reading h place (length buffer)) (field_t
 
 -- ---- by numbers
 
--- the request's number; 6 where there is no field
-unfoldable pub number_of : Found → ℕ
-number_of (Text start next size) = 0
-number_of (Malformed start next) = 1
-number_of (Word start next) = 2
-number_of (Charset start next) = 3
-number_of (NotUtf8 start next) = 4
-number_of (Room start next size) = 5
-number_of Nothing = 6
+-- the request's number
+unfoldable pub text_number : Result ℕ Unread → ℕ
+text_number (Ok size) = 0
+text_number (Err (Fault fault)) = fault_number fault
+text_number (Err (Room size)) = 5
+
+-- 6 where there is no field
+unfoldable pub number_of : Option Found → ℕ
+number_of None = 6
+number_of (Some field) = text_number field.text
 
 -- where the field begins; the header's end where there is none
-unfoldable pub start_of : ℕ → Found → ℕ
-start_of end (Text start next size) = start
-start_of end (Malformed start next) = start
-start_of end (Word start next) = start
-start_of end (Charset start next) = start
-start_of end (NotUtf8 start next) = start
-start_of end (Room start next size) = start
-start_of end Nothing = end
+unfoldable pub start_of : ℕ → Option Found → ℕ
+start_of end None = end
+start_of end (Some field) = field.start
 
 -- "the place after it"
-unfoldable pub next_of : ℕ → Found → ℕ
-next_of end (Text start next size) = next
-next_of end (Malformed start next) = next
-next_of end (Word start next) = next
-next_of end (Charset start next) = next
-next_of end (NotUtf8 start next) = next
-next_of end (Room start next size) = next
-next_of end Nothing = end
+unfoldable pub next_of : ℕ → Option Found → ℕ
+next_of end None = end
+next_of end (Some field) = field.next
 
 -- the text's length, written or needed
-unfoldable pub length_of : Found → ℕ
-length_of (Text start next size) = size
-length_of (Malformed start next) = 0
-length_of (Word start next) = 0
-length_of (Charset start next) = 0
-length_of (NotUtf8 start next) = 0
-length_of (Room start next size) = size
-length_of Nothing = 0
+unfoldable pub text_size : Result ℕ Unread → ℕ
+text_size (Ok size) = size
+text_size (Err (Fault fault)) = 0
+text_size (Err (Room size)) = size
+
+unfoldable pub length_of : Option Found → ℕ
+length_of None = 0
+length_of (Some field) = text_size field.text
 
 -- what a call answers and leaves
 pub record Outcome : Type 0 where

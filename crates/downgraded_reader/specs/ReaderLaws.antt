@@ -12,13 +12,16 @@ use Rattle.letter_case.specs.LetterCase.{bytes, same_any_case}
 use Rattle.line.specs.Line.{line_len}
 use Rattle.line.specs.LineLaws.{line_le}
 use Rattle.header.specs.Fields.{field_len}
-use Rattle.downgraded_field.specs.declared.FieldRead.{FieldRead}
-use Rattle.downgraded_field.specs.declared.FieldRead.TheVariants.{Text as FieldText, Malformed as FieldMalformed, Word as FieldWord, Charset as FieldCharset, NotUtf8 as FieldNotUtf8}
+use Rattle.std.specs.Prelude.{Some, None, Ok, Err, IsErrAnd}
+use Rattle.std.specs.declared.option.Option.{Option}
+use Rattle.std.specs.declared.result.Result.{Result}
+use Rattle.downgraded_field.specs.declared.FieldFault.{FieldFault}
 use Rattle.downgraded_field.specs.Shown.{field_read, field_text}
+use Rattle.downgraded_reader.specs.declared.Unread.{Unread}
+use Rattle.downgraded_reader.specs.declared.Unread.TheVariants.{Fault, Room}
 use Rattle.downgraded_reader.specs.declared.Found.{Found}
-use Rattle.downgraded_reader.specs.declared.Found.TheVariants.{Text, Malformed, Word, Charset, NotUtf8, Room, Nothing}
 use Rattle.downgraded_reader.specs.declared.ReadAnswer.{ReadAnswer}
-use Rattle.downgraded_reader.specs.Reader.{is_downgraded, first_line, to_field_after, field_start, field_at, of_field, reading, left_by, buffer_after, number_of, start_of, next_of, length_of, outcome, observed}
+use Rattle.downgraded_reader.specs.Reader.{is_downgraded, first_line, to_field_after, field_start, field_at, fitting, of_field, reading, text_left, left_by, buffer_after, number_of, start_of, next_of, length_of, outcome, observed}
 
 -- ---- where lines begin
 
@@ -97,65 +100,60 @@ unfolding field_start
 start_up h place = omega (arith, line_up h place)
 
 module _ (h : List ℕ) (place room : ℕ) where
-  none_read : length h ≤ field_start h place → reading h place room ≡ Nothing
+  none_read : length h ≤ field_start h place → reading h place room ≡ None
   unfolding reading
   none_read k = rw (le-ltb (field_start h place) (length h) k) refl
 
 module _ (h : List ℕ) (place : ℕ) (buffer : List ℕ) where
-  none_left : length h ≤ field_start h place → (Nothing ≡ reading h place (length buffer)) × (buffer ≡ buffer_after h place buffer)
+  none_left : length h ≤ field_start h place → (None ≡ reading h place (length buffer)) × (buffer ≡ buffer_after h place buffer)
   unfolding buffer_after left_by
   none_left k = let n = none_read h place (length buffer) k in (sym n, rw n refl)
 
-  pub read_past : length h ≤ place → (Nothing ≡ reading h place (length buffer)) × (buffer ≡ buffer_after h place buffer)
+  pub read_past : length h ≤ place → (None ≡ reading h place (length buffer)) × (buffer ≡ buffer_after h place buffer)
   read_past k = none_left (omega (arith, start_up h place))
 
-  pub read_none : {start : ℕ} → start ≡ field_start h place → length h ≤ start → (Nothing ≡ reading h place (length buffer)) × (buffer ≡ buffer_after h place buffer)
+  pub read_none : {start : ℕ} → start ≡ field_start h place → length h ≤ start → (None ≡ reading h place (length buffer)) × (buffer ≡ buffer_after h place buffer)
   read_none e k = none_left (omega arith)
 
-  found_same : {start next : ℕ} {field : List ℕ} {r : Found} → start ≡ field_start h place → start < length h → next ≡ start + field_len (drop start h)
-      → field ≡ take (field_len (drop start h)) (drop start h) → r ≡ of_field (length buffer) start next (field_read field) → r ≡ reading h place (length buffer)
-  unfolding reading field_at
-  found_same {start} e k n f a = a ∙ rw (f, n, ← e, lt-ltb start (length h) k) refl
+  module _ {start next : ℕ} {field : List ℕ} {text : Result ℕ Unread} {after : List ℕ} (e : start ≡ field_start h place) (k : start < length h) (n : next ≡ start + field_len (drop start h))
+      (f : field ≡ take (next - start) (drop start h)) (a : (text ≡ fitting (length buffer) (field_read field)) × (after ≡ text_left text (field_text field) buffer)) where
+    field_is : field ≡ field_at h start
+    unfolding field_at
+    field_is = let size : next - start ≡ field_len (drop start h) = omega arith in f ∙ ap (λ (m : ℕ). take m (drop start h)) size
 
-  found_left : {start : ℕ} {field : List ℕ} {r : Found} {after : List ℕ} → start ≡ field_start h place → field ≡ take (field_len (drop start h)) (drop start h) → r ≡ reading h place (length buffer)
-      → after ≡ left_by r (field_text field) buffer → after ≡ buffer_after h place buffer
-  unfolding buffer_after field_at
-  found_left e f same a = a ∙ rw (f, e, same) refl
+    found_is : reading h place (length buffer) ≡ Some (record { start = start; next = next; text = text })
+    unfolding reading of_field
+    found_is = rw (← e, lt-ltb start (length h) k, ← n, ← field_is, ← a.0) refl
 
-  pub read_found : {start next : ℕ} {field : List ℕ} {r : Found} {after : List ℕ} → start ≡ field_start h place → start < length h → next ≡ start + field_len (drop start h)
-      → field ≡ take (next - start) (drop start h) → (r ≡ of_field (length buffer) start next (field_read field)) × (after ≡ left_by r (field_text field) buffer)
-      → (r ≡ reading h place (length buffer)) × (after ≡ buffer_after h place buffer)
-  read_found {start} {next} e k n f a =
-      let size : next - start ≡ field_len (drop start h) = omega arith in
-      let g = f ∙ ap (λ (m : ℕ). take m (drop start h)) size in
-      let same = found_same e k n g a.0 in
-      (same, found_left e g same a.1)
+    pub read_found : (Some (record { start = start; next = next; text = text }) ≡ reading h place (length buffer)) × (after ≡ buffer_after h place buffer)
+    unfolding buffer_after left_by
+    read_found = (sym found_is, rw (found_is, ← e, ← field_is) a.1)
 
 -- what a field's reading becomes
-module _ (start next room : ℕ) (field : List ℕ) where
-  pub field_room : {size : ℕ} → FieldText size ≡ field_read field → room < size → Room start next size ≡ of_field room start next (field_read field)
-  unfolding of_field
-  field_room {size} e k = rw (← e, lt-leb size room k) refl
+module _ (room : ℕ) (field : List ℕ) where
+  pub text_room : {size : ℕ} → Ok size ≡ field_read field → room < size → Err (Room size) ≡ fitting room (field_read field)
+  unfolding fitting
+  text_room {size} e k = rw (← e, lt-leb size room k) refl
 
-  pub field_text_lem : {size : ℕ} → FieldText size ≡ field_read field → size ≤ room → Text start next size ≡ of_field room start next (field_read field)
-  unfolding of_field
-  field_text_lem {size} e k = rw (← e, le-leb size room k) refl
+  pub text_fits : {size : ℕ} → Ok size ≡ field_read field → size ≤ room → Ok size ≡ fitting room (field_read field)
+  unfolding fitting
+  text_fits {size} e k = rw (← e, le-leb size room k) refl
 
-  pub field_same : {f g : FieldRead} → f ≡ field_read field → f ≡ g → of_field room start next g ≡ of_field room start next (field_read field)
-  field_same e k = ap (of_field room start next) (sym k ∙ e)
+pub text_fault : (room : ℕ) (field : List ℕ) (fault : FieldFault) (r : Result ℕ Unread) (buffer : List ℕ) → Err fault ≡ field_read field → IsErrAnd r (λ why. why ≡ Fault fault)
+    → (r ≡ fitting room (field_read field)) × (buffer ≡ text_left r (field_text field) buffer)
+unfolding fitting text_left
+text_fault room field fault (Ok size) buffer e a = absurd a
+text_fault room field fault (Err why) buffer e a = (rw (← e, a) refl, refl)
 
 -- ---- by numbers
 
-pub record NumberedBy (end : ℕ) (r : Found) (a : ReadAnswer) : Type 0 where
+pub record NumberedBy (end : ℕ) (r : Option Found) (a : ReadAnswer) : Type 0 where
   pub number : a.number ≡ number_of r
   pub start : a.start ≡ start_of end r
   pub next : a.next ≡ next_of end r
   pub size : a.length ≡ length_of r
 
-pub numbered_by : {end : ℕ} {r s : Found} {a : ReadAnswer} → r ≡ s → (a.number ≡ number_of s) × (a.start ≡ start_of end s) × (a.next ≡ next_of end s) × (a.length ≡ length_of s) → NumberedBy end r a
-numbered_by e n = record { number = rw e n.0; start = rw e n.1; next = rw e n.2; size = rw e n.3 }
-
-pub outcome_is : (h : List ℕ) (place : ℕ) (buffer : List ℕ) {after : List ℕ} {r : Found} {a : ReadAnswer} → (r ≡ reading h place (length buffer)) × (after ≡ buffer_after h place buffer)
+pub outcome_is : (h : List ℕ) (place : ℕ) (buffer : List ℕ) {after : List ℕ} {r : Option Found} {a : ReadAnswer} → (r ≡ reading h place (length buffer)) × (after ≡ buffer_after h place buffer)
     → NumberedBy (length h) r a → observed a after ≡ outcome h place buffer
 unfolding outcome
 outcome_is h place buffer e n = rw (← e.0, ← e.1, ← n.number, ← n.start, ← n.next, ← n.size) refl

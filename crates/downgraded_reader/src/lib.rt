@@ -3,21 +3,34 @@
 
 ghost use Rattle.std.specs.Prelude.{◌≡◌, ◌<◌, length, drop};
 ghost use Rattle.downgraded_field.specs.Shown.{field_read, field_text};
+ghost use Rattle.downgraded_field.specs.FieldFaults.{number_of as fault_number};
 ghost use Rattle.downgraded_reader.specs.ReaderLaws.{NumberedBy};
-ghost use Rattle.downgraded_reader.specs.Reader.{is_downgraded, first_line, field_start, of_field, left_by, reading, buffer_after, outcome, observed};
+ghost use Rattle.downgraded_reader.specs.Reader.{is_downgraded, first_line, field_start, fitting, text_left, text_number, text_size, reading, buffer_after, outcome, observed};
+ghost use Rattle.downgraded_reader.specs.declared.Unread.TheVariants.{Fault};
 
-use downgraded_field::FieldRead;
+use downgraded_field::FieldFault;
 
-// What a call finds: the field's start, the place after it, and the length of its text, written or needed; or why it has none; or no field.
-#[derive(Clone, Copy)]
-pub enum Found {
-    Text(usize, usize, usize),
-    Malformed(usize, usize),
-    Word(usize, usize),
-    Charset(usize, usize),
-    NotUtf8(usize, usize),
-    Room(usize, usize, usize),
-    Nothing,
+// Why a field has no text: its fault, or the length that the buffer is too short for.
+#[derive(Clone, Copy, Debug, PartialEq, Eq)]
+pub enum Unread {
+    Fault(FieldFault),
+    Room(usize),
+}
+
+impl From<FieldFault> for Unread {
+    ghost from_gives = { λ fault result. result ≡ Fault fault };
+
+    fn from(fault: FieldFault) -> Unread {
+        Unread::Fault(fault)
+    }
+}
+
+// A field that a call finds: its start, the place after it, and the length of its text, which is written, or why it has none.
+#[derive(Clone, Copy, Debug, PartialEq, Eq)]
+pub struct Found {
+    pub start: usize,
+    pub next: usize,
+    pub text: Result<usize, Unread>,
 }
 
 // The answer of the exported call.
@@ -64,63 +77,85 @@ fn field_start(h: &[u8], place: usize) -> usize
     at
 }
 
-fn read_field(start: usize, next: usize, field: &[u8], buffer: &mut [u8]) -> Found
-    ensures { (result ≡ of_field (length buffer.old) start next (field_read field.now)) × (buffer.new ≡ left_by result (field_text field.now) buffer.old) }
+// Writes the text of a field, where it has one that fits.
+fn read_text(field: &[u8], buffer: &mut [u8]) -> Result<usize, Unread>
+    ensures { (result ≡ fitting (length buffer.old) (field_read field.now)) × (buffer.new ≡ text_left result (field_text field.now) buffer.old) }
 {
-    let found = downgraded_field::check(field);
-    match found {
-        FieldRead::Text(size) => {
-            if buffer.len() < size {
-                return Found::Room(start, next, size);
-            }
-            downgraded_field::put(buffer, field);
-            Found::Text(start, next, size)
-        }
-        FieldRead::Malformed => Found::Malformed(start, next),
-        FieldRead::Word => Found::Word(start, next),
-        FieldRead::Charset => Found::Charset(start, next),
-        FieldRead::NotUtf8 => Found::NotUtf8(start, next),
+    let size = downgraded_field::check(field)?;
+    if buffer.len() < size {
+        return Err(Unread::Room(size));
     }
+    downgraded_field::put(buffer, field);
+    Ok(size)
 }
 
 // Reads the first Downgraded field that begins at a place or later.
-pub fn read(header: &[u8], place: usize, buffer: &mut [u8]) -> Found
+pub fn read(header: &[u8], place: usize, buffer: &mut [u8]) -> Option<Found>
     ensures { (result ≡ reading header.now place (length buffer.old)) × (buffer.new ≡ buffer_after header.now place buffer.old) }
 {
     if header.len() <= place {
-        return Found::Nothing;
+        return None;
     }
     let start = field_start(header, place);
     if header.len() <= start {
-        return Found::Nothing;
+        return None;
     }
     let next = header::field_end(header, start);
-    read_field(start, next, &header[start..next], buffer)
+    let text = read_text(&header[start..next], buffer);
+    Some(Found { start, next, text })
 }
 
-fn answer_of(number: u32, start: usize, next: usize, length: usize) -> ReadAnswer
-    ensures { (result.number ≡ number) × (result.start ≡ start) × (result.next ≡ next) × (result.length ≡ length) }
+fn fault_number(fault: FieldFault) -> u32
+    ensures { result ≡ fault_number fault }
 {
-    ReadAnswer {
-        number,
-        start,
-        next,
-        length,
+    match fault {
+        FieldFault::Malformed => 1,
+        FieldFault::Word => 2,
+        FieldFault::Charset => 3,
+        FieldFault::NotUtf8 => 4,
     }
 }
 
-// An answer by its numbers; `end` is the header's end.
-fn numbered(r: Found, end: usize) -> ReadAnswer
-    ensures { NumberedBy end r result }
+#[tactic(auto, unfolding(crate::specs::Reader::text_number))]
+fn number_of(text: Result<usize, Unread>) -> u32
+    ensures { result ≡ text_number text }
 {
-    match r {
-        Found::Text(start, next, size) => answer_of(0, start, next, size),
-        Found::Malformed(start, next) => answer_of(1, start, next, 0),
-        Found::Word(start, next) => answer_of(2, start, next, 0),
-        Found::Charset(start, next) => answer_of(3, start, next, 0),
-        Found::NotUtf8(start, next) => answer_of(4, start, next, 0),
-        Found::Room(start, next, size) => answer_of(5, start, next, size),
-        Found::Nothing => answer_of(6, end, end, 0),
+    match text {
+        Ok(_) => 0,
+        Err(Unread::Fault(fault)) => fault_number(fault),
+        Err(Unread::Room(_)) => 5,
+    }
+}
+
+// The length of a text, written or needed.
+#[tactic(auto, unfolding(crate::specs::Reader::text_size))]
+fn length_of(text: Result<usize, Unread>) -> usize
+    ensures { result ≡ text_size text }
+{
+    match text {
+        Ok(size) | Err(Unread::Room(size)) => size,
+        Err(Unread::Fault(_)) => 0,
+    }
+}
+
+// What is found, by its numbers; where there is no field, its places are the header's end.
+#[tactic(auto, unfolding(crate::specs::Reader::number_of, crate::specs::Reader::start_of, crate::specs::Reader::next_of, crate::specs::Reader::length_of))]
+fn numbered(found: Option<Found>, end: usize) -> ReadAnswer
+    ensures { NumberedBy end found result }
+{
+    match found {
+        None => ReadAnswer {
+            number: 6,
+            start: end,
+            next: end,
+            length: 0,
+        },
+        Some(field) => ReadAnswer {
+            number: number_of(field.text),
+            start: field.start,
+            next: field.next,
+            length: length_of(field.text),
+        },
     }
 }
 
@@ -128,6 +163,6 @@ fn numbered(r: Found, end: usize) -> ReadAnswer
 pub fn answer(header: &[u8], place: usize, buffer: &mut [u8]) -> ReadAnswer
     ensures { observed result buffer.new ≡ outcome header.now place buffer.old }
 {
-    let r = read(header, place, buffer);
-    numbered(r, header.len())
+    let found = read(header, place, buffer);
+    numbered(found, header.len())
 }

@@ -14,10 +14,9 @@ use Rattle.row.specs.FieldRow.{FieldDemand3}
 use Rattle.row.proofs.FieldRowLaws.{field_demand_3}
 use Rattle.header_line.specs.Lines.{name_len}
 use Rattle.header.specs.Fields.{field_len, value_of}
-use Rattle.downgraded_field.specs.declared.FieldRead.TheVariants.{Text as FieldText}
+use Rattle.std.specs.Prelude.{Some, Ok}
 use Rattle.downgraded_field.specs.Shown.{field_turns, field_text, of_number, field_read}
-use Rattle.downgraded_reader.specs.declared.Found.TheVariants.{Text}
-use Rattle.downgraded_reader.specs.Reader.{field_start, field_at, of_field, reading, left_by, buffer_after, number_of, start_of, next_of, length_of, outcome}
+use Rattle.downgraded_reader.specs.Reader.{field_start, field_at, fitting, of_field, reading, text_left, left_by, buffer_after, text_number, number_of, start_of, next_of, text_size, length_of, outcome}
 use Rattle.downgraded_row.specs.RowTurnsLaws.{ShownAs, row_shown}
 use Rattle.downgraded_row.specs.RowLinesLaws.{Label, label_length, label_name, field_formed, field_len_lem}
 
@@ -50,7 +49,7 @@ module _ (label text : List ℕ) (l : Label label) (u : T (utf8 text)) where
   unfolding field_text
   written_text = shows.text_is
 
-  pub written_read : field_read (written label text) ≡ FieldText (length text)
+  pub written_read : field_read (written label text) ≡ Ok (length text)
   unfolding field_read of_number
   written_read = rw (field_formed l demand.ours.laid demand.ours.proper, shows.number, written_text) refl
 
@@ -70,20 +69,20 @@ module _ (label text : List ℕ) (l : Label label) (u : T (utf8 text)) where
     inside = omega (arith, length-append before (written label text ++ after), length-append (written label text) after, size)
 
     read_is : (place room : ℕ) → field_start (before ++ (written label text ++ after)) place ≡ length before → length text ≤ room
-        → reading (before ++ (written label text ++ after)) place room ≡ Text (length before) (length before + length (written label text)) (length text)
-    unfolding reading of_field
+        → reading (before ++ (written label text ++ after)) place room ≡ Some (record { start = length before; next = length before + length (written label text); text = Ok (length text) })
+    unfolding reading of_field fitting
     read_is place room s k =
         let h = before ++ (written label text ++ after) in
         rw (s, lt-ltb (length before) (length h) inside, written_at, written_read, le-leb (length text) room k, rest_is, length_is) refl
 
     left_is : (place : ℕ) (buffer : List ℕ) → field_start (before ++ (written label text ++ after)) place ≡ length before → length text ≤ length buffer
         → buffer_after (before ++ (written label text ++ after)) place buffer ≡ overlay text buffer
-    unfolding buffer_after left_by
+    unfolding buffer_after left_by text_left
     left_is place buffer s k = rw (read_is place (length buffer) s k, s, written_at, written_text) refl
 
     -- a call whose first field is this one
     pub written_outcome : (place : ℕ) (buffer : List ℕ) → field_start (before ++ (written label text ++ after)) place ≡ length before → length text ≤ length buffer
         → outcome (before ++ (written label text ++ after)) place buffer
         ≡ record { number = 0; start = length before; next = length before + length (written label text); size = length text; buffer = overlay text buffer }
-    unfolding outcome number_of start_of next_of length_of
+    unfolding outcome number_of text_number start_of next_of length_of text_size
     written_outcome place buffer s k = rw (read_is place (length buffer) s k, left_is place buffer s k) refl

@@ -1,5 +1,5 @@
 -- Of segments that are sound: what is written is all ASCII, and demand 3 holds of each text that is encoded.
-use Rattle.std.specs.Prelude.{◌≡◌, refl, ◌&&◌, ℕ, ◌+◌, ◌-◌, ◌<◌, length, T, eqb}
+use Rattle.std.specs.Prelude.{◌≡◌, refl, ◌&&◌, ℕ, ◌-◌, ◌<◌, length, T, eqb}
 use Rattle.std.proofs.Common.{sym, ⊎_elim, eqb→eq, ltb→lt}
 use mathlib.Core.List.{List, [], ◌∷◌, ◌++◌, append_assoc, Memᴰ, map}
 use Rattle.std.proofs.Math.Facts.{and_yes, or_yes}

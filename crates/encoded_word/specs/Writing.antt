@@ -1,5 +1,5 @@
 -- What the functions that write a row promise each other: characters of a word in Q, a word, lines.
-use Rattle.std.specs.Prelude.{◌≡◌, List, ◌∷◌, ℕ, ◌+◌, ◌-◌, ◌≤◌, ◌<◌, min, length, drop, get_or}
+use Rattle.std.specs.Prelude.{◌≡◌, List, ◌∷◌, ℕ, ◌+◌, ◌≤◌, ◌<◌, min, length, drop, get_or}
 use Rattle.utf8.specs.Utf8.{char_len}
 use Rattle.buffer.specs.Buffer.{Appended, Reached}
 use Rattle.word_spelling.specs.Spelling.{spell}

@@ -1,17 +1,18 @@
 -- Laws of writing a row.
 use Rattle.std.specs.Prelude.{◌≡◌, refl, true, not, ◌&&◌, List, [], ◌∷◌, ◌++◌, ℕ, ◌+◌, ◌-◌, ◌*◌, ◌≤◌, ◌<◌, min, length, take, drop, get_or, leb, ltb, eqb}
-use Rattle.std.proofs.Common.{sym, ap, ◌∙◌, append_assoc, append-nil, arith, length-append, length-take, T_not, ltb→lt, le→leb, zero-add, leb-true, ltb-true}
+use Rattle.std.proofs.Common.{sym, ap, ◌∙◌, append-nil, arith, length-take, length-drop, T_not, ltb→lt, le→leb, zero-add, leb-true, ltb-true}
+use Rattle.std.proofs.Math.Seq.{take-length}
 use Rattle.std.proofs.Math.Facts.{ltb_no}
 use Rattle.std.proofs.lemmas.Bool.{eqb-false, not-true}
 use Rattle.lists.specs.Lists.{joined}
 use Rattle.lists.specs.ListsLaws.{by_test, joined_append}
 use Rattle.utf8.specs.Utf8.{char_len, chars}
 use Rattle.utf8.specs.Utf8Laws.{chars_at, char_len_le}
-use Rattle.buffer.specs.Buffer.{Appended, AppendedCapped, Reached, ReachedCapped, Wrote, greatest}
-use Rattle.buffer.specs.BufferLaws.{overlay_front, wrote_from, wrote_of, appended_none, appended_then, appended_of, length_appended, reached_start, reached_then, reached_last, reached_join, reached_within, capped_then, capped_turn}
+use Rattle.buffer.specs.Buffer.{overlay_at, Appended, AppendedCapped, ReachedCapped, Wrote, greatest}
+use Rattle.buffer.specs.BufferLaws.{overlay_parts, overlay_front, wrote_from, appended_none, appended_then, appended_of, length_appended, reached_start, reached_then, reached_last, reached_join, reached_within, capped_then, capped_turn}
 use Rattle.base64_digits.specs.Base64.{in_base64}
 use Rattle.word_spelling.specs.Spelling.{opening, closing, escape, spell_byte, spell}
-use Rattle.word_spelling.specs.Cost.{byte_cost, cost}
+use Rattle.word_spelling.specs.Cost.{cost}
 use Rattle.word_spelling.specs.SpellingLaws.{length_spell, spell_append, spell_high, spell_one, escapes, alone_ascii}
 use Rattle.word_spelling.specs.FirstChars.{first_char, first_chars}
 use Rattle.word_spelling.specs.FirstCharsLaws.{spelt_alone, cost_alone, first_in}
@@ -19,17 +20,31 @@ use Rattle.word_spelling.specs.HighChar.{HighChar}
 use Rattle.word_spelling.specs.HighCharLaws.{both, one_byte, escapes_next, whole_take}
 use Rattle.row.specs.declared.Encoding.{Encoding}
 use Rattle.row.specs.declared.Encoding.TheVariants.{Q, B}
-use Rattle.row.specs.Word.{opening_in, spell_in, word}
+use Rattle.row.specs.Word.{opening_in, word}
 use Rattle.row.specs.Row.{encodings, holds, fits_room, row, row_after}
 use Rattle.row.proofs.FitsLaws.{or_left, length_word_in}
 use Rattle.row.specs.WordEnd.{Span, WordEnd}
 use Rattle.row.specs.WordEndLaws.{between}
-use Rattle.row.proofs.WordEndLaws.{span_none, span_join, word_small, row_end, first_step, first_none}
+use Rattle.row.proofs.WordEndLaws.{span_none, span_join, word_small, first_step, first_none}
 use Rattle.row.proofs.RowLaws.{row_after_none, length_row_after_le}
 use Rattle.word_choice.specs.Choice.{AlsoInQ}
-use Rattle.word_choice.specs.EndInQLaws.{Stepped, SoFarInQ, EndInQ, between_join, cost_join, q_start, word_in_q, rest_step, rest_more, rest_within}
+use Rattle.word_choice.specs.EndInQLaws.{Stepped, between_join, cost_join, word_in_q, rest_step, rest_more, rest_within}
 use Rattle.row_length.specs.LengthLaws.{stepped_ascii, stepped_join, stepped_high}
 use Rattle.encoded_word.specs.Writing.{PutTurn, PutInQ, PutWordInQ, PutWord, PutLine, Begun, Ran}
+
+-- ---- bytes
+
+-- some bytes in the place of as many
+pub put_part : (text out ys : List ℕ) (at n : ℕ) → length text ≡ n → at + n ≤ length out → ys ≡ text
+    → Appended text at out (take at out ++ (ys ++ drop (at + n - at) (drop at out))) (at + n)
+unfolding overlay_at
+put_part text out ys at n size fits same =
+    let count : at + n - at ≡ length text = omega (arith, size) in
+    let all : length text ≡ min (length text) (length (drop at out)) = omega (arith, size, length-drop at out) in
+    record {
+      place = omega (arith, size);
+      bytes = rw (same, count, overlay_parts text (drop at out) (length text) all, take-length) refl;
+    }
 
 -- ---- characters
 
@@ -63,16 +78,41 @@ pub spell_byte_lem : (s : List ℕ) (i : ℕ) → i < length s → spell (betwee
 spell_byte_lem s i h = ap spell (one_byte s i h) ∙ spell_one (get_or s i 0)
 
 -- four that take one character each, by the first characters x, y, z and w of their spellings
-module _ (s first : List ℕ) (e : first ≡ first_chars) where
+module _ (s : List ℕ) where
   -- one of them
-  alone : (i left x : ℕ) → i < length s → get_or s i 0 < 256 → x ≡ get_or first (get_or s i 0) 0 → not (eqb x 61) ≡ true
+  single : (i left x : ℕ) → i < length s → get_or s i 0 < 256 → x ≡ first_char (get_or s i 0) → not (eqb x 61) ≡ true
       → Stepped s i left (i + 1) 1 × (spell (between s i (i + 1)) ≡ x ∷ [])
-  alone i left x h k p n =
-      let f = first_in (get_or s i 0) e k p in
+  single i left x h k f n =
       let other : first_char (get_or s i 0) ≡ 61 → ⊥ = λ j. eqb-false x 61 (not-true (eqb x 61) n) (f ∙ j) in
       let size = cost_alone (get_or s i 0) other in
       (stepped_ascii s i left 1 h (alone_ascii (get_or s i 0) k size) (sym size), spell_byte_lem s i h ∙ spelt_alone (get_or s i 0) other ∙ ap (λ (y : ℕ). y ∷ []) (sym f))
 
+  pub put_singles : (i left at x y z w : ℕ) {before after : List ℕ} {next : ℕ} → leb 4 left && leb 4 (length s - i) ≡ true
+      → get_or s i 0 < 256 → get_or s (i + 1) 0 < 256 → get_or s (i + 1 + 1) 0 < 256 → get_or s (i + 1 + 1 + 1) 0 < 256
+      → x ≡ first_char (get_or s i 0) → y ≡ first_char (get_or s (i + 1) 0) → z ≡ first_char (get_or s (i + 1 + 1) 0) → w ≡ first_char (get_or s (i + 1 + 1 + 1) 0)
+      → not (eqb x 61) && not (eqb y 61) && not (eqb z 61) && not (eqb w 61) ≡ true
+      → Appended (x ∷ y ∷ z ∷ w ∷ []) at before after next
+      → PutTurn s i left at before after (i + 1 + 1 + 1 + 1) (left - 4) next
+  put_singles i left at x y z w room ka kb kc kd px py pz pw none v =
+      let p = both (leb 4 left) (leb 4 (length s - i)) room in
+      let roomy = leb-true 4 left p.0 in
+      let long = leb-true 4 (length s - i) p.1 in
+      let n1 = both (not (eqb x 61) && not (eqb y 61) && not (eqb z 61)) (not (eqb w 61)) none in
+      let n2 = both (not (eqb x 61) && not (eqb y 61)) (not (eqb z 61)) n1.0 in
+      let n3 = both (not (eqb x 61)) (not (eqb y 61)) n2.0 in
+      let a = single i left x (omega arith) ka px n3.0 in
+      let b = single (i + 1) left y (omega arith) kb py n3.1 in
+      let c = single (i + 1 + 1) left z (omega arith) kc pz n2.1 in
+      let d = single (i + 1 + 1 + 1) left w (omega arith) kd pw n1.1 in
+      let ab = stepped_join a.0 b.0 (omega arith) (omega arith) in
+      let abc = stepped_join ab c.0 (omega arith) (omega arith) in
+      put_step (x ∷ y ∷ z ∷ w ∷ []) (stepped_join abc d.0 (omega arith) (omega arith)) (omega arith) refl
+      (spell_join s i (i + 1 + 1 + 1) (i + 1 + 1 + 1 + 1) (omega arith) (omega arith)
+      ∙ rw (d.1, spell_join s i (i + 1 + 1) (i + 1 + 1 + 1) (omega arith) (omega arith), c.1, spell_join s i (i + 1) (i + 1 + 1) (omega arith) (omega arith), a.1, b.1) refl)
+      v
+
+-- the same by the table of first characters
+module _ (s first : List ℕ) (e : first ≡ first_chars) where
   pub put_alone : (i left at x y z w : ℕ) {before after : List ℕ} {next : ℕ} → leb 4 left && leb 4 (length s - i) ≡ true
       → get_or s i 0 < 256 → get_or s (i + 1) 0 < 256 → get_or s (i + 1 + 1) 0 < 256 → get_or s (i + 1 + 1 + 1) 0 < 256
       → x ≡ get_or first (get_or s i 0) 0 → y ≡ get_or first (get_or s (i + 1) 0) 0 → z ≡ get_or first (get_or s (i + 1 + 1) 0) 0 → w ≡ get_or first (get_or s (i + 1 + 1 + 1) 0) 0
@@ -80,22 +120,12 @@ module _ (s first : List ℕ) (e : first ≡ first_chars) where
       → Appended (x ∷ y ∷ z ∷ w ∷ []) at before after next
       → PutTurn s i left at before after (i + 1 + 1 + 1 + 1) (left - 4) next
   put_alone i left at x y z w room ka kb kc kd px py pz pw none v =
-      let p = both (leb 4 left) (leb 4 (length s - i)) room in
-      let roomy = leb-true 4 left p.0 in
-      let long = leb-true 4 (length s - i) p.1 in
-      let n1 = both (not (eqb x 61) && not (eqb y 61) && not (eqb z 61)) (not (eqb w 61)) none in
-      let n2 = both (not (eqb x 61) && not (eqb y 61)) (not (eqb z 61)) n1.0 in
-      let n3 = both (not (eqb x 61)) (not (eqb y 61)) n2.0 in
-      let a = alone i left x (omega arith) ka px n3.0 in
-      let b = alone (i + 1) left y (omega arith) kb py n3.1 in
-      let c = alone (i + 1 + 1) left z (omega arith) kc pz n2.1 in
-      let d = alone (i + 1 + 1 + 1) left w (omega arith) kd pw n1.1 in
-      let ab = stepped_join a.0 b.0 (omega arith) (omega arith) in
-      let abc = stepped_join ab c.0 (omega arith) (omega arith) in
-      put_step (x ∷ y ∷ z ∷ w ∷ []) (stepped_join abc d.0 (omega arith) (omega arith)) (omega arith) refl
-      (spell_join s i (i + 1 + 1 + 1) (i + 1 + 1 + 1 + 1) (omega arith) (omega arith)
-      ∙ rw (d.1, spell_join s i (i + 1 + 1) (i + 1 + 1 + 1) (omega arith) (omega arith), c.1, spell_join s i (i + 1) (i + 1 + 1) (omega arith) (omega arith), a.1, b.1) refl)
-      v
+      put_singles s i left at x y z w room ka kb kc kd
+      (first_in (get_or s i 0) e ka px)
+      (first_in (get_or s (i + 1) 0) e kb py)
+      (first_in (get_or s (i + 1 + 1) 0) e kc pz)
+      (first_in (get_or s (i + 1 + 1 + 1) 0) e kd pw)
+      none v
 
 -- a character that is whole and of which no byte is ASCII; what it is written as, `t`, are its escapes
 pub put_high_lem : (s : List ℕ) (i left at r : ℕ) → 0 < r → HighChar s i r → {before after : List ℕ} {next left' : ℕ} (t : List ℕ)

@@ -3,20 +3,32 @@ ghost use Rattle.std.specs.Prelude.{◌≡◌, ◌++◌, ◌+◌, ◌≤◌, len
 ghost use Rattle.buffer.specs.Buffer.{Appended};
 ghost use Rattle.word_spelling.specs.Spelling.{escape, spell_byte, spell};
 ghost use Rattle.word_spelling.specs.Cost.{cost};
-ghost use Rattle.word_spelling.specs.FirstChars.{first_chars};
 
-use word_spelling::first_char;
+use word_spelling::first_of;
+
+// Writes some bytes, where they fit.
+pub(crate) fn put_bytes<const N: usize>(out: &mut [u8], at: usize, bytes: &[u8; N]) -> usize
+    requires { at + N ≤ length out.old }
+    ensures { Appended bytes.now at out.old out.new result }
+{
+    let end = at + N;
+    out[at..end].copy_from_slice(bytes);
+    end
+}
 
 // Writes `=` and two hex digits.
+// Kept: `put_bytes` of an array that is just made takes half as long again, since its bytes are stored one by one and then read together.
 pub(crate) fn put_escape(out: &mut [u8], at: usize, b: u8) -> usize
     requires { at + 3 ≤ length out.old }
     ensures { Appended (escape b) at out.old out.new result }
 {
+    let high = hex_digit::digit(b / 16);
+    let low = hex_digit::digit(b % 16);
     let second = at + 1;
     let third = second + 1;
-    out[at] = 61;
-    out[second] = hex_digit::digit(b / 16);
-    out[third] = hex_digit::digit(b % 16);
+    out[at] = b'=';
+    out[second] = high;
+    out[third] = low;
     third + 1
 }
 
@@ -30,12 +42,12 @@ pub(crate) fn put_escapes(out: &mut [u8], at: usize, a: u8, b: u8) -> usize
 }
 
 // Writes a byte.
-pub(crate) fn put_byte(first: &[u8; 256], out: &mut [u8], at: usize, b: u8) -> usize
-    requires { (first.now ≡ first_chars) × (at + 3 ≤ length out.old) }
+pub(crate) fn put_byte(out: &mut [u8], at: usize, b: u8) -> usize
+    requires { at + 3 ≤ length out.old }
     ensures { Appended (spell_byte b) at out.old out.new result }
 {
-    let c = first_char(first, b);
-    if c == 61 {
+    let c = first_of(b);
+    if c == b'=' {
         return put_escape(out, at, b);
     }
     out[at] = c;
@@ -43,15 +55,13 @@ pub(crate) fn put_byte(first: &[u8; 256], out: &mut [u8], at: usize, b: u8) -> u
 }
 
 // Writes the bytes of a character, where two more would fit after them.
-pub(crate) fn put_char(first: &[u8; 256], out: &mut [u8], at: usize, c: &[u8]) -> usize
-    requires { (first.now ≡ first_chars) × (at + cost c.now + 2 ≤ length out.old) }
+pub(crate) fn put_char(out: &mut [u8], at: usize, c: &[u8]) -> usize
+    requires { at + cost c.now + 2 ≤ length out.old }
     ensures { Appended (spell c.now) at out.old out.new result }
 {
     let mut next = at;
-    let mut i = 0;
-    while i < c.len() {
-        next = put_byte(first, out, next, c[i]);
-        i += 1;
+    for b in c {
+        next = put_byte(out, next, *b);
     }
     next
 }

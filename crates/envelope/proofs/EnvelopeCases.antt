@@ -1,6 +1,6 @@
 -- Cases of what no law and no grammar says of an envelope: the first line with an ORCPT at fault, and the texts for the header. One
 -- table under one theorem; other cases are run by the program envelope_cases.
-use Rattle.std.specs.Prelude.{◌≡◌, refl, List, [], ◌∷◌, ◌++◌, ℕ}
+use Rattle.std.specs.Prelude.{◌≡◌, refl, List, [], ◌∷◌, ◌++◌, ℕ, Option, Some, None}
 use Rattle.lists.specs.Run.{run}
 use Rattle.lists.specs.CutBy.{cut_by, cut_after}
 use Rattle.letter_case.specs.LetterCase.{bytes, lower, same_any_case}
@@ -10,8 +10,6 @@ use Rattle.xtext.specs.Xtext.{is_xchar, is_hexchar, unit_len, unit_byte, decodin
 use Rattle.hex_digit.specs.Hex.{is_hex_digit, hex_value}
 use Rattle.envelope_line.specs.EnvelopeLine.{verb, path_scan, path_len, path, tail, orcpt_fault, new_path, replacement}
 use Rattle.parameter.specs.Parameter.{params, is_keyword_byte, keyword_len, keyword, value, is_orcpt, is_alt, alts, alt, orcpt_clean}
-use Rattle.envelope.specs.declared.Orcpt.{Orcpt}
-use Rattle.envelope.specs.declared.Orcpt.TheVariants.{Clean, At}
 use Rattle.envelope.specs.Envelope.{lines, line_text, texts, orcpt_from, orcpt_line, mail_of, mail_replacement, only_rcpt_of, rcpt_replacement}
 
 -- `é`
@@ -26,7 +24,7 @@ ended (l ∷ ls) = l ++ (13 ∷ 10 ∷ ended ls)
 -- a case and its answer
 pub data Case : Type 0 where
   -- an envelope, and its first line with an ORCPT at fault
-  orcpt : List ℕ → Orcpt → Case
+  orcpt : List ℕ → Option ℕ → Case
   -- an envelope, and the texts for the header
   replaces : List ℕ → List ℕ → List ℕ → Case
 
@@ -63,9 +61,9 @@ sent l = ended (mail ∷ l ∷ [])
 abbrev pub cases : List Case
 cases =
     -- ORCPT
-    Case.orcpt (sent rcpt) Clean
-    ∷ Case.orcpt (ended (mail ∷ rcpt ∷ (bytes "RCPT TO:<b@c> X Orcpt=" ++ é) ∷ [])) (At 2)
-    ∷ Case.orcpt (mailed (bytes "MAIL FROM:<a@b> ORCPT=a ORCPT=" ++ é)) (At 0)
+    Case.orcpt (sent rcpt) None
+    ∷ Case.orcpt (ended (mail ∷ rcpt ∷ (bytes "RCPT TO:<b@c> X Orcpt=" ++ é) ∷ [])) (Some 2)
+    ∷ Case.orcpt (mailed (bytes "MAIL FROM:<a@b> ORCPT=a ORCPT=" ++ é)) (Some 0)
     -- for the header
     ∷ Case.replaces (mailed (high (bytes " ALT-ADDRESS=a+2Bb@x"))) (60 ∷ (é ++ bytes "@x <a+b@x>>")) []
     ∷ Case.replaces (ended (mail ∷ high_rcpt (bytes " ALT-ADDRESS=a@x") ∷ [])) [] (60 ∷ (é ++ bytes "@x <a@x>>"))

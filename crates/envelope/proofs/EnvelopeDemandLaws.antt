@@ -1,5 +1,5 @@
 -- The lines of an envelope by the grammar are those that are checked and written.
-use Rattle.std.specs.Prelude.{◌≡◌, Bool, true, false, not, ℕ, suc, pred, ◌+◌, ◌≤◌, ◌<◌, T, eqb, leb, ltb, length, take}
+use Rattle.std.specs.Prelude.{◌≡◌, Bool, true, false, not, ℕ, suc, pred, ◌+◌, ◌≤◌, ◌<◌, T, eqb, leb, ltb, length, take, Ok, Some, None}
 use Rattle.std.proofs.Math.Path.{refl, ap}
 use Rattle.std.proofs.Common.{sym, ◌∙◌, arith, length-append, length-take, drop_of_length-le, le-leb, le-ltb}
 use mathlib.Core.List.{List, [], ◌∷◌, ◌++◌, map, append_assoc, append-nil}
@@ -20,11 +20,9 @@ use Rattle.envelope_line.specs.declared.Fault.TheVariants.{Malformed}
 use Rattle.envelope_line.specs.EnvelopeLine.{tail, line_fault, orcpt_fault, written_line, replacement}
 use Rattle.envelope_line.proofs.LineGrammarLaws.{line_written, written_exact, written_kept as Line_kept}
 use Rattle.envelope_line.proofs.LineBytesLaws.{written_no_cr, written_orcpt}
-use Rattle.envelope.specs.declared.Checked.TheVariants.{Passed, Refused}
-use Rattle.envelope.specs.declared.Orcpt.TheVariants.{Clean, At}
-use Rattle.envelope.specs.Envelope.{lines, line_text, ended_fault, fault_of, fault_number, is_fine, counted, checked_from, checked, texts, orcpt_from, orcpt_line, written_ended, written_of, written}
+use Rattle.envelope.specs.Envelope.{lines, line_text, ended_fault, fault_of, counted, checked_from, checked, texts, orcpt_from, orcpt_line, written_ended, written_of, written, refused}
 use Rattle.envelope.proofs.LinesLaws.{lines_joined, text_ended, lines_end_lem, lines_at_lem}
-use Rattle.envelope.proofs.CheckLaws.{ended, ended_fine, fine_few, fine_ended}
+use Rattle.envelope.proofs.CheckLaws.{same_line, by_fault, ended, ended_fine, fine_few, fine_ended}
 use Rattle.envelope.proofs.PassedLaws.{passed_line}
 use Rattle.envelope.specs.EnvelopeDemand.{Any, Ascii, EnvelopeLines}
 
@@ -97,7 +95,7 @@ module _ {rules : Rules} where
   module _ {Asked : List ℕ → Type 0} where
     pub checked_past : {n : ℕ} {start out : List ℕ} {ts : List (List ℕ)} → EnvelopeLines rules Asked n start out ts → (rest : List ℕ)
         → checked rules (start ++ rest) ≡ checked_from rules n (lines rest)
-    unfolding checked checked_from is_fine fault_number
+    unfolding checked checked_from
     checked_past EnvelopeLines.none rest = refl
     checked_past (EnvelopeLines.then {n} {before} {line} e few w a) rest =
         let h = written_no_cr w in
@@ -134,13 +132,13 @@ pub no_lines : lines [] ≡ []
 no_lines = lines_end_lem [] 0 (omega arith)
 
 pub lines_passed : {rules : Rules} {Asked : List ℕ → Type 0} {n : ℕ} {e out : List ℕ} {ts : List (List ℕ)} → EnvelopeLines rules Asked n e out ts → 2 ≤ n
-    → (checked rules e ≡ Passed (pred n)) × (out ≡ written e) × (ts ≡ replacements e)
+    → (checked rules e ≡ Ok (pred n)) × (out ≡ written e) × (ts ≡ replacements e)
 unfolding checked_from counted texts each_from
 lines_passed {rules} {n = n} k h =
-    let passed : checked_from rules n (lines []) ≡ Passed (pred n) = rw (no_lines, le-ltb n 2 h) in
+    let passed : checked_from rules n (lines []) ≡ Ok (pred n) = rw (no_lines, le-ltb n 2 h) in
     (rw append-nil at (checked_past k []) ∙ passed, rw (no_lines, append-nil, append-nil) at (sym (written_past k [])), rw (no_lines, append-nil, append-nil) at (sym (replaced_past k [])))
 
-pub lines_clean : {rules : Rules} {n : ℕ} {e out : List ℕ} {ts : List (List ℕ)} → EnvelopeLines rules Ascii n e out ts → orcpt_line e ≡ Clean
+pub lines_clean : {rules : Rules} {n : ℕ} {e out : List ℕ} {ts : List (List ℕ)} → EnvelopeLines rules Ascii n e out ts → orcpt_line e ≡ None
 unfolding orcpt_from texts
 lines_clean k = rw (no_lines, append-nil) at (orcpt_past k [])
 
@@ -168,7 +166,7 @@ each_end : (e : List ℕ) → T (all at_end (lines e))
 unfolding lines
 each_end e = cut_all (λ rest. line_len rest + 2) at_end (λ s k. front_end s) e
 
-text_is : (rules : Rules) (mail : Bool) (line : List ℕ) → is_fine (ended_fault rules mail line) ≡ true → T (at_end line) → line_text line ++ (13 ∷ 10 ∷ []) ≡ line
+text_is : (rules : Rules) (mail : Bool) (line : List ℕ) → ended_fault rules mail line ≡ Ok tt → T (at_end line) → line_text line ++ (13 ∷ 10 ∷ []) ≡ line
 text_is rules mail line f k =
     let n = line_len line in
     let last = drop_of_length-le line {i = n + 2} (leb_yes {a = length line} {b = n + 2} k) in
@@ -187,7 +185,7 @@ pub record LinesFront (rules : Rules) (Asked : List ℕ → Type 0) (n : ℕ) (e
 
 module _ (rules : Rules) {Asked : List ℕ → Type 0} {n : ℕ} {start out : List ℕ} {ts : List (List ℕ)} (k : EnvelopeLines rules Asked n start out ts) where
   -- one line more
-  line_then : (line : List ℕ) → T (at_end line) → is_fine (fault_of rules n line) ≡ true → Asked (tail (eqb n 0) (line_text line))
+  line_then : (line : List ℕ) → T (at_end line) → fault_of rules n line ≡ Ok tt → Asked (tail (eqb n 0) (line_text line))
       → EnvelopeLines rules Asked (suc n) (start ++ line) (out ++ (written_line (eqb n 0) (line_text line) ++ (13 ∷ 10 ∷ []))) (ts ++ (replacement (eqb n 0) (line_text line) ∷ []))
   line_then line t f a =
       let mail = eqb n 0 in
@@ -199,29 +197,28 @@ module _ (rules : Rules) {Asked : List ℕ → Type 0} {n : ℕ} {start out : Li
 
 -- up to the line that is refused
 refused_from : (rules : Rules) (ls : List (List ℕ)) (n m : ℕ) (fault : Fault) {start out : List ℕ} {ts : List (List ℕ)} → EnvelopeLines rules Any n start out ts → T (all at_end ls)
-    → checked_from rules n ls ≡ Refused fault m → LinesFront rules Any m (start ++ joined ls)
+    → checked_from rules n ls ≡ refused fault m → LinesFront rules Any m (start ++ joined ls)
 unfolding checked_from counted
 refused_from rules [] n m fault k t p =
     by_test (ltb n 2)
-    (λ u. let q : Refused Malformed n ≡ Refused fault m = rw (yes_true (ltb n 2) u) at p in
-    let same : n ≡ m = cc in
+    (λ u. let q : refused Malformed n ≡ refused fault m = rw (yes_true (ltb n 2) u) at p in
+    let same : n ≡ m = same_line q in
     rw same at (front_here rules k []))
     (λ u. absurd (let q = rw (no_false (ltb n 2) u) at p in let z : ◌≡◌ {A = ℕ} 0 1 = cc in omega arith))
 refused_from rules (line ∷ more) n m fault {start} k t p =
     let b = and_yes (at_end line) (all at_end more) t in
-    by_test (is_fine (fault_of rules n line))
-    (λ u. let f = yes_true (is_fine (fault_of rules n line)) u in
-    rw append_assoc at (refused_from rules more (suc n) m fault (line_then rules k line b.0 f tt) b.1 (rw f at p)))
-    (λ u. let q : Refused (fault_of rules n line) n ≡ Refused fault m = rw (no_false (is_fine (fault_of rules n line)) u) at p in
-    let same : n ≡ m = cc in
+    by_fault (fault_of rules n line)
+    (λ f. rw append_assoc at (refused_from rules more (suc n) m fault (line_then rules k line b.0 f tt) b.1 (rw f at p)))
+    (λ here f. let q : refused here n ≡ refused fault m = rw f at p in
+    let same : n ≡ m = same_line q in
     rw same at (front_here rules k (line ++ joined more)))
 
-pub refused_front : (rules : Rules) (e : List ℕ) (fault : Fault) (n : ℕ) → checked rules e ≡ Refused fault n → LinesFront rules Any n e
+pub refused_front : (rules : Rules) (e : List ℕ) (fault : Fault) (n : ℕ) → checked rules e ≡ refused fault n → LinesFront rules Any n e
 unfolding checked
 refused_front rules e fault n p = rw (lines_joined e) at (refused_from rules (lines e) 0 n fault EnvelopeLines.none (each_end e) p)
 
 -- up to the line with an ORCPT that carries non-ASCII
-line_ascii : (rules : Rules) (n : ℕ) (line : List ℕ) → is_fine (fault_of rules n line) ≡ true → orcpt_fault (eqb n 0) (line_text line) ≡ false → Ascii (tail (eqb n 0) (line_text line))
+line_ascii : (rules : Rules) (n : ℕ) (line : List ℕ) → fault_of rules n line ≡ Ok tt → orcpt_fault (eqb n 0) (line_text line) ≡ false → Ascii (tail (eqb n 0) (line_text line))
 line_ascii rules n line f o =
     let mail = eqb n 0 in
     let t = tail mail (line_text line) in
@@ -229,7 +226,7 @@ line_ascii rules n line f o =
     true_yes (all is_ascii t) (not-false (all is_ascii t) (sym (written_orcpt w) ∙ o))
 
 orcpt_from_lem : (rules : Rules) (ls : List (List ℕ)) (n m found : ℕ) {start out : List ℕ} {ts : List (List ℕ)} → EnvelopeLines rules Ascii n start out ts → T (all at_end ls)
-    → checked_from rules n ls ≡ Passed m → orcpt_from n (map line_text ls) ≡ At found → LinesFront rules Ascii found (start ++ joined ls)
+    → checked_from rules n ls ≡ Ok m → orcpt_from n (map line_text ls) ≡ Some found → LinesFront rules Ascii found (start ++ joined ls)
 unfolding orcpt_from
 orcpt_from_lem rules [] n m found k t p o = absurd (let z : ◌≡◌ {A = ℕ} 0 1 = cc in omega arith)
 orcpt_from_lem rules (line ∷ more) n m found k t p o =
@@ -237,13 +234,13 @@ orcpt_from_lem rules (line ∷ more) n m found k t p o =
     let f = passed_line rules n m line more p in
     let r = orcpt_fault (eqb n 0) (line_text line) in
     by_test r
-    (λ u. let q : At n ≡ At found = rw (yes_true r u) at o in
+    (λ u. let q : Some n ≡ Some found = rw (yes_true r u) at o in
     let same : n ≡ found = cc in
     rw same at (front_here rules k (line ++ joined more)))
     (λ u. let no = no_false r u in
     rw append_assoc at (orcpt_from_lem rules more (suc n) m found (line_then rules k line b.0 f.0 (line_ascii rules n line f.0 no)) b.1 f.1 (rw no at o)))
 
-pub orcpt_front : (rules : Rules) (e : List ℕ) (m n : ℕ) → checked rules e ≡ Passed m → orcpt_line e ≡ At n → LinesFront rules Ascii n e
+pub orcpt_front : (rules : Rules) (e : List ℕ) (m n : ℕ) → checked rules e ≡ Ok m → orcpt_line e ≡ Some n → LinesFront rules Ascii n e
 unfolding checked orcpt_line texts
 orcpt_front rules e m n p o = rw (lines_joined e) at (orcpt_from_lem rules (lines e) 0 m n EnvelopeLines.none (each_end e) p o)
 
@@ -258,7 +255,7 @@ each_any : (n : ℕ) (ls : List (List ℕ)) → EachAsked Any n ls
 each_any n [] = tt
 each_any n (line ∷ more) = (tt, each_any (suc n) more)
 
-each_ascii : (rules : Rules) (ls : List (List ℕ)) (n m : ℕ) → checked_from rules n ls ≡ Passed m → orcpt_from n (map line_text ls) ≡ Clean → EachAsked Ascii n ls
+each_ascii : (rules : Rules) (ls : List (List ℕ)) (n m : ℕ) → checked_from rules n ls ≡ Ok m → orcpt_from n (map line_text ls) ≡ None → EachAsked Ascii n ls
 unfolding orcpt_from
 each_ascii rules [] n m p o = tt
 each_ascii rules (line ∷ more) n m p o =
@@ -273,12 +270,12 @@ abbrev AllLines : Rules → (List ℕ → Type 0) → ℕ → List ℕ → Type 
 AllLines rules Asked n e = (out : List ℕ) × (ts : List (List ℕ)) × EnvelopeLines rules Asked n e out ts
 
 passed_from : (rules : Rules) {Asked : List ℕ → Type 0} (ls : List (List ℕ)) (n m : ℕ) {start out : List ℕ} {ts : List (List ℕ)} → EnvelopeLines rules Asked n start out ts → T (all at_end ls)
-    → EachAsked Asked n ls → checked_from rules n ls ≡ Passed m → (1 ≤ m) × AllLines rules Asked (suc m) (start ++ joined ls)
+    → EachAsked Asked n ls → checked_from rules n ls ≡ Ok m → (1 ≤ m) × AllLines rules Asked (suc m) (start ++ joined ls)
 unfolding checked_from counted
 passed_from rules {Asked} [] n m {start} {out} {ts} k t a p =
     by_test (ltb n 2)
     (λ u. absurd (let q = rw (yes_true (ltb n 2) u) at p in let z : ◌≡◌ {A = ℕ} 0 1 = cc in omega arith))
-    (λ u. let q : Passed (pred n) ≡ Passed m = rw (no_false (ltb n 2) u) at p in
+    (λ u. let q : Ok (pred n) ≡ Ok m = rw (no_false (ltb n 2) u) at p in
     let same : pred n ≡ m = cc in
     let two : 2 ≤ n = ltb_no {a = n} {b = 2} u in
     let size : n ≡ suc m = omega arith in
@@ -289,7 +286,7 @@ passed_from rules (line ∷ more) n m k t a p =
     let f = passed_line rules n m line more p in
     rw append_assoc at (passed_from rules more (suc n) m (line_then rules k line b.0 f.0 a.0) b.1 a.1 f.1)
 
-module _ (rules : Rules) (e : List ℕ) (m : ℕ) (p : checked rules e ≡ Passed m) where
+module _ (rules : Rules) (e : List ℕ) (m : ℕ) (p : checked rules e ≡ Ok m) where
   passed_whole : {Asked : List ℕ → Type 0} → EachAsked Asked 0 (lines e) → (1 ≤ m) × EnvelopeLines rules Asked (suc m) e (written e) (replacements e)
   unfolding checked
   passed_whole {Asked} a =
@@ -300,10 +297,10 @@ module _ (rules : Rules) (e : List ℕ) (m : ℕ) (p : checked rules e ≡ Passe
   pub envelope_passed : (1 ≤ m) × EnvelopeLines rules Any (suc m) e (written e) (replacements e)
   envelope_passed = passed_whole (each_any 0 (lines e))
 
-  pub envelope_clean : orcpt_line e ≡ Clean → EnvelopeLines rules Ascii (suc m) e (written e) (replacements e)
+  pub envelope_clean : orcpt_line e ≡ None → EnvelopeLines rules Ascii (suc m) e (written e) (replacements e)
   unfolding checked orcpt_line texts
   envelope_clean o = (passed_whole (each_ascii rules (lines e) 0 m p o)).1
 
 -- where an ALT-ADDRESS is refused the envelope goes as it came
-pub written_kept : (rules : Rules) (e : List ℕ) (m : ℕ) → T (not (allows_alternative rules)) → checked rules e ≡ Passed m → written e ≡ e
+pub written_kept : (rules : Rules) (e : List ℕ) (m : ℕ) → T (not (allows_alternative rules)) → checked rules e ≡ Ok m → written e ≡ e
 written_kept rules e m n p = (envelope_kept n (envelope_passed rules e m p).1).0

@@ -1,17 +1,16 @@
 -- What is written for an envelope that passes the check is no longer than the envelope.
-use Rattle.std.specs.Prelude.{◌≡◌, Bool, true, false, List, [], ◌∷◌, map, ℕ, ◌≤◌, length}
+use Rattle.std.specs.Prelude.{◌≡◌, Bool, true, false, List, [], ◌∷◌, map, ℕ, ◌≤◌, length, Ok}
 use Rattle.std.proofs.Common.{arith, length-append, length-take}
 use Rattle.lists.specs.Lists.{joined}
 use Rattle.line.specs.Line.{line_len}
 use Rattle.rules.specs.declared.Rules.{Rules}
 use Rattle.envelope_line.proofs.ReplacementLaws.{written_short}
-use Rattle.envelope.specs.declared.Checked.TheVariants.{Passed}
-use Rattle.envelope.specs.Envelope.{lines, line_text, ended_fault, is_fine, checked, texts, written_ended, written_of, written}
+use Rattle.envelope.specs.Envelope.{lines, line_text, ended_fault, checked, texts, written_ended, written_of, written}
 use Rattle.envelope.proofs.LinesLaws.{lines_joined}
 use Rattle.envelope.proofs.CheckLaws.{ended_inside, ended_fine}
 use Rattle.envelope.proofs.PassedLaws.{RcptsFine, LinesFine, passed_fine}
 
-ended_le : (rules : Rules) (mail : Bool) (line : List ℕ) → is_fine (ended_fault rules mail line) ≡ true → length (written_ended mail (line_text line)) ≤ length line
+ended_le : (rules : Rules) (mail : Bool) (line : List ℕ) → ended_fault rules mail line ≡ Ok tt → length (written_ended mail (line_text line)) ≤ length line
 unfolding written_ended line_text
 ended_le rules mail line f =
     rw length-append (omega (arith, written_short rules mail (line_text line) (ended_fine rules mail line f), length-take (line_len line) line, ended_inside rules mail line f))
@@ -25,6 +24,6 @@ unfolding written_of
 lines_le rules [] f = omega arith
 lines_le rules (mail ∷ rcpts) f = rw (length-append, length-append) (omega (arith, ended_le rules true mail f.0, rcpts_le rules rcpts f.1))
 
-pub written_le : (rules : Rules) (e : List ℕ) (m : ℕ) → checked rules e ≡ Passed m → length (written e) ≤ length e
+pub written_le : (rules : Rules) (e : List ℕ) (m : ℕ) → checked rules e ≡ Ok m → length (written e) ≤ length e
 unfolding written texts
 written_le rules e m p = rw (lines_joined e) at (lines_le rules (lines e) (passed_fine rules e m p))

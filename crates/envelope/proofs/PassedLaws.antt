@@ -1,33 +1,29 @@
 -- Laws of an envelope that passes the check: its lines have no fault.
-use Rattle.std.specs.Prelude.{◌≡◌, true, false, List, [], ◌∷◌, ℕ, suc, ◌+◌, ◌≤◌, ltb, length}
+use Rattle.std.specs.Prelude.{◌≡◌, true, false, List, [], ◌∷◌, ℕ, suc, ◌+◌, ◌≤◌, ltb, length, Ok}
 use Rattle.std.proofs.Common.{arith}
 use Rattle.std.proofs.Math.Dec.{eqb-suc-zero}
 use Rattle.std.proofs.Math.Facts.{ltb_no}
 use Rattle.lists.specs.ListsLaws.{by_test, yes_true, no_false}
 use Rattle.rules.specs.declared.Rules.{Rules}
-use Rattle.envelope_line.specs.declared.Fault.TheVariants.{Fine}
-use Rattle.envelope.specs.declared.Checked.TheVariants.{Passed, Refused}
-use Rattle.envelope.specs.Envelope.{lines, ended_fault, fault_of, fault_number, is_fine, counted, checked_from, checked}
+use Rattle.envelope.specs.Envelope.{lines, ended_fault, fault_of, counted, checked_from, checked, refused}
 use Rattle.envelope.specs.LineStarts.{starts_from}
-use Rattle.envelope.proofs.CheckLaws.{fine_few, fine_ended}
+use Rattle.envelope.proofs.CheckLaws.{by_fault, fine_few, fine_ended}
 
 -- a line, and the lines after it
-pub passed_line : (rules : Rules) (n m : ℕ) (line : List ℕ) (more : List (List ℕ)) → checked_from rules n (line ∷ more) ≡ Passed m
-    → (is_fine (fault_of rules n line) ≡ true) × (checked_from rules (suc n) more ≡ Passed m)
+pub passed_line : (rules : Rules) (n m : ℕ) (line : List ℕ) (more : List (List ℕ)) → checked_from rules n (line ∷ more) ≡ Ok m
+    → (fault_of rules n line ≡ Ok tt) × (checked_from rules (suc n) more ≡ Ok m)
 unfolding checked_from
 passed_line rules n m line more p =
-    by_test (is_fine (fault_of rules n line))
-    (λ t. let f = yes_true (is_fine (fault_of rules n line)) t in (f, rw f at p))
-    (λ t. absurd (let q = rw (no_false (is_fine (fault_of rules n line)) t) at p in let z : ◌≡◌ {A = ℕ} 0 1 = cc in omega arith))
+    by_fault (fault_of rules n line) (λ f. (f, rw f at p)) (λ fault f. absurd (let q : refused fault n ≡ Ok m = rw f at p in cc))
 
 -- the number of RCPT lines, after n of them
-pub passed_count : (rules : Rules) (n at m : ℕ) (rcpts : List (List ℕ)) → n ≤ 100 → checked_from rules (suc n) rcpts ≡ Passed m
+pub passed_count : (rules : Rules) (n at m : ℕ) (rcpts : List (List ℕ)) → n ≤ 100 → checked_from rules (suc n) rcpts ≡ Ok m
     → (n + length (starts_from rules (suc n) at rcpts) ≡ m) × (m ≤ 100) × (n + length rcpts ≡ m) × (1 ≤ m)
 unfolding counted checked_from starts_from
 passed_count rules n at m [] few p =
     by_test (ltb (suc n) 2)
     (λ t. absurd (let q = rw (yes_true (ltb (suc n) 2) t) at p in let z : ◌≡◌ {A = ℕ} 0 1 = cc in omega arith))
-    (λ t. let q : Passed n ≡ Passed m = rw (no_false (ltb (suc n) 2) t) at p in
+    (λ t. let q : Ok n ≡ Ok m = rw (no_false (ltb (suc n) 2) t) at p in
     let same : n ≡ m = cc in
     let some : 2 ≤ suc n = ltb_no {a = suc n} {b = 2} t in
     (omega arith, omega arith, omega arith, omega arith))
@@ -39,9 +35,9 @@ passed_count rules n at m (line ∷ more) few p =
 -- RCPT lines without fault
 abbrev pub RcptsFine : Rules → List (List ℕ) → Type 0
 RcptsFine rules [] = Unit {0}
-RcptsFine rules (line ∷ more) = (is_fine (ended_fault rules false line) ≡ true) × RcptsFine rules more
+RcptsFine rules (line ∷ more) = (ended_fault rules false line ≡ Ok tt) × RcptsFine rules more
 
-rcpts_fine : (rules : Rules) (n m : ℕ) (rcpts : List (List ℕ)) → checked_from rules (suc n) rcpts ≡ Passed m → RcptsFine rules rcpts
+rcpts_fine : (rules : Rules) (n m : ℕ) (rcpts : List (List ℕ)) → checked_from rules (suc n) rcpts ≡ Ok m → RcptsFine rules rcpts
 rcpts_fine rules n m [] p = tt
 rcpts_fine rules n m (line ∷ more) p =
     let f = passed_line rules (suc n) m line more p in
@@ -50,32 +46,12 @@ rcpts_fine rules n m (line ∷ more) p =
 -- a MAIL line and RCPT lines without fault
 abbrev pub LinesFine : Rules → List (List ℕ) → Type 0
 LinesFine rules [] = Unit {0}
-LinesFine rules (mail ∷ rcpts) = (is_fine (ended_fault rules true mail) ≡ true) × RcptsFine rules rcpts
+LinesFine rules (mail ∷ rcpts) = (ended_fault rules true mail ≡ Ok tt) × RcptsFine rules rcpts
 
-all_fine : (rules : Rules) (m : ℕ) (ls : List (List ℕ)) → checked_from rules 0 ls ≡ Passed m → LinesFine rules ls
+all_fine : (rules : Rules) (m : ℕ) (ls : List (List ℕ)) → checked_from rules 0 ls ≡ Ok m → LinesFine rules ls
 all_fine rules m [] p = tt
 all_fine rules m (mail ∷ rcpts) p = let f = passed_line rules 0 m mail rcpts p in (fine_ended rules 0 mail f.0, rcpts_fine rules 0 m rcpts f.1)
 
-pub passed_fine : (rules : Rules) (e : List ℕ) (m : ℕ) → checked rules e ≡ Passed m → LinesFine rules (lines e)
+pub passed_fine : (rules : Rules) (e : List ℕ) (m : ℕ) → checked rules e ≡ Ok m → LinesFine rules (lines e)
 unfolding checked
 passed_fine rules e m p = all_fine rules m (lines e) p
-
--- ---- a refused envelope has a line at fault
-
-fine_from : (rules : Rules) (n line : ℕ) (ls : List (List ℕ)) → checked_from rules n ls ≡ Refused Fine line → ⊥
-unfolding counted checked_from is_fine fault_number
-fine_from rules n line [] q =
-    by_test (ltb n 2) (λ t. let r = rw (yes_true (ltb n 2) t) at q in let z : ◌≡◌ {A = ℕ} 0 1 = cc in omega arith)
-    (λ t. let r = rw (no_false (ltb n 2) t) at q in let z : ◌≡◌ {A = ℕ} 0 1 = cc in omega arith)
-fine_from rules n line (l ∷ more) q =
-    by_test (is_fine (fault_of rules n l)) (λ t. fine_from rules (suc n) line more (rw (yes_true (is_fine (fault_of rules n l)) t) at q))
-    (λ t. let f = no_false (is_fine (fault_of rules n l)) t in
-    let r : Refused (fault_of rules n l) n ≡ Refused Fine line = rw f at q in
-    let same : fault_of rules n l ≡ Fine = cc in
-    let g : true ≡ false = rw same at f in
-    let z : ◌≡◌ {A = ℕ} 0 1 = cc in
-    omega arith)
-
-pub checked_not_fine : (rules : Rules) (e : List ℕ) (line : ℕ) → checked rules e ≡ Refused Fine line → ⊥
-unfolding checked
-checked_not_fine rules e line q = fine_from rules 0 line (lines e) q

@@ -1,5 +1,5 @@
 -- The texts for the header, of an envelope that passes the check: they are UTF-8, and short, and there is none where an ALT-ADDRESS is refused.
-use Rattle.std.specs.Prelude.{◌≡◌, Bool, not, ℕ, ◌≤◌}
+use Rattle.std.specs.Prelude.{◌≡◌, Bool, not, ℕ, ◌≤◌, Ok}
 use Rattle.std.proofs.Math.Path.{refl}
 use Rattle.std.proofs.Math.Bool.{true, false}
 use mathlib.Core.List.{List, [], ◌∷◌, map}
@@ -10,16 +10,14 @@ use Rattle.utf8.specs.Utf8.{utf8}
 use Rattle.utf8.specs.Utf8Laws.{utf8_ascii}
 use Rattle.rules.specs.declared.Rules.{Rules}
 use Rattle.rules.specs.Rules.{allows_alternative}
-use Rattle.envelope_line.specs.declared.Fault.TheVariants.{Fine}
 use Rattle.envelope_line.specs.EnvelopeLine.{line_fault, replacement}
 use Rattle.envelope_line.proofs.ReplacementLaws.{replacement_short, replacement_utf8, retired_none}
-use Rattle.envelope.specs.declared.Checked.TheVariants.{Passed}
 use Rattle.envelope.specs.Envelope.{lines, line_text, checked, texts, mail_of, mail_replacement, only_rcpt_of, rcpt_replacement}
 use Rattle.envelope.proofs.CheckLaws.{ended_fine}
 use Rattle.envelope.proofs.PassedLaws.{LinesFine, passed_fine}
 
 -- what holds of no text and of the replacement of each line without fault
-module _ (rules : Rules) (P : List ℕ → Type 0) (none : P []) (some : (mail : Bool) (text : List ℕ) → line_fault rules mail text ≡ Fine → P (replacement mail text)) where
+module _ (rules : Rules) (P : List ℕ → Type 0) (none : P []) (some : (mail : Bool) (text : List ℕ) → line_fault rules mail text ≡ Ok tt → P (replacement mail text)) where
   of_mail : (ls : List (List ℕ)) → LinesFine rules ls → P (mail_of (map line_text ls))
   unfolding mail_of
   of_mail [] f = none
@@ -32,7 +30,7 @@ module _ (rules : Rules) (P : List ℕ → Type 0) (none : P []) (some : (mail :
   of_rcpt (mail ∷ rcpt ∷ []) f = some false (line_text rcpt) (ended_fine rules false rcpt f.1.0)
   of_rcpt (mail ∷ rcpt ∷ next ∷ more) f = none
 
-module _ (rules : Rules) (e : List ℕ) (m : ℕ) (p : checked rules e ≡ Passed m) where
+module _ (rules : Rules) (e : List ℕ) (m : ℕ) (p : checked rules e ≡ Ok m) where
   pub mail_replacement_short : length (mail_replacement e) ≤ 2001
   unfolding mail_replacement texts
   mail_replacement_short = of_mail rules (λ text. length text ≤ 2001) (omega arith) (replacement_short rules) (lines e) (passed_fine rules e m p)

@@ -1,5 +1,5 @@
 -- Laws of what is written: by the line starts that the check stored.
-use Rattle.std.specs.Prelude.{◌≡◌, refl, Bool, true, false, List, [], ◌∷◌, ◌++◌, map, ltb, length, take, drop}
+use Rattle.std.specs.Prelude.{◌≡◌, refl, Bool, true, false, List, [], ◌∷◌, ◌++◌, map, ltb, length, take, drop, Ok}
 use Rattle.std.proofs.Common.{ap, sym, ◌∙◌, add-zero, not-suc-le-zero, le_of_suc-le-suc, length-take, length-drop, get_or-drop}
 use Prim.Native.Nat.{ℕ, zero, suc, ◌+◌, ◌-◌, ◌≤◌, ◌<◌, min}
 use native.Mathlib.Omega.{arith}
@@ -14,8 +14,7 @@ use Rattle.buffer.specs.BufferLaws.{length_overlay, overlay_front, capped_start,
 use Rattle.line.specs.Line.{line_len}
 use Rattle.rules.specs.declared.Rules.{Rules}
 use Rattle.envelope_line.specs.EnvelopeLine.{path, written_line, replacement}
-use Rattle.envelope.specs.declared.Checked.TheVariants.{Passed}
-use Rattle.envelope.specs.Envelope.{lines, line_text, fault_of, is_fine, counted, checked_from, checked, texts, written_ended, written_of, mail_of, mail_replacement, only_rcpt_of}
+use Rattle.envelope.specs.Envelope.{lines, line_text, fault_of, counted, checked_from, checked, texts, written_ended, written_of, mail_of, mail_replacement, only_rcpt_of}
 use Rattle.envelope.specs.LineStarts.{starts_from, rcpt_starts, EnvelopeChecked, entries, texts_at}
 use Rattle.envelope.proofs.LinesLaws.{text_front, fault_front, lines_end_lem, lines_at_lem, texts_at_lem}
 use Rattle.envelope.proofs.CheckLaws.{fine_end}
@@ -110,7 +109,7 @@ replaced_mail e f = rw f (go e)
 -- ---- the starts that the check stored
 
 -- the lines that start there
-starts_texts : (rules : Rules) (e : List ℕ) (n at m : ℕ) (ls : List (List ℕ)) → ls ≡ lines (drop at e) → checked_from rules n ls ≡ Passed m
+starts_texts : (rules : Rules) (e : List ℕ) (n at m : ℕ) (ls : List (List ℕ)) → ls ≡ lines (drop at e) → checked_from rules n ls ≡ Ok m
     → map (λ start. line_text (drop start e)) (starts_from rules n at ls) ≡ map line_text ls
 unfolding starts_from
 starts_texts rules e n at m [] q p = refl
@@ -122,14 +121,14 @@ starts_texts rules e n at m (line ∷ more) q p =
     let a : line ≡ take (line_len s + 2) s = cc in
     let b : more ≡ lines (drop (at + line_len s + 2) e) = cc in
     let text : line_text s ≡ line_text line = rw a (sym (text_front s)) in
-    let g : is_fine (fault_of rules n s) ≡ true = rw (← fault_front s rules n, ← a) f.0 in
+    let g : fault_of rules n s ≡ Ok tt = rw (← fault_front s rules n, ← a) f.0 in
     let to : at + line_len s + 2 ≡ at + length line = rw a (omega (arith, length-take (line_len s + 2) s, length-drop at e, fine_end rules e at (at + line_len s) n refl g)) in
     let rest = starts_texts rules e (suc n) (at + length line) m more (rw (← to) b) f.1 in
     rw (f.0, text, rest))
     (λ t. absurd (let z = q ∙ lines_end_lem e at (ltb_no {a = at} {b = length e} t) in let y : ◌≡◌ {A = ℕ} 0 1 = cc in omega arith))
 
 -- the first line and the RCPT lines; as many starts as RCPT lines, at most 100
-rcpts_texts : (rules : Rules) (e : List ℕ) (m : ℕ) (ls : List (List ℕ)) → ls ≡ lines e → checked_from rules 0 ls ≡ Passed m
+rcpts_texts : (rules : Rules) (e : List ℕ) (m : ℕ) (ls : List (List ℕ)) → ls ≡ lines e → checked_from rules 0 ls ≡ Ok m
     → (line_text e ∷ map (λ at. line_text (drop at e)) (drop 1 (starts_from rules 0 0 ls)) ≡ map line_text ls) × (length (drop 1 (starts_from rules 0 0 ls)) ≡ m) × (m ≤ 100)
 unfolding starts_from counted checked_from
 rcpts_texts rules e m [] q p = absurd (let z : ◌≡◌ {A = ℕ} 0 1 = cc in omega arith)
@@ -145,7 +144,7 @@ entries_take (suc n) [] h = absurd (not-suc-le-zero h)
 entries_take (suc n) (x ∷ array) h = ap (λ (xs : List ℕ). x ∷ xs) (entries_take n array (le_of_suc-le-suc h))
 
 -- the lines that are found by the starts that the check stored in an array of 100 are the lines of the envelope
-pub stored : {rules : Rules} {e before after : List ℕ} {m : ℕ} → EnvelopeChecked rules e before after (Passed m) → length before ≡ 100 → texts_at m after e ≡ texts e
+pub stored : {rules : Rules} {e before after : List ℕ} {m : ℕ} → EnvelopeChecked rules e before after (Ok m) → length before ≡ 100 → texts_at m after e ≡ texts e
 unfolding texts_at texts checked rcpt_starts
 stored {rules} {e} {before} {after} {m} c h =
     let starts = drop 1 (starts_from rules 0 0 (lines e)) in

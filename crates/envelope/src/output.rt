@@ -18,11 +18,8 @@ pub fn put(out: &mut [u8], envelope: &[u8], starts: &[usize; 100], count: usize)
 {
     let n = buffer::clip(count, 100);
     let mut next = add_line_at(out, 0, envelope, 0, true);
-    let mut k = 0;
-    while k < n {
-        let at = starts[k];
-        next = add_line_at(out, next, envelope, at, false);
-        k += 1;
+    for at in &starts[..n] {
+        next = add_line_at(out, next, envelope, *at, false);
     }
     next
 }

@@ -3,31 +3,22 @@
 // `stdin`, most with no column for the setting, which then is 0.
 #![tactic(auto)]
 
-use envelope::{Checked, Orcpt};
 use envelope_line::Fault;
 use rules::Rules;
 use std::io;
 
-fn say(rt: &impl Print, words: &[u8]) -> io::Result<()> {
-    rt.write_all(words)
-}
-
-fn number(rt: &impl Print, n: usize) -> io::Result<()> {
-    print!(rt; "{n}")
-}
-
+// Kept: two lines; a public function that prints would have to say what it prints.
 fn verdict(rt: &impl Print, ok: bool) -> io::Result<()> {
     if ok {
-        say(rt, b"the same")
+        print!(rt; "the same")
     } else {
-        say(rt, b"OTHER")
+        print!(rt; "OTHER")
     }
 }
 
 // The scope paper's number of a fault.
 fn fault_number(fault: Fault) -> usize {
     match fault {
-        Fault::Fine => 0,
         Fault::Malformed => 2,
         Fault::NoAlternative => 3,
         Fault::BadAlternative => 4,
@@ -37,18 +28,15 @@ fn fault_number(fault: Fault) -> usize {
 
 // A refusal: its number and its line.
 fn refused(rt: &impl Print, no: usize, line: usize) -> io::Result<()> {
-    number(rt, no)?;
-    say(rt, b" at line ")?;
-    number(rt, line)?;
-    say(rt, b"\r\n")
+    print!(rt; "{no} at line {line}\r\n")
 }
 
 // Whether an ORCPT carries non-ASCII, which is refusal 6.
 fn orcpt(rt: &impl Print, envelope: &[u8]) -> io::Result<()> {
-    say(rt, b"ORCPT: ")?;
+    print!(rt; "ORCPT: ")?;
     match envelope::orcpt_line(envelope) {
-        Orcpt::Clean => say(rt, b"clean\r\n"),
-        Orcpt::At(line) => refused(rt, 6, line),
+        None => print!(rt; "clean\r\n"),
+        Some(line) => refused(rt, 6, line),
     }
 }
 
@@ -75,12 +63,10 @@ fn fits(envelope: &[u8], starts: &[usize; 100], count: usize, whole: &[u8], size
 
 // Whether every shorter buffer is filled with the front of the whole output.
 fn all_shorter(envelope: &[u8], starts: &[usize; 100], count: usize, whole: &[u8]) -> bool {
-    let mut size = 0;
-    while size < whole.len() {
+    for size in 0..whole.len() {
         if !fits(envelope, starts, count, whole, size) {
             return false;
         }
-        size += 1;
     }
     true
 }
@@ -93,13 +79,12 @@ fn output(
     count: usize,
     whole: &[u8],
 ) -> io::Result<()> {
-    say(rt, whole)?;
-    number(rt, whole.len())?;
-    say(rt, b" bytes, exact buffer ")?;
+    rt.write_all(whole)?;
+    print!(rt; "{} bytes, exact buffer ", whole.len())?;
     verdict(rt, fits(envelope, starts, count, whole, whole.len()))?;
-    say(rt, b", shorter buffers ")?;
+    print!(rt; ", shorter buffers ")?;
     verdict(rt, all_shorter(envelope, starts, count, whole))?;
-    say(rt, b"\r\n")
+    print!(rt; "\r\n")
 }
 
 // The envelope as it is written.
@@ -116,14 +101,12 @@ fn written(
 
 // A text of n bytes at the front of a buffer.
 fn text(rt: &impl Print, label: &[u8], out: &[u8], n: usize) -> io::Result<()> {
-    say(rt, label)?;
+    rt.write_all(label)?;
     if n == 0 {
-        return say(rt, b"none\r\n");
+        return print!(rt; "none\r\n");
     }
-    say(rt, line::part(out, 0, n))?;
-    say(rt, b", ")?;
-    number(rt, n)?;
-    say(rt, b" bytes\r\n")
+    rt.write_all(line::part(out, 0, n))?;
+    print!(rt; ", {n} bytes\r\n")
 }
 
 // The texts `<old <new>>` for the header.
@@ -142,15 +125,13 @@ fn replacements(
 
 // A case.
 fn show(rt: &impl Print, label: &[u8], rules: Rules, envelope: &[u8]) -> io::Result<()> {
-    say(rt, label)?;
-    say(rt, b": ")?;
+    rt.write_all(label)?;
+    print!(rt; ": ")?;
     let mut starts = [0usize; 100];
     match envelope::check(rules, envelope, &mut starts) {
-        Checked::Refused(fault, line) => refused(rt, fault_number(fault), line),
-        Checked::Passed(count) => {
-            say(rt, b"0, RCPT lines ")?;
-            number(rt, count)?;
-            say(rt, b"\r\n")?;
+        Err(at) => refused(rt, fault_number(at.fault), at.line),
+        Ok(count) => {
+            print!(rt; "0, RCPT lines {count}\r\n")?;
             orcpt(rt, envelope)?;
             written(rt, envelope, &starts, count)?;
             replacements(rt, envelope, &starts, count)
@@ -158,7 +139,7 @@ fn show(rt: &impl Print, label: &[u8], rules: Rules, envelope: &[u8]) -> io::Res
     }
 }
 
-// A line of the input.
+// A line of the input. Kept: each program has its own columns and calls its own `show`.
 fn show_line(rt: &impl Print, line: &[u8]) -> io::Result<()> {
     if !case_line::is_case(line) {
         return Ok(());
@@ -170,17 +151,11 @@ fn show_line(rt: &impl Print, line: &[u8]) -> io::Result<()> {
     show(rt, case_line::column(line, 0), rules, &envelope[..n])
 }
 
-fn show_lines(rt: &impl Print, cases: &[u8]) -> io::Result<()> {
-    let mut at = 0;
-    while at < cases.len() {
-        let end = case_line::find(cases, at, b'\n');
-        show_line(rt, line::part(cases, at, end))?;
-        at = buffer::place_after(end, 1);
-    }
-    Ok(())
-}
-
+// Kept: one loop for all programs would take a closure, and a public function may not require that it can be called.
 fn main(rt: HostRuntime) -> io::Result<()> {
     let input = program_input::read(rt.alloc(), rt.reader(), 65536)?;
-    show_lines(&rt, &input)
+    for line in input.split(|b| *b == b'\n') {
+        show_line(&rt, line)?;
+    }
+    Ok(())
 }

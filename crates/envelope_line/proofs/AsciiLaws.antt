@@ -1,6 +1,6 @@
 -- What is written for a line without fault, in which no ORCPT carries non-ASCII, is ASCII.
 use Rattle.std.proofs.Math.Path.{◌≡◌, refl}
-use Rattle.std.specs.Prelude.{Bool, true, cond, ◌&&◌, eqb, leb, ltb, length, take, drop, get_or}
+use Rattle.std.specs.Prelude.{Bool, true, ◌&&◌, eqb, leb, ltb, length, take, drop, get_or, Ok}
 use Rattle.std.proofs.Math.Bool.{false}
 use mathlib.Core.List.{List, [], ◌∷◌, ◌++◌}
 use Prim.Native.Nat.{ℕ, suc, ◌+◌, ◌≤◌, ◌<◌}
@@ -17,7 +17,6 @@ use Rattle.letter_case.specs.LetterCase.{bytes, lower, same_any_case}
 use Rattle.rules.specs.declared.Rules.{Rules}
 use Rattle.address.specs.Address.{is_address, is_ascii_address}
 use Rattle.xtext.specs.Xtext.{decoded, is_xtext, is_alt_address}
-use Rattle.envelope_line.specs.declared.Fault.TheVariants.{Fine}
 use Rattle.envelope_line.specs.EnvelopeLine.{verb, verb_len, has_verb, path_len, path, tail, alt_fault, line_fault, orcpt_fault, new_path, without_alt, written_line}
 use Rattle.parameter.specs.Parameter.{params, value, alts, alt, alt_place, orcpt_clean}
 use Rattle.parameter.specs.AsciiLaws.{tail_ascii}
@@ -49,7 +48,7 @@ same_ascii (x ∷ xs) (y ∷ ys) t h =
 -- ---- the new path
 
 module _ (rules : Rules) (ps : List (List ℕ)) where
-  pub new_ascii : alt_fault rules false (alts ps) ≡ Fine → T (all is_ascii (decoded (value (alt ps))))
+  pub new_ascii : alt_fault rules false (alts ps) ≡ Ok tt → T (all is_ascii (decoded (value (alt ps))))
   unfolding alt_fault alt is_alt_address is_ascii_address
   new_ascii f = go (alts ps) refl
     where
@@ -72,7 +71,7 @@ unfolding verb bytes
 verb_ascii true = tt
 verb_ascii false = tt
 
-module _ (rules : Rules) (mail : Bool) (line : List ℕ) (f : line_fault rules mail line ≡ Fine) where
+module _ (rules : Rules) (mail : Bool) (line : List ℕ) (f : line_fault rules mail line ≡ Ok tt) where
   pub front_ascii : T (all is_ascii (take (verb_len mail) line))
   unfolding has_verb
   front_ascii = same_ascii (verb mail) (take (verb_len mail) line) (formed rules mail line f).has_verb_lem (verb_ascii mail)

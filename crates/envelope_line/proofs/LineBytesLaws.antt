@@ -76,7 +76,7 @@ tail_no_cr (Tail.with_alt {before} {v} {after} k o a x q) =
     all_append not_cr before (32 ∷ (k ++ (61 ∷ (v ++ after)))) (others_no_cr o) (valued_no_cr (alt_keyword k a) v after x (others_no_cr q))
 
 pub line_no_cr : {mail : Bool} {p : List ℕ} {v : Option (List ℕ)} {line : List ℕ} → Line mail p v line → T (all not_cr line)
-line_no_cr {mail} l = rw l.is (parts_no_cr mail l.front l.is_front l.is_path l.tail (tail_no_cr l.is_tail_lem))
+line_no_cr {mail} l = rw l.is (parts_no_cr mail l.front l.is_front l.is_path l.tail (tail_no_cr l.is_tail))
 
 pub written_no_cr : {rules : Rules} {mail : Bool} {line t out text : List ℕ} → Written rules mail line t out text → T (all not_cr line)
 written_no_cr (Written.copied l h) = line_no_cr l
@@ -112,7 +112,7 @@ pub orcpt_exact : {mail : Bool} {p : List ℕ} {v : Option (List ℕ)} {line : L
 unfolding orcpt_fault
 orcpt_exact {mail} {p} {v} {line} l =
     let t = l.tail in
-    let r = tail_reads l.is_tail_lem in
+    let r = tail_reads l.is_tail in
     let same : tail mail line ≡ t = line_tail l in
     rw same
     (by_test (all is_ascii t)

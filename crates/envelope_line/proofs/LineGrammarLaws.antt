@@ -1,5 +1,5 @@
 -- The fault of a line, and what is written for it, are those of the grammar.
-use Rattle.std.specs.Prelude.{◌≡◌, refl, Bool, true, false, not, cond, ◌&&◌, List, [], ◌∷◌, ◌++◌, ℕ, suc, ◌+◌, ◌≤◌, ◌<◌, get_or}
+use Rattle.std.specs.Prelude.{◌≡◌, refl, Bool, true, false, not, cond, ◌&&◌, List, [], ◌∷◌, ◌++◌, ℕ, suc, ◌+◌, ◌≤◌, ◌<◌, get_or, Result, Ok, Err, ⊤}
 use Rattle.std.proofs.Math.Path.{ap}
 use Rattle.std.proofs.Common.{sym, ◌∙◌, arith, eqb→eq, length-append, take-take, take_at, drop_at, get_or-drop, ne_eqb, eq-eqb}
 use Rattle.std.proofs.Math.Bool.{and-false}
@@ -16,8 +16,6 @@ use Rattle.utf8.specs.Utf8.{utf8}
 use Rattle.letter_case.specs.LetterCase.{bytes, lower, same_any_case}
 use Rattle.rules.specs.declared.Rules.{Rules}
 use Rattle.rules.specs.Rules.{allows_alternative}
-use Rattle.address.specs.declared.Scan.{Scan}
-use Rattle.address.specs.declared.Scan.TheVariants.{To, Stop}
 use Rattle.address.specs.Address.{is_atext, is_atom_byte, scan_then, dot_atom_from, dot_atom_scan, local_scan, address_scan}
 use Rattle.address.specs.Grammar.{DotAtom, LocalPart}
 use Rattle.address.specs.AddressLaws.{byte_within}
@@ -27,7 +25,7 @@ use Rattle.xtext.specs.Grammar.{AltAddress}
 use Rattle.xtext.proofs.GrammarLaws.{xtext_read, read_alt_address, alt_address_read}
 use Rattle.parameter.specs.Parameter.{params, spaced, is_param, alts, alts_ok}
 use Rattle.envelope_line.specs.declared.Fault.{Fault}
-use Rattle.envelope_line.specs.declared.Fault.TheVariants.{Fine, Malformed, NoAlternative, BadAlternative, RetiredAlternative}
+use Rattle.envelope_line.specs.declared.Fault.TheVariants.{Malformed, NoAlternative, BadAlternative, RetiredAlternative}
 use Rattle.envelope_line.specs.EnvelopeLine.{verb, verb_len, has_verb, path_scan, scan_end, is_to, path_len, path, has_path, tail, well_formed, value_fault, alt_fault, line_fault, new_path, written_line, replacement}
 use Rattle.envelope_line.proofs.FaultLaws.{Formed, formed_of, closed_of}
 use Rattle.envelope_line.specs.LineGrammar.{Path, Tail, Line, others_of, value_byte, LineRefused, Written}
@@ -95,7 +93,7 @@ letter_atom y =
 
 -- ---- path
 
-no_to : {n m : ℕ} → Stop n ≡ To m → ⊥
+no_to : {n m : ℕ} → Err n ≡ Ok m → ⊥
 no_to e = let z : ◌≡◌ {A = ℕ} 0 1 = cc in omega arith
 
 mark_closed : (rest : List ℕ) → Closed (62 ∷ rest)
@@ -134,32 +132,32 @@ module _ (s : List ℕ) (t : T (same_any_case (bytes "Postmaster>") (take 11 s))
   }))
 
   -- is no address
-  word_stops : address_scan s ≡ Stop (length word.front)
+  word_stops : address_scan s ≡ Err (length word.front)
   word_stops = rw word_then at (local_alone word_local 62 (drop 11 s) (mark_closed (drop 11 s)) (λ e. omega (arith, e)))
 
 -- a path that is read is one of the grammar
-read_path : (mail : Bool) (s : List ℕ) (n : ℕ) → path_scan mail s ≡ To n → Path mail (take n s)
+read_path : (mail : Bool) (s : List ℕ) (n : ℕ) → path_scan mail s ≡ Ok n → Path mail (take n s)
 unfolding path_scan
 read_path true s n e =
-    cond_has (λ r. r ≡ To n → Path true (take n s)) (eqb (get_or s 0 0) 62) (To 0) (address_scan s)
+    cond_has (λ r. r ≡ Ok n → Path true (take n s)) (eqb (get_or s 0 0) 62) (Ok 0) (address_scan s)
     (λ t k. let z : n ≡ 0 = cc in rw z Path.empty)
     (λ t k. Path.address (address_sound s n k))
     e
 read_path false s n e =
-    cond_has (λ r. r ≡ To n → Path false (take n s)) (same_any_case (bytes "Postmaster>") (take 11 s)) (To 10) (address_scan s)
+    cond_has (λ r. r ≡ Ok n → Path false (take n s)) (same_any_case (bytes "Postmaster>") (take 11 s)) (Ok 10) (address_scan s)
     (λ t k. let z : n ≡ 10 = cc in rw (z, word_taken s t) (Path.postmaster (word s t).same))
     (λ t k. Path.address (address_sound s n k))
     e
 
-mark_stops : (rest : List ℕ) → address_scan (62 ∷ rest) ≡ Stop 0
+mark_stops : (rest : List ℕ) → address_scan (62 ∷ rest) ≡ Err 0
 unfolding address_scan local_scan dot_atom_scan dot_atom_from is_atom_byte is_atext scan_then
 mark_stops rest = refl
 
-address_unmarked : (s : List ℕ) (n : ℕ) → address_scan s ≡ To n → eqb (get_or s 0 0) 62 ≡ false
+address_unmarked : (s : List ℕ) (n : ℕ) → address_scan s ≡ Ok n → eqb (get_or s 0 0) 62 ≡ false
 address_unmarked [] n e = refl
 address_unmarked (b ∷ s) n e = ne_eqb b 62 (λ k. no_to (sym (mark_stops s) ∙ rw k at e))
 
-address_read : (mail : Bool) (s : List ℕ) (n : ℕ) → address_scan s ≡ To n → path_scan mail s ≡ To n
+address_read : (mail : Bool) (s : List ℕ) (n : ℕ) → address_scan s ≡ Ok n → path_scan mail s ≡ Ok n
 unfolding path_scan
 address_read true s n e = rw (address_unmarked s n e) e
 address_read false s n e =
@@ -168,7 +166,7 @@ address_read false s n e =
     (λ t. rw (no_false (same_any_case (bytes "Postmaster>") (take 11 s)) t) e)
 
 -- a path of the grammar is read
-path_read : {mail : Bool} {p : List ℕ} → Path mail p → (rest : List ℕ) → path_scan mail (p ++ (62 ∷ rest)) ≡ To (length p)
+path_read : {mail : Bool} {p : List ℕ} → Path mail p → (rest : List ℕ) → path_scan mail (p ++ (62 ∷ rest)) ≡ Ok (length p)
 unfolding path_scan bytes
 path_read (Path.address {mail} {path = p} a) rest = address_read mail (p ++ (62 ∷ rest)) (length p) (address_complete a (62 ∷ rest) (mark_closed rest))
 path_read Path.empty rest = refl
@@ -179,9 +177,9 @@ path_read (Path.postmaster {path = p} t) rest =
 
 -- ---- a line, read
 
-to_end : (r : Scan) → T (is_to r) → r ≡ To (scan_end r)
-to_end (To n) t = refl
-to_end (Stop n) t = absurd t
+to_end : (r : Result ℕ ℕ) → T (is_to r) → r ≡ Ok (scan_end r)
+to_end (Ok n) t = refl
+to_end (Err n) t = absurd t
 
 module _ (mail : Bool) (line : List ℕ) where
   -- the value of ALT-ADDRESS, if any
@@ -208,10 +206,10 @@ module _ (mail : Bool) (line : List ℕ) where
         tail = tail mail line;
         is = cut_line k;
         short = k.short;
-        is_utf8_lem = k.is_utf8_lem;
+        is_utf8 = k.is_utf8;
         is_front = k.has_verb_lem;
         is_path = read_path mail s (scan_end (path_scan mail s)) (to_end (path_scan mail s) to);
-        is_tail_lem = read_tail (tail mail line) k.is_spaced_lem k.are_params_lem k.alts_ok_lem;
+        is_tail = read_tail (tail mail line) k.is_spaced_lem k.are_params_lem k.alts_ok_lem;
       }
 
 -- ---- a line, made: how it is read
@@ -234,7 +232,7 @@ module _ (mail : Bool) (front : List ℕ) {p : List ℕ} (f : T (same_any_case (
   made_rest : drop (verb_len mail) made ≡ p ++ (62 ∷ t)
   made_rest = drop_at front (p ++ (62 ∷ t)) (verb_len mail) front_size
 
-  made_scan : path_scan mail (drop (verb_len mail) made) ≡ To (length p)
+  made_scan : path_scan mail (drop (verb_len mail) made) ≡ Ok (length p)
   made_scan = rw made_rest (path_read q t)
 
   made_length : path_len mail made ≡ length p
@@ -276,8 +274,8 @@ module _ (mail : Bool) (front : List ℕ) {p : List ℕ} (f : T (same_any_case (
       (yes_and a b (yes_leb {a = length made} {b = 998} l) u) front_same) marked) r.is_spaced_lem) r.each) r.alts_ok_lem)
 
 -- the fault by the path and the value of ALT-ADDRESS
-abbrev fault_by : Rules → Bool → Option (List ℕ) → Fault
-fault_by rules ascii none = cond ascii Fine NoAlternative
+abbrev fault_by : Rules → Bool → Option (List ℕ) → Result ⊤ Fault
+fault_by rules ascii none = cond ascii (Ok tt) (Err NoAlternative)
 fault_by rules ascii (some v) = value_fault rules ascii v
 
 alt_fault_by : (rules : Rules) (ascii : Bool) (found : List (List ℕ)) → alt_fault rules ascii found ≡ fault_by rules ascii (alt_value found)
@@ -294,9 +292,9 @@ module _ {mail : Bool} {p : List ℕ} {v : Option (List ℕ)} {line : List ℕ} 
   pub line_read : LineRead mail p v line
   line_read =
       rw l.is (record {
-        well = made_formed mail l.front l.is_front l.is_path l.tail l.is_tail_lem (rw l.is at l.short) (rw l.is at l.is_utf8_lem);
+        well = made_formed mail l.front l.is_front l.is_path l.tail l.is_tail (rw l.is at l.short) (rw l.is at l.is_utf8);
         path_is = made_path mail l.front l.is_front l.is_path l.tail;
-        value_is = rw (made_tail mail l.front l.is_front l.is_path l.tail) (tail_reads l.is_tail_lem).alternative;
+        value_is = rw (made_tail mail l.front l.is_front l.is_path l.tail) (tail_reads l.is_tail).alternative;
       })
 
   line_fault_lem : (rules : Rules) → line_fault rules mail line ≡ fault_by rules (all is_ascii p) v
@@ -340,11 +338,11 @@ copied_line {p = p} l h = rw ((line_read l).path_is, yes_true (all is_ascii p) h
 module _ {mail : Bool} {p v line new : List ℕ} (l : Line mail p (some v) line) (h : T (not (all is_ascii p))) (a : AltAddress v new) where
   new_path_lem : new_path mail line ≡ new
   unfolding new_path
-  new_path_lem = rw (line_tail l, tail_value l.is_tail_lem) (xtext_read a.0).1
+  new_path_lem = rw (line_tail l, tail_value l.is_tail) (xtext_read a.0).1
 
-  replaced_line : written_line mail line ≡ l.front ++ (new ++ (62 ∷ others_of l.is_tail_lem))
+  replaced_line : written_line mail line ≡ l.front ++ (new ++ (62 ∷ others_of l.is_tail))
   unfolding written_line
-  replaced_line = rw ((line_read l).path_is, no_false (all is_ascii p) h, line_front l, new_path_lem, line_tail l, tail_others l.is_tail_lem)
+  replaced_line = rw ((line_read l).path_is, no_false (all is_ascii p) h, line_front l, new_path_lem, line_tail l, tail_others l.is_tail)
 
   replaced_text : replacement mail line ≡ 60 ∷ (p ++ (32 ∷ 60 ∷ (new ++ (62 ∷ 62 ∷ []))))
   unfolding replacement
@@ -356,25 +354,25 @@ module _ {mail : Bool} {p v line new : List ℕ} (l : Line mail p (some v) line)
 -- ---- every line is malformed, refused or written, as its fault says
 
 -- what is said of a line by its fault
-abbrev pub LineAnswer : Rules → Bool → List ℕ → Fault → Type 0
-LineAnswer rules mail line Fine = WrittenFor rules mail line
-LineAnswer rules mail line Malformed = WellFormed mail line → ⊥
-LineAnswer rules mail line NoAlternative = (byte : ℕ) × LineRefused rules mail line 3 byte
-LineAnswer rules mail line BadAlternative = (byte : ℕ) × LineRefused rules mail line 4 byte
-LineAnswer rules mail line RetiredAlternative = (byte : ℕ) × LineRefused rules mail line 10 byte
+abbrev pub LineAnswer : Rules → Bool → List ℕ → Result ⊤ Fault → Type 0
+LineAnswer rules mail line (Ok done) = WrittenFor rules mail line
+LineAnswer rules mail line (Err Malformed) = WellFormed mail line → ⊥
+LineAnswer rules mail line (Err NoAlternative) = (byte : ℕ) × LineRefused rules mail line 3 byte
+LineAnswer rules mail line (Err BadAlternative) = (byte : ℕ) × LineRefused rules mail line 4 byte
+LineAnswer rules mail line (Err RetiredAlternative) = (byte : ℕ) × LineRefused rules mail line 10 byte
 
 -- a value in a line is no longer than the line may be
 value_short : {mail : Bool} {p v line : List ℕ} → Line mail p (some v) line → length v ≤ 998
 value_short {mail} {p} {v} {line} l =
     let size = simp length-append at (ap length l.is) in
-    omega (arith, value_le l.is_tail_lem, l.short, size)
+    omega (arith, value_le l.is_tail, l.short, size)
 
 -- with an ALT-ADDRESS that the rules allow
 alt_answer_by : (rules : Rules) {mail : Bool} {p v line : List ℕ} (ascii : Bool) → ascii ≡ all is_ascii p → T (allows_alternative rules) → Line mail p (some v) line
-    → LineAnswer rules mail line (cond (not ascii && is_alt_address v) Fine BadAlternative)
+    → LineAnswer rules mail line (cond (not ascii && is_alt_address v) (Ok tt) (Err BadAlternative))
 alt_answer_by rules true e a l = (value_byte l, LineRefused.beside_ascii l a (rw (← e) tt))
 alt_answer_by rules {mail} {p} {v} {line} false e a l =
-    cond_has (λ f. LineAnswer rules mail line f) (is_alt_address v) Fine BadAlternative
+    cond_has (λ f. LineAnswer rules mail line f) (is_alt_address v) (Ok tt) (Err BadAlternative)
     (λ t. replaced_for l (rw (← e) tt) (read_alt_address v t) a)
     (λ t. (value_byte l, LineRefused.no_address l a (λ new k. T_not (is_alt_address v) (alt_address_read (value_short l) k).0 t)))
 
@@ -384,11 +382,11 @@ unfolding value_fault
 answer_by rules {v = none} true e l = copied_line l (rw (← e) tt)
 answer_by rules {v = none} false e l = (length l.front, LineRefused.no_alternative l (rw (← e) tt))
 answer_by rules {mail} {p} {v = some w} {line} ascii e l =
-    cond_has (λ f. LineAnswer rules mail line f) (allows_alternative rules) (cond (not ascii && is_alt_address w) Fine BadAlternative) RetiredAlternative
+    cond_has (λ f. LineAnswer rules mail line f) (allows_alternative rules) (cond (not ascii && is_alt_address w) (Ok tt) (Err BadAlternative)) (Err RetiredAlternative)
     (λ t. alt_answer_by rules ascii e t l)
     (λ t. (value_byte l, LineRefused.retired l t))
 
-pub unformed : (rules : Rules) (mail : Bool) (line : List ℕ) → T (not (well_formed mail line)) → line_fault rules mail line ≡ Malformed
+pub unformed : (rules : Rules) (mail : Bool) (line : List ℕ) → T (not (well_formed mail line)) → line_fault rules mail line ≡ Err Malformed
 unfolding line_fault
 unformed rules mail line t = rw (no_false (well_formed mail line) t)
 
@@ -398,14 +396,14 @@ line_answer rules mail line =
     (λ t. let l = read_line mail line t in rw (line_fault_lem l rules) (answer_by rules (all is_ascii (path mail line)) refl l))
     (λ t. rw (unformed rules mail line t) (λ w. T_not (well_formed mail line) (formed_read w) t))
 
-pub line_written : (rules : Rules) (mail : Bool) (line : List ℕ) → line_fault rules mail line ≡ Fine → Written rules mail line (tail mail line) (written_line mail line) (replacement mail line)
+pub line_written : (rules : Rules) (mail : Bool) (line : List ℕ) → line_fault rules mail line ≡ Ok tt → Written rules mail line (tail mail line) (written_line mail line) (replacement mail line)
 line_written rules mail line f = rw f at (line_answer rules mail line)
 
 -- ---- and as nothing else says
 
 -- a line that is written has no fault, and nothing else is written for it
 pub record WrittenSo (rules : Rules) (mail : Bool) (line t out text : List ℕ) : Type 0 where
-  pub fine : line_fault rules mail line ≡ Fine
+  pub fine : line_fault rules mail line ≡ Ok tt
   pub tail_is : t ≡ tail mail line
   pub out_is : out ≡ written_line mail line
   pub text_is : text ≡ replacement mail line
@@ -430,7 +428,7 @@ refused_fault (LineRefused.beside_ascii l a h) = BadAlternative
 refused_fault (LineRefused.no_address l a h) = BadAlternative
 refused_fault (LineRefused.retired l n) = RetiredAlternative
 
-pub refused_exact : {rules : Rules} {mail : Bool} {line : List ℕ} {number byte : ℕ} (r : LineRefused rules mail line number byte) → line_fault rules mail line ≡ refused_fault r
+pub refused_exact : {rules : Rules} {mail : Bool} {line : List ℕ} {number byte : ℕ} (r : LineRefused rules mail line number byte) → line_fault rules mail line ≡ Err (refused_fault r)
 unfolding refused_fault value_fault
 refused_exact {rules} (LineRefused.no_alternative {path = p} l h) = line_fault_lem l rules ∙ rw (no_false (all is_ascii p) h)
 refused_exact {rules} (LineRefused.beside_ascii {path = p} l a h) = line_fault_lem l rules ∙ rw (yes_true (allows_alternative rules) a, yes_true (all is_ascii p) h)

@@ -1,5 +1,5 @@
 -- Laws of the verb and the path, as code finds them.
-use Rattle.std.specs.Prelude.{◌≡◌, Bool, true, false, List, ℕ, ◌+◌, ◌≤◌, min, length, take, drop, get_or}
+use Rattle.std.specs.Prelude.{◌≡◌, Bool, true, false, List, ℕ, ◌+◌, ◌≤◌, min, length, take, drop, get_or, Result, Ok, Err}
 use Rattle.std.proofs.Math.Path.{refl, ap}
 use Rattle.std.proofs.Common.{◌∙◌}
 use Rattle.std.proofs.Math.Seq.{get_or-drop}
@@ -7,23 +7,21 @@ use borrow.Author.Tests.{eq-eqb, ne_eqb}
 use Rattle.letter_case.specs.LetterCase.{bytes, same_any_case}
 use Rattle.buffer.specs.Buffer.{greatest}
 use Rattle.line.specs.LineLaws.{drop_capped}
-use Rattle.address.specs.declared.Scan.{Scan}
-use Rattle.address.specs.declared.Scan.TheVariants.{To, Stop}
 use Rattle.address.specs.Address.{later, address_scan}
 use Rattle.envelope_line.specs.EnvelopeLine.{verb, verb_len, has_verb, path_scan, scan_end, is_to, path_len, tail}
 
 -- ---- a scan moved by n bytes
 
 module _ (n : ℕ) where
-  pub later_end : (x : Scan) → scan_end (later n x) ≡ n + scan_end x
+  pub later_end : (x : Result ℕ ℕ) → scan_end (later n x) ≡ n + scan_end x
   unfolding later
-  later_end (To k) = refl
-  later_end (Stop k) = refl
+  later_end (Ok k) = refl
+  later_end (Err k) = refl
 
-  pub later_to : (x : Scan) → is_to (later n x) ≡ is_to x
+  pub later_to : (x : Result ℕ ℕ) → is_to (later n x) ≡ is_to x
   unfolding later
-  later_to (To k) = refl
-  later_to (Stop k) = refl
+  later_to (Ok k) = refl
+  later_to (Err k) = refl
 
 -- ---- verb and path
 
@@ -37,29 +35,29 @@ module _ (mail : Bool) (line : List ℕ) where
   has_verb_rcpt m f e = rw (m, ← f) e
 
   -- the path by place in the line
-  unfoldable pub path_at : Scan
+  unfoldable pub path_at : Result ℕ ℕ
   path_at = later (verb_len mail) (path_scan mail (drop (verb_len mail) line))
 
   module _ (m : mail ≡ true) where
-    pub path_empty : get_or line 11 0 ≡ 62 → To 11 ≡ path_at
+    pub path_empty : get_or line 11 0 ≡ 62 → Ok 11 ≡ path_at
     unfolding path_at path_scan later
     path_empty e = rw (m, get_or-drop 11 line 0 0, eq-eqb (get_or line 11 0) 62 e)
 
-    pub path_mail : {r : Scan} → (get_or line 11 0 ≡ 62 → ⊥) → r ≡ later 11 (address_scan (drop 11 line)) → r ≡ path_at
+    pub path_mail : {r : Result ℕ ℕ} → (get_or line 11 0 ≡ 62 → ⊥) → r ≡ later 11 (address_scan (drop 11 line)) → r ≡ path_at
     unfolding path_at path_scan
     path_mail n e = rw (m, get_or-drop 11 line 0 0, ne_eqb (get_or line 11 0) 62 n) e
 
   module _ (m : mail ≡ false) {word : List ℕ} (w : word ≡ take 11 (drop 9 line)) where
-    pub path_postmaster : same_any_case (bytes "Postmaster>") word ≡ true → To 19 ≡ path_at
+    pub path_postmaster : same_any_case (bytes "Postmaster>") word ≡ true → Ok 19 ≡ path_at
     unfolding path_at path_scan later
     path_postmaster e = rw (m, ← w, e)
 
-    pub path_rcpt : {r : Scan} → same_any_case (bytes "Postmaster>") word ≡ false → r ≡ later 9 (address_scan (drop 9 line)) → r ≡ path_at
+    pub path_rcpt : {r : Result ℕ ℕ} → same_any_case (bytes "Postmaster>") word ≡ false → r ≡ later 9 (address_scan (drop 9 line)) → r ≡ path_at
     unfolding path_at path_scan
     path_rcpt n e = rw (m, ← w, n) e
 
   -- where it ends, or stops
-  pub path_end_lem : {x : Scan} → x ≡ path_at → scan_end x ≡ verb_len mail + path_len mail line
+  pub path_end_lem : {x : Result ℕ ℕ} → x ≡ path_at → scan_end x ≡ verb_len mail + path_len mail line
   unfolding path_at path_len
   path_end_lem e = ap scan_end e ∙ later_end (verb_len mail) (path_scan mail (drop (verb_len mail) line))
 

@@ -1,6 +1,6 @@
 -- Of a line without fault: how long it is, that what is written for it is no longer, and that the text for the header where its path is replaced is UTF-8.
 use Rattle.std.proofs.Math.Path.{◌≡◌, refl}
-use Rattle.std.specs.Prelude.{Bool, false, not, take}
+use Rattle.std.specs.Prelude.{Bool, false, not, take, Ok}
 use mathlib.Core.List.{List, [], ◌∷◌, ◌++◌}
 use Prim.Native.Nat.{ℕ, suc, ◌+◌, ◌≤◌, ◌<◌}
 use native.Mathlib.Omega.{arith}
@@ -17,7 +17,6 @@ use Rattle.rules.specs.declared.Rules.{Rules}
 use Rattle.rules.specs.Rules.{allows_alternative}
 use Rattle.address.specs.AddressLaws.{byte_within}
 use Rattle.xtext.proofs.XtextLaws.{decoded_le}
-use Rattle.envelope_line.specs.declared.Fault.TheVariants.{Fine}
 use Rattle.envelope_line.specs.EnvelopeLine.{verb_len, path_len, path, tail, alt_fault, line_fault, new_path, without_alt, written_line, replacement}
 use Rattle.parameter.specs.Parameter.{params, keyword_len, value, alts, alt, alt_place}
 use Rattle.envelope_line.proofs.FaultLaws.{formed, closed, alt_fine, retired_ascii}
@@ -25,7 +24,7 @@ use Rattle.envelope_line.proofs.AsciiLaws.{front_ascii, new_ascii}
 use Rattle.envelope_line.proofs.LengthLaws.{replacement_le}
 use Rattle.parameter.specs.LengthLaws.{alt_inside}
 
-module _ (rules : Rules) (mail : Bool) (line : List ℕ) (f : line_fault rules mail line ≡ Fine) where
+module _ (rules : Rules) (mail : Bool) (line : List ℕ) (f : line_fault rules mail line ≡ Ok tt) where
   pub replacement_short : length (replacement mail line) ≤ 2001
   replacement_short = omega (arith, (formed rules mail line f).short, replacement_le mail line)
 
@@ -33,7 +32,7 @@ module _ (rules : Rules) (mail : Bool) (line : List ℕ) (f : line_fault rules m
   close_inside : verb_len mail + path_len mail line < length line
   close_inside = byte_within line (verb_len mail + path_len mail line) 61 (closed rules mail line f)
 
-  new_short : (found : List (List ℕ)) → alts (params (tail mail line)) ≡ found → alt_fault rules false found ≡ Fine
+  new_short : (found : List (List ℕ)) → alts (params (tail mail line)) ≡ found → alt_fault rules false found ≡ Ok tt
       → length (take (verb_len mail) line ++ (new_path mail line ++ (62 ∷ without_alt (tail mail line)))) ≤ length line
   unfolding alt_fault new_path without_alt value alt tail
   new_short [] e g = absurd (let z : ◌≡◌ {A = ℕ} 0 1 = cc in omega arith)
@@ -69,7 +68,7 @@ module _ (rules : Rules) (mail : Bool) (line : List ℕ) (f : line_fault rules m
       let v = verb_len mail in
       let n = path_len mail line in
       let rest = drop v line in
-      let all_utf8 : T (utf8 (take v line ++ rest)) = rw take-append-drop (formed rules mail line f).is_utf8_lem in
+      let all_utf8 : T (utf8 (take v line ++ rest)) = rw take-append-drop (formed rules mail line f).is_utf8 in
       let from : T (utf8 rest) = rw (utf8_right (take v line) rest (utf8_ascii (take v line) (front_ascii rules mail line f))) at all_utf8 in
       let after : drop n rest ≡ 62 ∷ drop (suc (v + n)) line = rw (drop-drop, drop-cons line (v + n) 0 close_inside, closed rules mail line f) in
       let cut : T (utf8 (take n rest ++ (62 ∷ drop (suc (v + n)) line))) = rw (← after, take-append-drop) from in

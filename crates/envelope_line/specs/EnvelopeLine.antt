@@ -2,20 +2,18 @@
 --
 -- `mail` says whether the line stands where the MAIL line does; every other line is due to be a RCPT line. The parts of a line are
 -- defined for every line, and mean what their names say where the line is well-formed.
-use Rattle.std.specs.Prelude.{Bool, true, false, not, cond, ◌&&◌, List, [], ◌∷◌, ◌++◌, ℕ, suc, ◌+◌, eqb, leb, length, take, drop, get_or}
+use Rattle.std.specs.Prelude.{Bool, true, false, not, cond, ◌&&◌, List, [], ◌∷◌, ◌++◌, ℕ, suc, ◌+◌, eqb, leb, length, take, drop, get_or, Result, Ok, Err, ⊤}
 use Rattle.lists.specs.Lists.{all}
 use Rattle.lists.specs.Byte.{is_ascii}
 use Rattle.utf8.specs.Utf8.{utf8}
 use Rattle.letter_case.specs.LetterCase.{bytes, same_any_case}
 use Rattle.rules.specs.declared.Rules.{Rules}
 use Rattle.rules.specs.Rules.{allows_alternative}
-use Rattle.address.specs.declared.Scan.{Scan}
-use Rattle.address.specs.declared.Scan.TheVariants.{To, Stop}
 use Rattle.address.specs.Address.{address_scan}
 use Rattle.xtext.specs.Xtext.{decoded, is_alt_address}
 use Rattle.parameter.specs.Parameter.{params, spaced, value, is_param, alts, alts_ok, alt, alt_place, orcpt_clean}
 use Rattle.envelope_line.specs.declared.Fault.{Fault}
-use Rattle.envelope_line.specs.declared.Fault.TheVariants.{Fine, Malformed, NoAlternative, BadAlternative, RetiredAlternative}
+use Rattle.envelope_line.specs.declared.Fault.TheVariants.{Malformed, NoAlternative, BadAlternative, RetiredAlternative}
 
 -- ---- verb
 
@@ -36,17 +34,17 @@ has_verb mail line = same_any_case (verb mail) (take (verb_len mail) line)
 
 -- "A path is an address; MAIL may have an empty one, and RCPT may have the bare word Postmaster in any case." At the front of what
 -- follows the verb; `>` (62) closes the path.
-unfoldable pub path_scan : Bool → List ℕ → Scan
-path_scan true s = cond (eqb (get_or s 0 0) 62) (To 0) (address_scan s)
-path_scan false s = cond (same_any_case (bytes "Postmaster>") (take 11 s)) (To 10) (address_scan s)
+unfoldable pub path_scan : Bool → List ℕ → Result ℕ ℕ
+path_scan true s = cond (eqb (get_or s 0 0) 62) (Ok 0) (address_scan s)
+path_scan false s = cond (same_any_case (bytes "Postmaster>") (take 11 s)) (Ok 10) (address_scan s)
 
-abbrev pub scan_end : Scan → ℕ
-scan_end (To n) = n
-scan_end (Stop n) = n
+abbrev pub scan_end : Result ℕ ℕ → ℕ
+scan_end (Ok n) = n
+scan_end (Err n) = n
 
-abbrev pub is_to : Scan → Bool
-is_to (To n) = true
-is_to (Stop n) = false
+abbrev pub is_to : Result ℕ ℕ → Bool
+is_to (Ok n) = true
+is_to (Err n) = false
 
 unfoldable pub path_len : Bool → List ℕ → ℕ
 path_len mail line = scan_end (path_scan mail (drop (verb_len mail) line))
@@ -62,7 +60,7 @@ has_path mail line = is_to (path_scan mail (drop (verb_len mail) line)) && eqb (
 unfoldable pub tail : Bool → List ℕ → List ℕ
 tail mail line = drop (verb_len mail + path_len mail line + 1) line
 
--- ---- the fault of a line
+-- ---- the fault of a line, or `Ok` where it has none
 
 -- "at most 998 bytes", UTF-8, verb, path, parameters
 unfoldable pub well_formed : Bool → List ℕ → Bool
@@ -77,17 +75,17 @@ well_formed mail line =
 
 -- 4: "ALT-ADDRESS beside an ASCII path, or not xtext of an ASCII address". 10: "ALT-ADDRESS in a current message, .. in place of 4". Given
 -- whether the path is ASCII, and the value of ALT-ADDRESS. The empty path and Postmaster are ASCII.
-unfoldable pub value_fault : Rules → Bool → List ℕ → Fault
-value_fault rules ascii v = cond (allows_alternative rules) (cond (not ascii && is_alt_address v) Fine BadAlternative) RetiredAlternative
+unfoldable pub value_fault : Rules → Bool → List ℕ → Result ⊤ Fault
+value_fault rules ascii v = cond (allows_alternative rules) (cond (not ascii && is_alt_address v) (Ok tt) (Err BadAlternative)) (Err RetiredAlternative)
 
 -- 3: "path not ASCII, no ALT-ADDRESS". Given the ALT-ADDRESS parameters.
-unfoldable pub alt_fault : Rules → Bool → List (List ℕ) → Fault
-alt_fault rules ascii [] = cond ascii Fine NoAlternative
+unfoldable pub alt_fault : Rules → Bool → List (List ℕ) → Result ⊤ Fault
+alt_fault rules ascii [] = cond ascii (Ok tt) (Err NoAlternative)
 alt_fault rules ascii (p ∷ ps) = value_fault rules ascii (value p)
 
 -- "the lowest number within one line"; 10 "on its line after 2"
-unfoldable pub line_fault : Rules → Bool → List ℕ → Fault
-line_fault rules mail line = cond (well_formed mail line) (alt_fault rules (all is_ascii (path mail line)) (alts (params (tail mail line)))) Malformed
+unfoldable pub line_fault : Rules → Bool → List ℕ → Result ⊤ Fault
+line_fault rules mail line = cond (well_formed mail line) (alt_fault rules (all is_ascii (path mail line)) (alts (params (tail mail line)))) (Err Malformed)
 
 -- "an ORCPT carries non-ASCII"
 unfoldable pub orcpt_fault : Bool → List ℕ → Bool

@@ -48,10 +48,10 @@ pub record Line (mail : Bool) (path : List ℕ) (alternative : Option (List ℕ)
   pub tail : List ℕ
   pub is : line ≡ front ++ (path ++ (62 ∷ tail))
   pub short : length line ≤ 998
-  pub is_utf8_lem : T (utf8 line)
+  pub is_utf8 : T (utf8 line)
   pub is_front : T (same_any_case (verb mail) front)
   pub is_path : Path mail path
-  pub is_tail_lem : Tail alternative tail
+  pub is_tail : Tail alternative tail
 
 -- How many bytes of a tail stand before the value of ALT-ADDRESS: past its space, its keyword and `=`.
 unfoldable pub value_place : {v tail : List ℕ} → Tail (some v) tail → ℕ
@@ -63,7 +63,7 @@ others_of (Tail.with_alt {before} {after} k o a x q) = before ++ after
 
 -- The byte of a line at which the value of ALT-ADDRESS starts.
 abbrev pub value_byte : {mail : Bool} {path v line : List ℕ} → Line mail path (some v) line → ℕ
-value_byte {path} l = length l.front + (length path + suc (value_place l.is_tail_lem))
+value_byte {path} l = length l.front + (length path + suc (value_place l.is_tail))
 
 -- The refusals of a well-formed line, and the byte that each points to: 3 "path not ASCII, no ALT-ADDRESS", "the start of the path"; 4 "ALT-ADDRESS beside an
 -- ASCII path, or not xtext of an ASCII address", 10 "ALT-ADDRESS in a current message", "the start of the ALT-ADDRESS value".
@@ -78,4 +78,4 @@ pub data LineRefused (rules : Rules) (mail : Bool) (line : List ℕ) : ℕ → �
 pub data Written (rules : Rules) (mail : Bool) (line : List ℕ) : List ℕ → List ℕ → List ℕ → Type 0 where
   copied : {path : List ℕ} (l : Line mail path none line) → T (all is_ascii path) → Written rules mail line l.tail line []
   replaced : {path v new : List ℕ} (l : Line mail path (some v) line) → T (allows_alternative rules) → T (not (all is_ascii path)) → AltAddress v new
-      → Written rules mail line l.tail (l.front ++ (new ++ (62 ∷ others_of l.is_tail_lem))) (60 ∷ (path ++ (32 ∷ 60 ∷ (new ++ (62 ∷ 62 ∷ [])))))
+      → Written rules mail line l.tail (l.front ++ (new ++ (62 ∷ others_of l.is_tail))) (60 ∷ (path ++ (32 ∷ 60 ∷ (new ++ (62 ∷ 62 ∷ [])))))

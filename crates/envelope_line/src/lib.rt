@@ -11,10 +11,9 @@ pub use orcpt::orcpt_fault;
 pub use output::{add_line, add_replacement};
 pub use path::{path_start, tail_start};
 
-// The fault of a line. Fine: none. Malformed: refusal 2. NoAlternative: 3. BadAlternative: 4. RetiredAlternative: 10.
-#[derive(Clone, Copy)]
+// The fault of a line. Malformed: refusal 2. NoAlternative: 3. BadAlternative: 4. RetiredAlternative: 10.
+#[derive(Clone, Copy, Debug, PartialEq, Eq)]
 pub enum Fault {
-    Fine,
     Malformed,
     NoAlternative,
     BadAlternative,

@@ -22,10 +22,9 @@ fn add_decoded(out: &mut [u8], at: usize, p: &[u8]) -> usize
 fn add_new_path(out: &mut [u8], at: usize, line: &[u8], from: usize) -> usize
     ensures { AppendedCapped (decoded (value (alt (params (drop from line.now))))) at out.old out.new result }
 {
-    let place = alt_place(line, from);
-    if line.len() <= place {
+    let Some(place) = alt_place(line, from) else {
         return at;
-    }
+    };
     let start = place + 1;
     add_decoded(out, at, part(line, start, param_end(line, start)))
 }
@@ -34,10 +33,9 @@ fn add_new_path(out: &mut [u8], at: usize, line: &[u8], from: usize) -> usize
 fn add_without_alt(out: &mut [u8], at: usize, line: &[u8], from: usize) -> usize
     ensures { AppendedCapped (without_alt (drop from line.now)) at out.old out.new result }
 {
-    let place = alt_place(line, from);
-    if line.len() <= place {
+    let Some(place) = alt_place(line, from) else {
         return buffer::add_slice(out, at, part(line, from, line.len()));
-    }
+    };
     let next = buffer::add_slice(out, at, part(line, from, place));
     buffer::add_slice(
         out,

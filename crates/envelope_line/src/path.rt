@@ -4,7 +4,6 @@ ghost use Rattle.buffer.specs.Buffer.{greatest};
 ghost use Rattle.address.specs.Address.{later};
 ghost use Rattle.envelope_line.specs.EnvelopeLine.{verb_len, has_verb, path_scan, path_len, tail};
 
-use address::Scan;
 use letter_case::same_any_case;
 use line::part;
 
@@ -26,17 +25,17 @@ pub(crate) fn has_verb(line: &[u8], mail: bool) -> bool
 }
 
 // The path, by place in the line.
-pub(crate) fn path(line: &[u8], mail: bool) -> Scan
+pub(crate) fn path(line: &[u8], mail: bool) -> Result<usize, usize>
     ensures { result ≡ later (verb_len mail) (path_scan mail (drop (verb_len mail) line.now)) }
 {
     if mail {
         if line::byte_at(line, 11) == b'>' {
-            return Scan::To(11);
+            return Ok(11);
         }
         return address::address(line, 11);
     }
     if same_any_case(b"Postmaster>", part(line, 9, 20)) {
-        return Scan::To(19);
+        return Ok(19);
     }
     address::address(line, 9)
 }
@@ -46,8 +45,8 @@ pub(crate) fn path_end(line: &[u8], mail: bool) -> usize
     ensures { result ≡ verb_len mail + path_len mail line.now }
 {
     match path(line, mail) {
-        Scan::To(n) => n,
-        Scan::Stop(n) => n,
+        Ok(n) => n,
+        Err(n) => n,
     }
 }
 

@@ -1,5 +1,5 @@
 -- The scan of an envelope line finds the byte that is asked for.
-use Rattle.std.specs.Prelude.{◌≡◌, refl, Bool, true, false, not, cond, ◌&&◌, List, [], ◌∷◌, ◌++◌, T, leb, ltb, eqb, length, drop, get_or}
+use Rattle.std.specs.Prelude.{◌≡◌, refl, Bool, true, false, not, cond, ◌&&◌, List, [], ◌∷◌, ◌++◌, T, leb, ltb, eqb, length, drop, get_or, Result, Ok, Err}
 use Rattle.std.proofs.Common.{ap, ◌∙◌, add-zero, add-one, arith, T_not, eqb→eq, drop_of_length-le, drop-drop, get_or-drop}
 use Prim.Native.Nat.{ℕ, suc, ◌+◌, ◌-◌, ◌≤◌, ◌<◌}
 use Rattle.std.proofs.Math.Facts.{and_yes, ltb_yes, eqb_no}
@@ -9,8 +9,6 @@ use Rattle.lists.specs.ListsLaws.{by_test, cond_has, yes_true, true_yes, no_fals
 use Rattle.lists.specs.ByteLaws.{below}
 use Rattle.utf8.specs.Utf8.{utf8}
 use Rattle.letter_case.specs.LetterCase.{bytes, lower}
-use Rattle.address.specs.declared.Scan.{Scan}
-use Rattle.address.specs.declared.Scan.TheVariants.{To, Stop}
 use Rattle.parameter.specs.Parameter.{params, spaced, is_param, alts, alts_ok}
 use Rattle.envelope_line.specs.EnvelopeLine.{verb, verb_len, has_verb, path_scan, scan_end, is_to, path_len, has_path, tail, well_formed}
 use Rattle.line_stop.specs.FirstBad.{WithCrlf}
@@ -270,11 +268,11 @@ form_completes = record { end = form_end; step = form_step_lem }
 -- ---- it takes just the well-formed lines
 
 -- a path by its scan, and by its place in the line
-path_by : (x : Scan) (n : ℕ) (line : List ℕ) (k : List ℕ → Bool) → (is_to x && eqb (get_or line (n + scan_end x) 0) 62) && k (drop (n + scan_end x + 1) line)
+path_by : (x : Result ℕ ℕ) (n : ℕ) (line : List ℕ) (k : List ℕ → Bool) → (is_to x && eqb (get_or line (n + scan_end x) 0) 62) && k (drop (n + scan_end x + 1) line)
     ≡ ends x (drop n line) (λ r. eqb (get_or r 0 0) 62 && k (drop 1 r))
 unfolding ends
-path_by (To m) n line k = rw (drop-drop m n line, drop-drop 1 (n + m) line, get_or-drop (n + m) line 0 0, add-zero)
-path_by (Stop m) n line k = refl
+path_by (Ok m) n line k = rw (drop-drop m n line, drop-drop 1 (n + m) line, get_or-drop (n + m) line 0 0, add-zero)
+path_by (Err m) n line k = refl
 
 ands : (a b c d e f g : Bool) → a && b && c && d && e && f && g ≡ (a && b) && (c && (d && ((e && f) && g)))
 ands true true true true e f g = refl

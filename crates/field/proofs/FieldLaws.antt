@@ -81,7 +81,7 @@ module _ {before : List ℕ} (h : length before ≤ greatest) where
   label_added downgraded name a b c = capped_then a (capped_then b c (omega (arith, h, length_added a))) h
 
 -- the length of a label, that of its name counted to 63
-pub column_label : (downgraded : Bool) (name text : List ℕ) {column : ℕ} → column ≡ length (prefix downgraded) + (min (length name) 63 + 1)
+column_label : (downgraded : Bool) (name text : List ℕ) {column : ℕ} → column ≡ length (prefix downgraded) + (min (length name) 63 + 1)
     → row_after column text ≡ row_after (length (prefix downgraded ++ (name ++ (58 ∷ [])))) text
 column_label downgraded name text {column} e =
     let whole = length-append (prefix downgraded) (name ++ (58 ∷ [])) in
@@ -90,6 +90,12 @@ column_label downgraded name text {column} e =
     by_test (leb (length name) 63)
     (λ t. let same : column ≡ length label = omega (arith, e, whole, part, leb_yes {a = length name} {b = 63} t) in ap (λ (n : ℕ). row_after n text) same)
     (λ t. let long : 63 < length name = leb_no t in row_after_none column text (omega (arith, e)) ∙ sym (row_after_none (length label) text (omega (arith, whole, part))))
+
+-- what is written after a label of so many characters
+pub column_counted : (downgraded : Bool) (name text : List ℕ) {column at r : ℕ} {before after : List ℕ} → AppendedCapped (row_after column text ++ (13 ∷ 10 ∷ [])) at before after r
+    → column ≡ length (prefix downgraded) + (min (length name) 63 + 1)
+    → AppendedCapped (row_after (length (prefix downgraded ++ (name ++ (58 ∷ [])))) text ++ (13 ∷ 10 ∷ [])) at before after r
+column_counted downgraded name text a e = capped_same (ap (λ (row : List ℕ). row ++ (13 ∷ 10 ∷ [])) (column_label downgraded name text e)) a
 
 pub encoded_added : (downgraded : Bool) (name text : List ℕ) {before after : List ℕ} {at r : ℕ}
     → AppendedCapped (rendered (labelled_field (prefix downgraded ++ (name ++ (58 ∷ []))) text)) at before after r

@@ -1,7 +1,7 @@
 // Fields whose text is written in encoded words.
 #![tactic(auto)]
 
-ghost use Rattle.std.specs.Prelude.{◌≡◌, [], ◌∷◌, ◌++◌, ◌+◌, min, length};
+ghost use Rattle.std.specs.Prelude.{◌≡◌, [], ◌∷◌, ◌++◌};
 ghost use Rattle.buffer.specs.Buffer.{AppendedCapped};
 ghost use Rattle.row.specs.Row.{row_after, bounded};
 ghost use Rattle.encoded_word.specs.Segments.{rendered};
@@ -24,31 +24,22 @@ pub fn add_labelled(out: &mut [u8], at: usize, label: &[u8], text: &[u8]) -> usi
 }
 
 // `Downgraded-`, or nothing.
-fn add_prefix(out: &mut [u8], at: usize, downgraded: bool) -> usize
-    ensures { AppendedCapped (prefix downgraded) at out.old out.new result }
+#[tactic(auto, unfolding(crate::specs::Field::prefix, letter_case::specs::LetterCase::bytes))]
+fn prefix(downgraded: bool) -> &'static [u8]
+    ensures { result.now ≡ prefix downgraded }
 {
-    if downgraded {
-        return buffer::add_slice(out, at, b"Downgraded-");
-    }
-    at
-}
-
-// The length of a field's name, with or without `Downgraded-` before it, and its colon. A name of more than 63 characters counts as 63, since
-// its line has no room for a word either way.
-fn column(name: &[u8], downgraded: bool) -> usize
-    ensures { result ≡ length (prefix downgraded) + (min (length name.now) 63 + 1) }
-{
-    let n = buffer::clip(name.len(), 63);
-    if downgraded { 11 + (n + 1) } else { n + 1 }
+    if downgraded { b"Downgraded-" } else { b"" }
 }
 
 // Writes a field with its text in encoded words, and with or without `Downgraded-` before its name, from a place on, as far as it
-// fits; answers the place after it.
+// fits; answers the place after it. A name of more than 63 characters counts as 63, since its line has no room for a word either way.
 pub fn add_encoded(out: &mut [u8], at: usize, name: &[u8], text: &[u8], downgraded: bool) -> usize
     ensures { AppendedCapped (rendered (encoded_field downgraded name.now (bounded text.now))) at out.old out.new result }
 {
-    let start = add_prefix(out, at, downgraded);
+    let before = prefix(downgraded);
+    let start = buffer::add_slice(out, at, before);
     let colon = buffer::add_slice(out, start, name);
     let words = buffer::add_byte(out, colon, b':');
-    add_after_label(out, words, column(name, downgraded), text)
+    let column = before.len() + (name.len().min(63) + 1);
+    add_after_label(out, words, column, text)
 }

@@ -10,7 +10,7 @@ use rules::Rules;
 // What is written for such a field: the pieces of an address list; encoded words of its text under its own name, or under `Downgraded-`
 // and its name; a Received field; its comments encoded, and held or encapsulated where non-ASCII stands outside them; its parameters
 // converted; or it is held.
-#[derive(Clone, Copy)]
+#[derive(Clone, Copy, Debug, PartialEq, Eq)]
 pub enum Method {
     Pieces,
     PlainText,
@@ -27,13 +27,13 @@ fn by_profile(rules: Rules, relay: Method, mailbox: Method) -> Method
     ensures { result ≡ by_profile rules relay mailbox }
 {
     match rules {
-        Rules::Spool => relay,
-        Rules::Current => relay,
+        Rules::Spool | Rules::Current => relay,
         Rules::Mailbox => mailbox,
     }
 }
 
 // The method for a field of a kind.
+#[tactic(auto, unfolding(crate::specs::FieldMethod::method_of))]
 pub fn method_of(rules: Rules, kind: Kind) -> Method
     ensures { result ≡ method_of rules kind }
 {

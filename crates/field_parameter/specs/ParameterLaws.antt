@@ -1,6 +1,6 @@
 -- Parameters by position, as code finds them.
 use borrow.Author.Tests.{eq-eqb, ne_eqb, lt-ltb, le-ltb}
-use Rattle.std.specs.Prelude.{◌≡◌, refl, Bool, true, not, cond, ◌&&◌, ◌||◌, ℕ, zero, suc, ◌+◌, ◌-◌, ◌≤◌, ◌<◌, T, eqb, ltb, get_or}
+use Rattle.std.specs.Prelude.{◌≡◌, refl, Some, None, Bool, true, not, cond, ◌&&◌, ◌||◌, ℕ, zero, suc, ◌+◌, ◌-◌, ◌≤◌, ◌<◌, T, eqb, ltb, get_or}
 use Rattle.std.proofs.Common.{sym, ap, ◌∙◌, not-suc-le-zero, arith, drop-drop, get_or-drop}
 use Rattle.std.proofs.Math.Bool.{false, and-false}
 use mathlib.Core.List.{List, [], ◌∷◌}
@@ -12,12 +12,21 @@ use Rattle.lists.specs.Lists.{all}
 use Rattle.lists.specs.ListsLaws.{by_test, cond_yes, cond_no, cond_has, yes_true, no_false, true_yes}
 use Rattle.lists.specs.Run.{run}
 use Rattle.lists.specs.RunLaws.{run_le}
-use Rattle.comment.specs.Comment.{run_to}
+use Rattle.comment.specs.Comment.{end_of, run_to}
 use Rattle.comment.proofs.CommentLaws.{run_within}
 use Rattle.structured_token.specs.declared.Kind.{Kind}
 use Rattle.structured_token.specs.Tokens.{is_quote, kind_of}
 use Rattle.mime_parameter.specs.Extended.{is_token_byte}
 use Rattle.field_parameter.specs.Parameter.{is_value_byte, closed_len, value_len, ends_value, parameter_len, value_of, is_converted, converted_next}
+
+-- ---- an end as code answers it
+
+pub none_here : (at n : ℕ) → at ≡ at + n → None ≡ end_of at n
+none_here at n e = let z : n ≡ 0 = omega arith in rw z
+
+pub ends_here : (at n : ℕ) {e : ℕ} → e ≡ at + n → at < e → Some e ≡ end_of at n
+ends_here at zero {e} q h = absurd (not-suc-le-zero {n = 0} (omega (arith, q, h)))
+ends_here at (suc n) q h = ap Some q
 
 -- ---- the value at a place
 

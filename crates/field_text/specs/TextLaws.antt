@@ -1,5 +1,5 @@
 -- Laws of a field's text by position, as code finds it.
-use Rattle.std.specs.Prelude.{◌≡◌, ◌&&◌, ◌||◌, ltb, eqb, take, drop}
+use Rattle.std.specs.Prelude.{◌≡◌, ◌&&◌, ◌||◌, ltb, eqb, take, drop, Option, Some, None}
 use Rattle.std.proofs.Math.Path.{refl, ap, sym}
 use Rattle.std.proofs.Common.{◌∙◌, add-zero, add-one, eqb→eq, length-append, take-append-drop, drop_of_length-le, take-suc, take_all}
 use Rattle.std.proofs.Math.Bool.{true, false, and-false}
@@ -16,15 +16,15 @@ use Rattle.lists.specs.Lists.{all}
 use Rattle.lists.specs.Run.{run}
 use Rattle.lists.specs.RunLaws.{run_le, run_all, run_after}
 use Rattle.buffer.specs.Buffer.{Wrote, AppendedCapped, Reached, greatest}
-use Rattle.buffer.specs.BufferLaws.{overlay_front, length_wrote, appended_of, reached_start, reached_then, reached_within, reached_end, length_reached, wrote_from, wrote_nothing}
+use Rattle.buffer.specs.BufferLaws.{overlay_front, appended_of, reached_start, reached_then, reached_within, reached_end, length_reached, wrote_from, wrote_nothing}
 use Rattle.header_line.specs.Lines.{name_len}
 use Rattle.line.specs.Line.{blank, crlf, not_cr, cr_run}
 use Rattle.line.specs.LineLaws.{crlf_inside}
 use Rattle.header.specs.Fields.{fold, name_of, value_of, unfolded_after, trimmed, text_of}
 use Rattle.header.specs.FieldShape.{Shaped}
 use Rattle.header.specs.FieldLaws.{drop_take}
-use Rattle.field_text.specs.TextPlace.{text_place}
-use Rattle.field_text.specs.declared.TextPlace.TheVariants.{InPlace, Folded}
+use Rattle.field_text.specs.declared.TextPlace.{TextPlace}
+use Rattle.field_text.specs.TextPlace.{text_place, in_place}
 
 -- ---- a fold at a place
 
@@ -122,39 +122,44 @@ blank_no_fold b rest e =
 unfoldable pub text_from : List ℕ → ℕ → List ℕ
 text_from s i = trimmed (unfolded_after 0 (drop i s))
 
--- A step over what comes before the text: n bytes, a blank or a fold; or none, where the text starts.
-pub record BlankStep (s : List ℕ) (i n : ℕ) : Type 0 where
+-- what comes before the text goes on for n bytes
+pub record Blanks (s : List ℕ) (i n : ℕ) : Type 0 where
+  pub some : 0 < n
   pub inside : i + n ≤ length s
   pub past : text_from s i ≡ text_from s (i + n)
-  pub stop : n ≡ 0 → text_from s i ≡ unfolded_after 0 (drop i s)
+
+-- A step over what comes before the text: a blank or a fold; or none, where the text starts.
+abbrev pub BlankStep : List ℕ → ℕ → Option ℕ → Type 0
+BlankStep s i None = text_from s i ≡ unfolded_after 0 (drop i s)
+BlankStep s i (Some n) = Blanks s i n
+
+pub step_end : (s : List ℕ) (i : ℕ) → length s ≤ i → text_from s i ≡ unfolded_after 0 (drop i s)
+unfolding text_from
+step_end s i k = rw (unfold_end s i k) trim_nil
 
 module _ (s : List ℕ) (i : ℕ) (k : i < length s) where
-  pub step_blank : blank (get_or s i 0) ≡ true → BlankStep s i 1
+  pub step_blank : blank (get_or s i 0) ≡ true → Blanks s i 1
   unfolding text_from
   step_blank e =
       let front = drop-cons s i 0 k in
       let none : fold (drop i s) ≡ false = rw front (blank_no_fold (get_or s i 0) (drop (suc i) s) e) in
       record {
+        some = omega arith;
         inside = omega arith;
         past = rw (unfold_byte s i k none) (trim_blank (get_or s i 0) (unfolded_after 0 (drop (i + 1) s)) e);
-        stop = λ z. absurd (omega (arith, z));
       }
 
-  pub step_fold : fold (drop i s) ≡ true → BlankStep s i 2
+  pub step_fold : fold (drop i s) ≡ true → Blanks s i 2
   unfolding text_from
   step_fold e = record {
+    some = omega arith;
     inside = fold_inside s i e;
     past = rw (unfold_fold s i e);
-    stop = λ z. absurd (omega (arith, z));
   }
 
-  pub step_none : blank (get_or s i 0) ≡ false → fold (drop i s) ≡ false → BlankStep s i 0
+  pub step_none : blank (get_or s i 0) ≡ false → fold (drop i s) ≡ false → text_from s i ≡ unfolded_after 0 (drop i s)
   unfolding text_from
-  step_none e f = record {
-    inside = omega arith;
-    past = rw add-zero;
-    stop = λ z. rw (unfold_byte s i k f) (trim_stop (get_or s i 0) (unfolded_after 0 (drop (i + 1) s)) e);
-  }
+  step_none e f = rw (unfold_byte s i k f) (trim_stop (get_or s i 0) (unfolded_after 0 (drop (i + 1) s)) e)
 
 -- The text of a value is what stands from r on, unfolded.
 pub record TextStart (value : List ℕ) (r : ℕ) : Type 0 where
@@ -171,15 +176,14 @@ unfolding text_from
 skipped_none value = record { inside = omega arith; same = refl }
 
 module _ {value : List ℕ} {i : ℕ} (g : Skipped value i) where
-  pub skipped_more : {n : ℕ} → BlankStep value i n → Skipped value (i + n)
+  pub skipped_more : {n : ℕ} → Blanks value i n → Skipped value (i + n)
   skipped_more t = record { inside = t.inside; same = g.same ∙ t.past }
 
-  pub skipped_stop : {n : ℕ} → BlankStep value i n → n ≡ 0 → TextStart value i
-  skipped_stop t e = record { inside = g.inside; text = g.same ∙ t.stop e }
+  pub skipped_stop : text_from value i ≡ unfolded_after 0 (drop i value) → TextStart value i
+  skipped_stop e = record { inside = g.inside; text = g.same ∙ e }
 
   pub skipped_end : length value ≤ i → TextStart value i
-  unfolding text_from
-  skipped_end k = record { inside = g.inside; text = g.same ∙ rw (unfold_end value i k) trim_nil }
+  skipped_end k = skipped_stop (step_end value i k)
 
 -- ---- pieces between folds
 
@@ -316,7 +320,7 @@ some_cr : (s : List ℕ) → cr_run s < length s → all not_cr s ≡ false
 some_cr s h = by_test (all not_cr s) (λ t. absurd (rw (run_after not_cr s h) at (all_at_lem not_cr s (cr_run s) 0 t h))) (λ t. no_false (all not_cr s) t)
 
 module _ (field : List ℕ) (n : ℕ) (e : n ≡ name_len field) where
-  pub place_short : length field - n < 3 → InPlace n n ≡ text_place field
+  pub place_short : length field - n < 3 → in_place n n ≡ text_place field
   unfolding text_place
   place_short k = rw (e, lt-ltb (length field - name_len field) 3 (rw e at k))
 
@@ -328,21 +332,29 @@ module _ (field : List ℕ) (n : ℕ) (e : n ≡ name_len field) where
     length_value : length (value_of field) ≡ length field - 2 - (n + 1)
     length_value = rw (← value_there, length-drop, length-take) (omega arith)
 
-    pub place_folded : (r : ℕ) → r ≡ n + 1 + cr_run (drop (n + 1) (take (length field - 2) field)) → r < length field - 2 → Folded ≡ text_place field
+    pub place_folded : (r : ℕ) → r ≡ n + 1 + cr_run (drop (n + 1) (take (length field - 2) field)) → r < length field - 2 → None ≡ text_place field
     unfolding text_place
     place_folded r q h =
         let some : cr_run (value_of field) < length (value_of field) = omega (arith, rw value_there at q, length_value) in
         rw (le-ltb (length field - name_len field) 3 (rw e at k), some_cr (value_of field) some)
 
     pub place_there : (r a : ℕ) → r ≡ n + 1 + cr_run (drop (n + 1) (take (length field - 2) field)) → length field - 2 ≤ r
-        → a ≡ n + 1 + run blank (drop (n + 1) (take (length field - 2) field)) → InPlace a (length field - 2) ≡ text_place field
+        → a ≡ n + 1 + run blank (drop (n + 1) (take (length field - 2) field)) → in_place a (length field - 2) ≡ text_place field
     unfolding text_place
     place_there r a q h p =
         let none : length (value_of field) ≤ cr_run (value_of field) = omega (arith, rw value_there at q, length_value) in
         rw (le-ltb (length field - name_len field) 3 (rw e at k), yes_true (all not_cr (value_of field)) (no_cr_lem (value_of field) none), p, value_there, e)
 
+abbrev from_of : Option TextPlace → ℕ
+from_of None = 0
+from_of (Some there) = there.from
+
+abbrev to_of : Option TextPlace → ℕ
+to_of None = 0
+to_of (Some there) = there.to
+
 -- what stands there is the text
-pub text_there : (field : List ℕ) (a b : ℕ) → text_place field ≡ InPlace a b → take (b - a) (drop a field) ≡ text_of field
+pub text_there : (field : List ℕ) (a b : ℕ) → text_place field ≡ in_place a b → take (b - a) (drop a field) ≡ text_of field
 unfolding text_place text_of trimmed value_of
 text_there field a b q =
     by_test (ltb (length field - name_len field) 3)
@@ -351,22 +363,22 @@ text_there field a b q =
     (λ u. whole (rw (no_false (ltb (length field - name_len field) 3) t, yes_true (all not_cr (value_of field)) u) at q) u)
     (λ u. never (rw (no_false (ltb (length field - name_len field) 3) t, no_false (all not_cr (value_of field)) u) at q)))
   where
-    short : InPlace (name_len field) (name_len field) ≡ InPlace a b → length field - name_len field < 3 → take (b - a) (drop a field) ≡ text_of field
+    short : in_place (name_len field) (name_len field) ≡ in_place a b → length field - name_len field < 3 → take (b - a) (drop a field) ≡ text_of field
     short p k =
-        let one : name_len field ≡ a = cc in
-        let two : name_len field ≡ b = cc in
+        let one : name_len field ≡ a = ap from_of p in
+        let two : name_len field ≡ b = ap to_of p in
         let none : b - a ≡ 0 = omega arith in
         rw none (sym (text_none field (name_len field) refl k))
 
-    whole : InPlace (name_len field + 1 + run blank (value_of field)) (length field - 2) ≡ InPlace a b → T (all not_cr (value_of field)) → take (b - a) (drop a field) ≡ text_of field
+    whole : in_place (name_len field + 1 + run blank (value_of field)) (length field - 2) ≡ in_place a b → T (all not_cr (value_of field)) → take (b - a) (drop a field) ≡ text_of field
     whole p u =
-        let one : name_len field + 1 + run blank (value_of field) ≡ a = cc in
-        let two : length field - 2 ≡ b = cc in
+        let one : name_len field + 1 + run blank (value_of field) ≡ a = ap from_of p in
+        let two : length field - 2 ≡ b = ap to_of p in
         let m = name_len field + 1 in
         let n = run blank (value_of field) in
         rw (unfold_none (value_of field) u, ← one, ← two, drop-drop n m (take (length field - 2) field), drop_take (m + n) (length field - 2) field)
 
-    never : Folded ≡ InPlace a b → take (b - a) (drop a field) ≡ text_of field
+    never : None ≡ in_place a b → take (b - a) (drop a field) ≡ text_of field
     never p = let z : ◌≡◌ {A = ℕ} 0 1 = cc in absurd (omega arith)
 
 -- what stands in a field besides its name and its text: a colon and CRLF at least

@@ -9,12 +9,11 @@ ghost use Rattle.field_text.specs.TextLaws.{BlankStep, TextStart, PieceEnd};
 
 use line::is_blank;
 
-// Where the text of a field stands: from a place in the field up to another; or nowhere in one part, where the value has a CR, as
-// a fold does.
-#[derive(Clone, Copy)]
-pub enum TextPlace {
-    InPlace(usize, usize),
-    Folded,
+// Where the text of a field stands in one part: from a place in the field up to another.
+#[derive(Clone, Copy, Debug, PartialEq, Eq)]
+pub struct TextPlace {
+    pub from: usize,
+    pub to: usize,
 }
 
 // Whether a fold stands at i: CRLF before a space or TAB.
@@ -28,18 +27,19 @@ fn fold_at(s: &[u8], i: usize) -> bool
     (s[i] == 13) & (s[i + 1] == 10) & is_blank(s[i + 2])
 }
 
-// How many bytes before the text stand at i: 1 for a blank, 2 for a fold, 0 where the text starts.
-fn blank_size(s: &[u8], i: usize) -> usize
-    requires { i < length s.now }
+// How many bytes before the text stand at i: 1 for a blank, 2 for a fold; none where the text starts.
+fn blank_size(s: &[u8], i: usize) -> Option<usize>
+    requires { i ≤ length s.now }
     ensures { BlankStep s.now i result }
 {
-    if is_blank(s[i]) {
-        return 1;
+    let b = *s.get(i)?;
+    if is_blank(b) {
+        return Some(1);
     }
     if fold_at(s, i) {
-        return 2;
+        return Some(2);
     }
-    0
+    None
 }
 
 // Where the text of a value starts.
@@ -47,11 +47,7 @@ fn text_start(value: &[u8]) -> usize
     ensures { TextStart value.now result }
 {
     let mut i = 0;
-    while i < value.len() {
-        let n = blank_size(value, i);
-        if n == 0 {
-            return i;
-        }
+    while let Some(n) = blank_size(value, i) {
         i += n;
     }
     i
@@ -107,18 +103,21 @@ pub fn put(out: &mut [u8], field: &[u8]) -> usize
     put_value_text(out, &field[from..to])
 }
 
-// Where the text of a field stands in it.
-pub fn place(field: &[u8]) -> TextPlace
+// Where the text of a field stands in it; nowhere in one part where the value has a CR, as a fold does.
+pub fn place(field: &[u8]) -> Option<TextPlace>
     ensures { result ≡ text_place field.now }
 {
     let n = header_line::name_len(field);
     if field.len() - n < 3 {
-        return TextPlace::InPlace(n, n);
+        return Some(TextPlace { from: n, to: n });
     }
     let from = n + 1;
     let to = field.len() - 2;
     if line::next_cr(&field[..to], from) < to {
-        return TextPlace::Folded;
+        return None;
     }
-    TextPlace::InPlace(line::blanks_end(&field[..to], from), to)
+    Some(TextPlace {
+        from: line::blanks_end(&field[..to], from),
+        to,
+    })
 }

@@ -1,5 +1,6 @@
 -- Laws of groups and turns, as code finds them part by part.
-use Rattle.std.specs.Prelude.{◌≡◌, ◌&&◌, ◌||◌, not, ℕ, ◌+◌, ◌-◌, ◌≤◌, ◌<◌, T, take, drop}
+use Rattle.std.specs.Bool.{then_some}
+use Rattle.std.specs.Prelude.{Option, Some, None, ◌≡◌, ◌&&◌, ◌||◌, not, ℕ, ◌+◌, ◌-◌, ◌≤◌, ◌<◌, T, take, drop}
 use Rattle.std.proofs.Math.Path.{refl, ap, sym}
 use Rattle.std.proofs.Common.{◌∙◌, zero-le, not-suc-le-zero, length-take, length-drop, take-add, drop-drop}
 use Rattle.std.proofs.Math.Bool.{Bool, true, false, or-false, or_assoc, and-false}
@@ -16,9 +17,10 @@ use Rattle.address_list.specs.PartsLaws.{parts_step, parts_end}
 use Rattle.address_list.specs.declared.Front.{Front}
 use Rattle.address_list.specs.declared.PartKind.{PartKind}
 use Rattle.address_list.specs.declared.PartKind.TheVariants.{Blank, Comment, Comma, Colon, Semicolon, Phrase, Address, Angled, Alternative, Stray}
-use Rattle.group.specs.Group.{is_colon, is_semicolon, is_lost, inside, any_lost, text_of, semicolon_of, Turn, turns_from, parts_at, GroupAt, no_turn, next_of, NextAt}
+use Rattle.group.specs.Group.{is_colon, is_semicolon, is_lost, inside, any_lost, text_of, semicolon_of, Turn, turns_from, parts_at, GroupAt, LostAt, no_turn, next_of, NextAt}
 use Rattle.group.specs.declared.Group.{Group}
 use Rattle.group.specs.declared.Next.{Next}
+use Rattle.group.specs.declared.TurnKind.TheVariants.{OnePart, LostGroup}
 
 pub lost_angled : (t : List ℕ) (start size : ℕ) → not (all is_ascii (take (start + size - start) (drop start t))) ≡ is_lost (Angled start size) t
 unfolding is_lost
@@ -85,6 +87,12 @@ passing_start rules s at h = record {
   within = h;
 }
 
+-- a group whose parts are passed, as code answers it
+lost_as : {rules : Rules} {s : List ℕ} {at : ℕ} {lost : Bool} {r : Group} {o : Option Group} → o ≡ then_some lost r → any_lost (inside (parts_at rules s at)) ≡ lost
+    → GroupAt rules s at r → LostAt rules s at o
+lost_as {lost = true} z e g = rw z (e, g)
+lost_as {lost = false} z e g = rw z e
+
 module _ {rules : Rules} {s : List ℕ} {at i : ℕ} {lost : Bool} (g : Passing rules s at lost i) where
   module _ {f : Front} {e : ℕ} (h : i < length s) (w : TookFrom rules s i f) (q : e ≡ i + f.size) where
     size_is : e - i ≡ f.size
@@ -115,53 +123,37 @@ module _ {rules : Rules} {s : List ℕ} {at i : ℕ} {lost : Bool} (g : Passing 
       within = omega (arith, w.within h);
     }
 
-    pub passing_end : is_semicolon f.kind ≡ true → GroupAt rules s at (record { lost = lost; end = i; next = e })
+    pub passing_end : {o : Option Group} → is_semicolon f.kind ≡ true → o ≡ then_some lost (record { end = i; next = e }) → LostAt rules s at o
     unfolding inside any_lost text_of semicolon_of turns_from
-    passing_end k = record {
-      lost = sym (g.any ∙ rw (parts_step rules s i f h w, k) (or-false lost));
+    passing_end k z = lost_as z (g.any ∙ rw (parts_step rules s i f h w, k) (or-false lost)) (record {
       text = g.text ∙ rw (parts_step rules s i f h w, k) (append-nil (take (i - at) (drop at s)));
       after = rw (g.semicolon, parts_step rules s i f h w, k, q) (omega (arith, part_size));
       beyond = passed true k;
       from = g.from;
       on = omega arith;
       within = omega (arith, w.within h);
-    }
+    })
 
-  pub passing_over : length s ≤ i → GroupAt rules s at (record { lost = lost; end = i; next = i })
+  pub passing_over : {o : Option Group} → length s ≤ i → o ≡ then_some lost (record { end = i; next = i }) → LostAt rules s at o
   unfolding inside any_lost text_of semicolon_of turns_from
-  passing_over h = record {
-    lost = sym (g.any ∙ rw (parts_end rules s i h) (or-false lost));
+  passing_over h z = lost_as z (g.any ∙ rw (parts_end rules s i h) (or-false lost)) (record {
     text = g.text ∙ rw (parts_end rules s i h) (append-nil (take (i - at) (drop at s)));
     after = rw (g.semicolon, parts_end rules s i h) (omega arith);
     beyond = g.beyond ∙ rw (parts_end rules s i h);
     from = g.from;
     on = omega arith;
     within = g.within;
-  }
+  })
 
 -- ---- a turn
-
-colon_inner : (kind : PartKind) → T (is_colon kind) → inner_end kind ≡ 0
-colon_inner Colon h = refl
-colon_inner Blank h = absurd h
-colon_inner Comment h = absurd h
-colon_inner Comma h = absurd h
-colon_inner Semicolon h = absurd h
-colon_inner Phrase h = absurd h
-colon_inner Address h = absurd h
-colon_inner (Angled start size) h = absurd h
-colon_inner (Alternative start size) h = absurd h
-colon_inner Stray h = absurd h
 
 module _ {rules : Rules} {s : List ℕ} {at e : ℕ} {f : Front} (h : at < length s) (w : TookFrom rules s at f) (q : e ≡ at + f.size) where
   size_of : length (take f.size (drop at s)) ≡ f.size
   size_of = rw (length-take, length-drop) (omega (arith, w.within h))
 
-  pub next_group : {r : Group} → is_colon f.kind ≡ true → GroupAt rules s e r → r.lost ≡ true
-      → NextAt rules s at (record { lost = true; kind = f.kind; start = e; end = r.end; next = r.next })
+  pub next_group : {r : Group} → is_colon f.kind ≡ true → LostAt rules s e (Some r) → NextAt rules s at (record { kind = LostGroup; start = e; end = r.end; next = r.next })
   unfolding turns_from next_of
-  next_group {r} k g l =
-      let lost : any_lost (inside (parts_at rules s e)) ≡ true = sym g.lost ∙ l in
+  next_group {r} k (lost, g) =
       let between : length (text_of (inside (parts_at rules s e))) ≡ r.end - e =
       ap length g.text ∙ rw (length-take, length-drop) (omega (arith, g.from, g.on, g.within)) in
       let end : at + length (take f.size (drop at s)) + length (text_of (inside (parts_at rules s e))) ≡ r.end =
@@ -170,13 +162,13 @@ module _ {rules : Rules} {s : List ℕ} {at e : ℕ} {f : Front} (h : at < lengt
         equal = rw (parts_step rules s at f h w, ← q, k, lost, end, ← g.after, size_of, ← q);
         is = rw (parts_step rules s at f h w, ← q, k, lost, g.text, g.beyond);
         ordered = g.from;
-        inner = rw (colon_inner f.kind (true_yes (is_colon f.kind) k)) zero-le;
+        inner = zero-le;
         on = omega (arith, g.from, g.on, w.some);
         covers = g.on;
         within = g.within;
       }
 
-  next_part : is_colon f.kind && any_lost (inside (parts_at rules s e)) ≡ false → NextAt rules s at (record { lost = false; kind = f.kind; start = at; end = e; next = e })
+  next_part : is_colon f.kind && any_lost (inside (parts_at rules s e)) ≡ false → NextAt rules s at (record { kind = OnePart f.kind; start = at; end = e; next = e })
   unfolding turns_from next_of
   next_part k =
       let n : e - at ≡ f.size = omega arith in
@@ -191,11 +183,11 @@ module _ {rules : Rules} {s : List ℕ} {at e : ℕ} {f : Front} (h : at < lengt
       }
 
   -- a group that loses no member
-  pub next_whole : {r : Group} → GroupAt rules s e r → r.lost ≡ false → NextAt rules s at (record { lost = false; kind = f.kind; start = at; end = e; next = e })
-  next_whole g l = next_part (rw (← g.lost, l) (and-false (is_colon f.kind)))
+  pub next_whole : LostAt rules s e None → NextAt rules s at (record { kind = OnePart f.kind; start = at; end = e; next = e })
+  next_whole l = next_part (rw l (and-false (is_colon f.kind)))
 
   -- a part that opens none
-  pub next_other : is_colon f.kind ≡ false → NextAt rules s at (record { lost = false; kind = f.kind; start = at; end = e; next = e })
+  pub next_other : is_colon f.kind ≡ false → NextAt rules s at (record { kind = OnePart f.kind; start = at; end = e; next = e })
   next_other k = next_part (rw k refl)
 
 -- past the end of a text

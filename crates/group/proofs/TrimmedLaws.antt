@@ -1,6 +1,8 @@
 -- Laws of a text without the blanks at its ends: how code finds it from behind, how long it is, and that it stays UTF-8.
-use Rattle.std.specs.Prelude.{◌≡◌, refl, true, false, List, [], ◌∷◌, ℕ, zero, suc, ◌+◌, ◌-◌, ◌≤◌, ◌<◌, T, length, take, drop, get_or}
-use Rattle.std.proofs.Common.{sym, ◌∙◌, arith, not-suc-le-zero, length-take, length-drop}
+use Rattle.std.specs.Prelude.{◌≡◌, refl, true, false, ◌&&◌, List, [], ◌∷◌, ◌++◌, ℕ, zero, suc, ◌+◌, ◌-◌, ◌≤◌, ◌<◌, T, length, take, drop, get_or}
+use Rattle.std.proofs.Common.{sym, ◌∙◌, arith, not-suc-le-zero, length-take, length-drop, take_all}
+use Rattle.std.proofs.lemmas.List.{take-append-le}
+use Rattle.std.proofs.Math.Bool.{and-true, and-false, and_assoc}
 use Rattle.std.proofs.Math.Facts.{and_yes}
 use Rattle.lists.specs.Lists.{all}
 use Rattle.lists.specs.ListsLaws.{by_test, yes_true, no_false, cond_has, all_at_lem}
@@ -14,66 +16,48 @@ use Rattle.group.specs.Trimmed.{content_len, trimmed}
 
 -- ---- from behind
 
-content_none : (t : List ℕ) → T (all blank t) → content_len t ≡ 0
+-- the last byte counts as the others do
+all_last : (t : List ℕ) (b : ℕ) → all blank (t ++ (b ∷ [])) ≡ all blank t && blank b
+all_last [] b = and-true (blank b)
+all_last (x ∷ t) b = rw (all_last t b) (sym (and_assoc (blank x) (all blank t) (blank b)))
+
+content_blank : (t : List ℕ) (b : ℕ) → blank b ≡ true → content_len (t ++ (b ∷ [])) ≡ content_len t
 unfolding content_len
-content_none [] h = refl
-content_none (b ∷ t) h = rw (yes_true (all blank (b ∷ t)) h)
+content_blank [] b h = rw h
+content_blank (x ∷ t) b h = rw (all_last t b, h, and-true (all blank t), content_blank t b h)
 
-last_at : (t : List ℕ) (m : ℕ) → m < length t → blank (get_or t m 0) ≡ false → T (all blank (drop (suc m) t)) → content_len t ≡ suc m
+content_whole : (t : List ℕ) (b : ℕ) → blank b ≡ false → content_len (t ++ (b ∷ [])) ≡ length (t ++ (b ∷ []))
 unfolding content_len
-last_at [] m h b r = absurd (not-suc-le-zero {n = m} (omega arith))
-last_at (x ∷ t) zero h b r = rw (b, content_none t r)
-last_at (x ∷ t) (suc m) h b r =
-    let other : all blank (x ∷ t) ≡ false =
-    by_test (all blank (x ∷ t)) (λ y. absurd (rw b at (all_at_lem blank (x ∷ t) (suc m) 0 y h))) (λ n. no_false (all blank (x ∷ t)) n) in
-    rw (other, last_at t m (omega arith) b r)
-
-more_at : (t : List ℕ) (m : ℕ) → m < length t → blank (get_or t m 0) ≡ true → T (all blank (drop (suc m) t)) → T (all blank (drop m t))
-more_at [] m h b r = absurd (not-suc-le-zero {n = m} (omega arith))
-more_at (x ∷ t) zero h b r = rw b r
-more_at (x ∷ t) (suc m) h b r = more_at t m (omega arith) b r
-
--- where a walk from behind stands: nothing but blanks from n on
-pub record BlankFrom (t : List ℕ) (n : ℕ) : Type 0 where
-  pub within : n ≤ length t
-  pub blanks : T (all blank (drop n t))
-
-none_left : (t : List ℕ) → T (all blank (drop (length t) t))
-none_left [] = tt
-none_left (b ∷ t) = none_left t
-
-pub blank_start : (t : List ℕ) → BlankFrom t (length t)
-blank_start t = record { within = omega arith; blanks = none_left t }
-
-module _ {t : List ℕ} {n : ℕ} (g : BlankFrom t n) where
-  module _ (some : 0 < n) where
-    before : suc (n - 1) ≡ n
-    before = omega arith
-
-    pub blank_last : blank (get_or t (n - 1) 0) ≡ false → n ≡ content_len t
-    blank_last b = sym (last_at t (n - 1) (omega (arith, g.within)) b (rw before g.blanks) ∙ before)
-
-    pub blank_next : blank (get_or t (n - 1) 0) ≡ true → BlankFrom t (n - 1)
-    blank_next b = record { within = omega (arith, g.within); blanks = more_at t (n - 1) (omega (arith, g.within)) b (rw before g.blanks) }
-
-  pub blank_whole : n ≤ 0 → 0 ≡ content_len t
-  blank_whole z = let k : n ≡ 0 = omega arith in sym (content_none t (rw k at g.blanks))
-
--- the parts of a text that code makes
-pub trimmed_parts : (t : List ℕ) (start n : ℕ) → start ≡ 0 + run blank (drop 0 t) → (rest part : List ℕ) → rest ≡ take (length t - start) (drop start t)
-    → n ≡ content_len rest → part ≡ take (n - 0) (drop 0 rest) → part ≡ trimmed t
-unfolding trimmed
-trimmed_parts t start n q rest part a k p =
-    let k0 : n - 0 ≡ n = omega arith in
-    let z : start ≡ run blank t = omega arith in
-    p ∙ rw (k0, k, a, part_rest t start, z)
-
--- ---- how long
+content_whole [] b h = rw h
+content_whole (x ∷ t) b h = rw (all_last t b, h, and-false (all blank t), and-false (blank x), content_whole t b h)
 
 content_le : (t : List ℕ) → content_len t ≤ length t
 unfolding content_len
 content_le [] = omega arith
 content_le (b ∷ t) = cond_has (λ n. n ≤ suc (length t)) (all blank (b ∷ t)) 0 (suc (content_len t)) (λ _. omega arith) (λ _. omega (arith, content_le t))
+
+-- a text by its last byte, as code finds it
+module _ {t : List ℕ} (front : List ℕ) (last : ℕ) (q : t ≡ front ++ (last ∷ [])) where
+  pub content_next : blank last ≡ true → take (content_len t) t ≡ take (content_len front) front
+  content_next h = rw (q, content_blank front last h) (take-append-le (content_len front) front (last ∷ []) (content_le front))
+
+  pub content_here : blank last ≡ false → t ≡ take (content_len t) t
+  content_here h = sym (take_all (content_len t) t (let k : content_len t ≡ length t = rw q (content_whole front last h) in omega arith))
+
+pub content_over : (t : List ℕ) → length t ≡ 0 → t ≡ take (content_len t) t
+unfolding content_len
+content_over [] h = refl
+content_over (b ∷ t) h = absurd (not-suc-le-zero {n = length t} (omega arith))
+
+-- the parts of a text that code makes
+pub trimmed_parts : (t : List ℕ) (start : ℕ) → start ≡ 0 + run blank (drop 0 t) → (rest part : List ℕ) → rest ≡ take (length t - start) (drop start t)
+    → part ≡ take (content_len rest) rest → part ≡ trimmed t
+unfolding trimmed
+trimmed_parts t start q rest part a p =
+    let z : start ≡ run blank t = omega arith in
+    p ∙ rw (a, part_rest t start, z)
+
+-- ---- how long
 
 pub trimmed_le : (t : List ℕ) → length (trimmed t) ≤ length t
 unfolding trimmed

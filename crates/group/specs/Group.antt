@@ -1,7 +1,7 @@
 -- The groups of an address field that lose a member: "If any member of a group has a non-ASCII address without an alternative, the
 -- whole group becomes the pieces before its colon, `Internationalized Address`, encoded words of everything between its colon and
 -- semicolon (spaces and TABs at both ends dropped), `Removed:;`."
-use Rattle.std.specs.Prelude.{◌≡◌, Bool, true, false, cond, not, ◌&&◌, ◌||◌, List, [], ◌∷◌, ◌++◌, ℕ, ◌+◌, ◌-◌, ◌≤◌, ◌<◌, length, take, drop}
+use Rattle.std.specs.Prelude.{◌≡◌, Bool, true, false, cond, not, ◌&&◌, ◌||◌, List, [], ◌∷◌, ◌++◌, ℕ, ◌+◌, ◌-◌, ◌≤◌, ◌<◌, length, take, drop, Option, Some, None}
 use Rattle.lists.specs.Byte.{is_ascii}
 use Rattle.lists.specs.Lists.{all}
 use Rattle.rules.specs.declared.Rules.{Rules}
@@ -10,6 +10,8 @@ use Rattle.address_list.specs.declared.PartKind.{PartKind}
 use Rattle.address_list.specs.declared.PartKind.TheVariants.{Blank, Comment, Comma, Colon, Semicolon, Phrase, Address, Angled, Alternative, Stray}
 use Rattle.group.specs.declared.Next.{Next}
 use Rattle.group.specs.declared.Group.{Group}
+use Rattle.group.specs.declared.TurnKind.{TurnKind}
+use Rattle.group.specs.declared.TurnKind.TheVariants.{OnePart, LostGroup}
 
 -- a group's colon
 abbrev pub is_colon : PartKind → Bool
@@ -92,9 +94,8 @@ turns_of ps = turns_from false ps
 abbrev pub parts_at : Rules → List ℕ → ℕ → List Part
 parts_at rules s at = parts_from rules 0 (drop at s)
 
--- The answer r is the group whose colon stands before `at`: whether it loses a member, where its semicolon stands, and the place after it.
+-- The answer r is the group whose colon stands before `at`: where its semicolon stands, and the place after it.
 pub record GroupAt (rules : Rules) (s : List ℕ) (at : ℕ) (r : Group) : Type 0 where
-  pub lost : r.lost ≡ any_lost (inside (parts_at rules s at))
   pub text : text_of (inside (parts_at rules s at)) ≡ take (r.end - at) (drop at s)
   pub after : r.next ≡ r.end + length (semicolon_of (parts_at rules s at))
   pub beyond : turns_from true (parts_at rules s at) ≡ turns_from false (parts_at rules s r.next)
@@ -102,13 +103,24 @@ pub record GroupAt (rules : Rules) (s : List ℕ) (at : ℕ) (r : Group) : Type 
   pub on : r.end ≤ r.next
   pub within : r.next ≤ length s
 
--- a turn by whether it is a group that loses a member, else the kind of its part; and by its bytes
-abbrev pub turn_for : Bool → PartKind → List ℕ → Turn
-turn_for lost kind t = cond lost (Turn.lost_group t) (Turn.part kind t)
+-- the group whose colon stands before `at`, where it loses a member
+abbrev pub LostAt : Rules → List ℕ → ℕ → Option Group → Type 0
+LostAt rules s at None = any_lost (inside (parts_at rules s at)) ≡ false
+LostAt rules s at (Some r) = (any_lost (inside (parts_at rules s at)) ≡ true) × GroupAt rules s at r
+
+-- a turn by what is written, a part of a kind or a group that loses a member, and by its bytes
+abbrev pub turn_for : TurnKind → List ℕ → Turn
+turn_for (OnePart kind) t = Turn.part kind t
+turn_for LostGroup t = Turn.lost_group t
+
+-- where the address that a turn's part names ends in it
+abbrev pub turn_inner : TurnKind → ℕ
+turn_inner (OnePart kind) = inner_end kind
+turn_inner LostGroup = 0
 
 -- the turn past the end of a text: an empty one
 unfoldable pub no_turn : ℕ → Next
-no_turn at = record { lost = false; kind = Stray; start = at; end = at; next = at }
+no_turn at = record { kind = OnePart Stray; start = at; end = at; next = at }
 
 -- The turn at a place, by the parts from there on, the first of which is p: the group whose colon it is, where that loses a member, or else p.
 unfoldable pub next_of : ℕ → List Part → Next
@@ -116,15 +128,15 @@ next_of at [] = no_turn at
 next_of at (p ∷ ps) =
     let start = at + length p.text in
     let end = start + length (text_of (inside ps)) in
-    cond (is_colon p.kind && any_lost (inside ps)) (record { lost = true; kind = p.kind; start = start; end = end; next = end + length (semicolon_of ps) })
-    (record { lost = false; kind = p.kind; start = at; end = start; next = start })
+    cond (is_colon p.kind && any_lost (inside ps)) (record { kind = LostGroup; start = start; end = end; next = end + length (semicolon_of ps) })
+    (record { kind = OnePart p.kind; start = at; end = start; next = start })
 
 -- The answer r is the turn at a place of a text, and after it come the turns from `r.next` on.
 pub record NextAt (rules : Rules) (s : List ℕ) (at : ℕ) (r : Next) : Type 0 where
   pub equal : r ≡ next_of at (parts_at rules s at)
-  pub is : turns_from false (parts_at rules s at) ≡ turn_for r.lost r.kind (take (r.end - r.start) (drop r.start s)) ∷ turns_from false (parts_at rules s r.next)
+  pub is : turns_from false (parts_at rules s at) ≡ turn_for r.kind (take (r.end - r.start) (drop r.start s)) ∷ turns_from false (parts_at rules s r.next)
   pub ordered : r.start ≤ r.end
-  pub inner : inner_end r.kind ≤ r.end - r.start
+  pub inner : turn_inner r.kind ≤ r.end - r.start
   pub on : at < r.next
   pub covers : r.end ≤ r.next
   pub within : r.next ≤ length s

@@ -7,7 +7,7 @@ mod member;
 mod text;
 
 ghost use Rattle.std.specs.Prelude.{◌≡◌, ◌≤◌, ◌<◌, length};
-ghost use Rattle.group.specs.Group.{GroupAt, NextAt, NextFrom, next_of, parts_at};
+ghost use Rattle.group.specs.Group.{LostAt, NextAt, NextFrom, next_of, parts_at};
 
 use crate::mark::{is_colon, is_semicolon};
 use crate::member::is_lost;
@@ -15,29 +15,33 @@ use address_list::{PartKind, part_from};
 use rules::Rules;
 pub use text::trimmed;
 
-// A group: whether it loses a member, where its semicolon stands, and the place after it.
+// A group: where its semicolon stands, and the place after it.
 #[derive(Clone, Copy)]
 struct Group {
-    pub lost: bool,
     pub end: usize,
     pub next: usize,
 }
 
-// What is written at a turn: a group that loses a member, with the place of what stands between its colon and its semicolon; or else
-// a part of this kind, with its place. Then the place after it.
-#[derive(Clone, Copy)]
+// What is written at a turn: a part, or a group that loses a member.
+#[derive(Clone, Copy, Debug, PartialEq, Eq)]
+pub enum TurnKind {
+    OnePart(PartKind),
+    LostGroup,
+}
+
+// A turn: the place of its part, or of what stands between its group's colon and semicolon; and the place after it.
+#[derive(Clone, Copy, Debug, PartialEq, Eq)]
 pub struct Next {
-    pub lost: bool,
-    pub kind: PartKind,
+    pub kind: TurnKind,
     pub start: usize,
     pub end: usize,
     pub next: usize,
 }
 
-// The group whose colon stands before a place.
-fn group_at(s: &[u8], at: usize, rules: Rules) -> Group
+// The group whose colon stands before a place, where it loses a member.
+fn lost_group(s: &[u8], at: usize, rules: Rules) -> Option<Group>
     requires { at ≤ length s.now }
-    ensures { GroupAt rules s.now at result }
+    ensures { LostAt rules s.now at result }
 {
     let mut lost = false;
     let mut i = at;
@@ -46,20 +50,12 @@ fn group_at(s: &[u8], at: usize, rules: Rules) -> Group
         let kind = f.kind;
         let e = i + f.size;
         if is_semicolon(kind) {
-            return Group {
-                lost,
-                end: i,
-                next: e,
-            };
+            return lost.then_some(Group { end: i, next: e });
         }
         lost = lost | is_lost(&s[i..e], kind);
         i = e;
     }
-    Group {
-        lost,
-        end: i,
-        next: i,
-    }
+    lost.then_some(Group { end: i, next: i })
 }
 
 // The turn at a place inside a text.
@@ -71,11 +67,9 @@ fn next_at(s: &[u8], at: usize, rules: Rules) -> Next
     let kind = f.kind;
     let e = at + f.size;
     if is_colon(kind) {
-        let g = group_at(s, e, rules);
-        if g.lost {
+        if let Some(g) = lost_group(s, e, rules) {
             return Next {
-                lost: true,
-                kind,
+                kind: TurnKind::LostGroup,
                 start: e,
                 end: g.end,
                 next: g.next,
@@ -83,8 +77,7 @@ fn next_at(s: &[u8], at: usize, rules: Rules) -> Next
         }
     }
     Next {
-        lost: false,
-        kind,
+        kind: TurnKind::OnePart(kind),
         start: at,
         end: e,
         next: e,
@@ -97,8 +90,7 @@ pub fn next_from(s: &[u8], at: usize, rules: Rules) -> Next
 {
     if s.len() <= at {
         return Next {
-            lost: false,
-            kind: PartKind::Stray,
+            kind: TurnKind::OnePart(PartKind::Stray),
             start: at,
             end: at,
             next: at,

@@ -8,34 +8,12 @@ use address_list::PartKind;
 pub(crate) fn is_colon(kind: PartKind) -> bool
     ensures { result ≡ is_colon kind }
 {
-    match kind {
-        PartKind::Blank => false,
-        PartKind::Comment => false,
-        PartKind::Comma => false,
-        PartKind::Colon => true,
-        PartKind::Semicolon => false,
-        PartKind::Phrase => false,
-        PartKind::Address => false,
-        PartKind::Angled(_, _) => false,
-        PartKind::Alternative(_, _) => false,
-        PartKind::Stray => false,
-    }
+    matches!(kind, PartKind::Colon)
 }
 
 // Whether it is a group's semicolon.
 pub(crate) fn is_semicolon(kind: PartKind) -> bool
     ensures { result ≡ is_semicolon kind }
 {
-    match kind {
-        PartKind::Blank => false,
-        PartKind::Comment => false,
-        PartKind::Comma => false,
-        PartKind::Colon => false,
-        PartKind::Semicolon => true,
-        PartKind::Phrase => false,
-        PartKind::Address => false,
-        PartKind::Angled(_, _) => false,
-        PartKind::Alternative(_, _) => false,
-        PartKind::Stray => false,
-    }
+    matches!(kind, PartKind::Semicolon)
 }

@@ -1,20 +1,19 @@
 // A text without the blanks at its ends.
-ghost use Rattle.std.specs.Prelude.{◌≡◌};
+ghost use Rattle.std.specs.Prelude.{◌≡◌, take};
 ghost use Rattle.group.specs.Trimmed.{content_len, trimmed};
 
-// How many bytes there are up to the last that is no blank, and with it.
-fn content_len(t: &[u8]) -> usize
-    ensures { result ≡ content_len t.now }
+// A text without the blanks at its end.
+fn content(t: &[u8]) -> &[u8]
+    ensures { result.now ≡ take (content_len t.now) t.now }
 {
-    let mut n = t.len();
-    while 0 < n {
-        let last = n - 1;
-        if !line::is_blank(t[last]) {
-            return n;
+    let mut rest = t;
+    while let Some((last, front)) = rest.split_last() {
+        if !line::is_blank(*last) {
+            return rest;
         }
-        n = last;
+        rest = front;
     }
-    0
+    rest
 }
 
 // A text without the blanks at its ends.
@@ -23,5 +22,5 @@ pub fn trimmed(t: &[u8]) -> &[u8]
 {
     let start = line::blanks_end(t, 0);
     let rest = line::part(t, start, t.len());
-    line::part(rest, 0, content_len(rest))
+    content(rest)
 }

@@ -1,6 +1,6 @@
 -- Laws of fields that are wholly ASCII, one after another.
 use Rattle.std.specs.Prelude.{◌≡◌, refl, true, not, ◌&&◌, ℕ, zero, suc, ◌+◌, ◌-◌, ◌≤◌, ◌<◌, leb, eqb, get_or}
-use Rattle.std.proofs.Common.{sym, ap, ◌∙◌, eqb→eq, length-append, length-take, take-append-drop, drop_of_length-le, take-add, take_at, drop-drop, get_or-drop, get_or-take}
+use Rattle.std.proofs.Common.{sym, ap, ◌∙◌, eqb→eq, length-append, take-append-drop, take-add, take_at, drop-drop, get_or-drop, get_or-take}
 use Rattle.std.proofs.Math.Bool.{false}
 use mathlib.Core.List.{List, [], ◌∷◌, ◌++◌, append-nil}
 use native.Mathlib.Omega.{arith}

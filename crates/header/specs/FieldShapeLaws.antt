@@ -1,5 +1,5 @@
 -- A header without malformed lines is a row of fields; the text of such a field.
-use Rattle.std.specs.Prelude.{◌≡◌, Bool, false, not, ◌&&◌, ◌||◌, ℕ, zero, suc, ◌+◌, ◌-◌, ◌≤◌, ◌<◌, leb, eqb, length, take, drop, get_or}
+use Rattle.std.specs.Prelude.{◌≡◌, Bool, false, not, ◌&&◌, ◌||◌, ℕ, zero, suc, ◌+◌, ◌-◌, ◌≤◌, ◌<◌, leb, eqb, length, take, drop, get_or, Ok}
 use Rattle.std.proofs.Math.Path.{refl}
 use Rattle.std.proofs.Common.{ap, sym, ◌∙◌, add-zero, arith, eqb→eq, lt→ltb, length-append, length-drop, take-append-drop, drop-drop, length-take-le, take_at, drop_at}
 use Rattle.std.proofs.Math.Bool.{true, and-false, and_assoc}
@@ -16,14 +16,13 @@ use Rattle.lists.specs.Run.{run}
 use Rattle.lists.specs.RunLaws.{run_all, run_past}
 use Rattle.utf8.specs.Utf8.{utf8}
 use Rattle.utf8.specs.Utf8Laws.{utf8_right, utf8_append, utf8_ascii, utf8_cut}
-use Rattle.header_line.specs.Lines.{line_byte, name_byte, name_len, named, continuation, well_formed, line_ok, checked_lines}
+use Rattle.header_line.specs.Lines.{line_byte, name_byte, name_len, named, continuation, well_formed, line_ok, checked_lines, bad_line}
 use Rattle.line.specs.Line.{blank, crlf, line_len, not_cr}
 use Rattle.header_line.specs.LineLaws.{lines_at, front_good, front_bad}
 use Rattle.line.specs.LineLaws.{crlf_inside}
 use Rattle.header.specs.Fields.{fold, field_len, fields_of, name_of, value_of, unfolded_after, trimmed, text_of}
 use Rattle.header.specs.FieldLaws.{ends, len_cons, len_past, fields_nil, fields_front}
 use Rattle.header.specs.FieldShape.{piece, continued, folded, Shaped, Each, without_breaks}
-use Rattle.header_line.specs.declared.LineCheck.TheVariants.{WellFormed, Malformed}
 
 -- ---- pieces
 
@@ -301,11 +300,11 @@ cut_line n at h k t =
       shorter = rw length-drop (omega arith);
     }
 
-different : {n at : ℕ} → Malformed n at ≡ WellFormed → ⊥
+different : {n at : ℕ} → bad_line n at ≡ Ok tt → ⊥
 different e = let z : ◌≡◌ {A = ℕ} 0 1 = cc in omega arith
 
 -- where the lines are well formed, the first one is
-first_well : (n at : ℕ) (h : List ℕ) → 0 < length h → lines_at n at h ≡ WellFormed → T (line_ok (eqb n 0) h)
+first_well : (n at : ℕ) (h : List ℕ) → 0 < length h → lines_at n at h ≡ Ok tt → T (line_ok (eqb n 0) h)
 first_well n at h k e =
     by_test (line_ok (eqb n 0) h) (λ t. t) (λ t. absurd (different (sym (front_bad n at h k (no_false (line_ok (eqb n 0) h) t)) ∙ e)))
 
@@ -314,7 +313,7 @@ follow_none [] k = Follow.starts fresh_nil
 follow_none (b ∷ rest) k = absurd (omega arith)
 
 -- by the number of bytes
-follow : (m n at : ℕ) (h : List ℕ) → length h ≤ m → lines_at n at h ≡ WellFormed → Follow h
+follow : (m n at : ℕ) (h : List ℕ) → length h ≤ m → lines_at n at h ≡ Ok tt → Follow h
 follow zero n at h k e = follow_none h k
 follow (suc m) n at h k e =
     by_test (leb 1 (length h))
@@ -329,7 +328,7 @@ unfolding continuation
 first_named line t = rw and-false at (well_parts true line t).1
 
 -- each field of a header without malformed lines is a name, a colon, a value and CRLF
-pub fields_shaped : (h : List ℕ) → checked_lines h ≡ WellFormed → Each Shaped (fields_of h)
+pub fields_shaped : (h : List ℕ) → checked_lines h ≡ Ok tt → Each Shaped (fields_of h)
 unfolding checked_lines
 fields_shaped [] e = rw fields_nil tt
 fields_shaped (b ∷ rest) e =

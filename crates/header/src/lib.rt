@@ -27,9 +27,6 @@ fn ends_at(h: &[u8], i: usize) -> bool
 pub fn field_end(h: &[u8], at: usize) -> usize
     ensures { result ≡ at + field_len (drop at h.now) }
 {
-    if h.len() <= at {
-        return at;
-    }
     let mut i = line::next_cr(h, at);
     while i < h.len() {
         if ends_at(h, i) {
@@ -45,12 +42,10 @@ fn last_field_end(h: &[u8], at: usize, to: usize) -> usize
     requires { (at ≤ to) × (to ≤ length h.now) }
     ensures { LastEnd h.now at to result }
 {
-    let mut i = to;
-    while 2 <= i - at {
-        if ends_at(h, i - 2) {
-            return i;
+    for i in (at + 1..to).rev() {
+        if ends_at(h, i - 1) {
+            return i + 1;
         }
-        i -= 1;
     }
     at
 }
@@ -90,12 +85,10 @@ pub fn line_count(s: &[u8]) -> usize
     ensures { result ≡ line_count s.now }
 {
     let mut n: usize = 0;
-    let mut i = 0;
-    while i < s.len() {
+    for i in 0..s.len() {
         if line::crlf_at(s, i) {
             n += 1;
         }
-        i += 1;
     }
     n
 }

@@ -3,27 +3,15 @@
 // cases stand in `stdin`.
 #![tactic(auto)]
 
-use header_line::LineCheck;
 use header_name::Kind;
-use outgoing_field::HeldField;
 use rules::Rules;
 use std::io;
 
-fn say(rt: &impl Print, words: &[u8]) -> io::Result<()> {
-    rt.write_all(words)
-}
-
-fn number(rt: &impl Print, n: usize) -> io::Result<()> {
-    print!(rt; "{n}")
-}
-
 // What becomes of a field, nothing where it is held; and the words of its text.
 fn write(out: &mut [u8], field: &[u8]) -> usize {
-    let looked = outgoing_field::first_held(Rules::Spool, field);
-    let held = looked.held;
-    match held {
-        HeldField::Absent => outgoing_field::add_field(out, 0, Rules::Spool, field),
-        HeldField::At(_, _) => 0,
+    match outgoing_field::first_held(Rules::Spool, field) {
+        Ok(_) => outgoing_field::add_field(out, 0, Rules::Spool, field),
+        Err(_) => 0,
     }
 }
 
@@ -35,10 +23,9 @@ fn write_words(out: &mut [u8], field: &[u8]) -> usize {
 
 // A length, and then what is written, as far as it fits the buffer.
 fn written(rt: &impl Print, label: &[u8], n: usize, out: &[u8]) -> io::Result<()> {
-    say(rt, label)?;
-    number(rt, n)?;
-    say(rt, b"\r\n")?;
-    say(rt, line::part(out, 0, n))
+    rt.write_all(label)?;
+    print!(rt; "{n}\r\n")?;
+    rt.write_all(line::part(out, 0, n))
 }
 
 fn show_written(rt: &impl Print, field: &[u8]) -> io::Result<()> {
@@ -51,20 +38,20 @@ fn show_words(rt: &impl Print, field: &[u8]) -> io::Result<()> {
     let mut out = [0u8; 4096];
     let n = write_words(&mut out, field);
     written(rt, b", words of ", n, &out)?;
-    say(rt, b"\r\n")
+    print!(rt; "\r\n")
 }
 
 fn say_kind(rt: &impl Print, kind: Kind) -> io::Result<()> {
     match kind {
-        Kind::Address => say(rt, b"address"),
-        Kind::PlainText => say(rt, b"plain text"),
-        Kind::Received => say(rt, b"Received"),
-        Kind::Commented => say(rt, b"with comments"),
-        Kind::MessageId => say(rt, b"with comments"),
-        Kind::Parameterized => say(rt, b"with parameters"),
-        Kind::OtherCommented => say(rt, b"other"),
-        Kind::Other => say(rt, b"other"),
-        _ => say(rt, b"held"),
+        Kind::Address => print!(rt; "address"),
+        Kind::PlainText => print!(rt; "plain text"),
+        Kind::Received => print!(rt; "Received"),
+        Kind::Commented => print!(rt; "with comments"),
+        Kind::MessageId => print!(rt; "with comments"),
+        Kind::Parameterized => print!(rt; "with parameters"),
+        Kind::OtherCommented => print!(rt; "other"),
+        Kind::Other => print!(rt; "other"),
+        _ => print!(rt; "held"),
     }
 }
 
@@ -73,10 +60,10 @@ fn show_field(rt: &impl Print, field: &[u8]) -> io::Result<()> {
     let kind = header_name::kind_of(line::part(field, 0, n));
     say_kind(rt, kind)?;
     if header::value_is_ascii(field) {
-        say(rt, b", ASCII")?;
+        print!(rt; ", ASCII")?;
         return show_written(rt, field);
     }
-    say(rt, b", not ASCII")?;
+    print!(rt; ", not ASCII")?;
     match kind {
         Kind::Address => show_words(rt, field),
         _ => show_written(rt, field),
@@ -84,7 +71,7 @@ fn show_field(rt: &impl Print, field: &[u8]) -> io::Result<()> {
 }
 
 fn show_fields(rt: &impl Print, h: &[u8]) -> io::Result<()> {
-    say(rt, b"well formed\r\n")?;
+    print!(rt; "well formed\r\n")?;
     let mut at = 0;
     while at < h.len() {
         let to = header::field_end(h, at);
@@ -95,26 +82,23 @@ fn show_fields(rt: &impl Print, h: &[u8]) -> io::Result<()> {
 }
 
 fn refused(rt: &impl Print, number_and_words: &[u8], line: usize) -> io::Result<()> {
-    say(rt, number_and_words)?;
-    number(rt, line)?;
-    say(rt, b"\r\n")
+    rt.write_all(number_and_words)?;
+    print!(rt; "{line}\r\n")
 }
 
 fn show_well_formed(rt: &impl Print, h: &[u8]) -> io::Result<()> {
-    let looked = outgoing_field::first_held(Rules::Spool, h);
-    let held = looked.held;
-    match held {
-        HeldField::Absent => show_fields(rt, h),
-        HeldField::At(line, _) => refused(rt, b"6 at line ", line),
+    match outgoing_field::first_held(Rules::Spool, h) {
+        Ok(_) => show_fields(rt, h),
+        Err(held) => refused(rt, b"6 at line ", held.line),
     }
 }
 
 fn show(rt: &impl Print, label: &[u8], h: &[u8]) -> io::Result<()> {
-    say(rt, label)?;
-    say(rt, b": ")?;
+    rt.write_all(label)?;
+    print!(rt; ": ")?;
     match header_line::check(h) {
-        LineCheck::WellFormed => show_well_formed(rt, h),
-        LineCheck::Malformed(line, _) => refused(rt, b"5 at line ", line),
+        Ok(()) => show_well_formed(rt, h),
+        Err(bad) => refused(rt, b"5 at line ", bad.line),
     }
 }
 
@@ -122,26 +106,20 @@ fn show(rt: &impl Print, label: &[u8], h: &[u8]) -> io::Result<()> {
 fn show_buffer(rt: &impl Print, out: &mut [u8], field: &[u8], size: usize) -> io::Result<()> {
     let end = case_line::room(size, out);
     let n = write(&mut out[..end], field);
-    say(rt, b"buffer of ")?;
-    number(rt, end)?;
-    say(rt, b", ")?;
-    number(rt, n)?;
-    say(rt, b"\r\n")?;
-    say(rt, out)?;
-    say(rt, b"\r\n")
+    print!(rt; "buffer of {end}, {n}\r\n")?;
+    rt.write_all(out)?;
+    print!(rt; "\r\n")
 }
 
 // The length of what is written for a field.
 fn show_size(rt: &impl Print, field: &[u8]) -> io::Result<()> {
     let mut none = [0u8; 0];
-    say(rt, b"field of ")?;
-    number(rt, field.len())?;
-    say(rt, b", ")?;
-    number(rt, write(&mut none, field))?;
-    say(rt, b"\r\n")
+    print!(rt; "field of {}", field.len())?;
+    print!(rt; ", {}\r\n", write(&mut none, field))
 }
 
 // A line of the input; where it is a case, the first letter of its kind tells what is shown.
+// Kept: the letter is the case's own column, and each kind takes other columns.
 fn show_line(rt: &impl Print, line: &[u8]) -> io::Result<()> {
     if !case_line::is_case(line) {
         return Ok(());
@@ -155,21 +133,15 @@ fn show_line(rt: &impl Print, line: &[u8]) -> io::Result<()> {
         b'h' => show(rt, case_line::column(line, 1), text),
         b'b' => show_buffer(rt, &mut out, text, size),
         b's' => show_size(rt, text),
-        _ => say(rt, b"NO KIND OF CASE\r\n"),
+        _ => print!(rt; "NO KIND OF CASE\r\n"),
     }
 }
 
-fn show_lines(rt: &impl Print, cases: &[u8]) -> io::Result<()> {
-    let mut at = 0;
-    while at < cases.len() {
-        let end = case_line::find(cases, at, b'\n');
-        show_line(rt, line::part(cases, at, end))?;
-        at = buffer::place_after(end, 1);
-    }
-    Ok(())
-}
-
+// Kept: one loop for all programs would take a closure, and a public function may not require that it can be called.
 fn main(rt: HostRuntime) -> io::Result<()> {
     let input = program_input::read(rt.alloc(), rt.reader(), 65536)?;
-    show_lines(&rt, &input)
+    for line in input.split(|b| *b == b'\n') {
+        show_line(&rt, line)?;
+    }
+    Ok(())
 }

@@ -1,8 +1,8 @@
 -- Whole headers by windows: UTF-8 without NUL, without lone CR or LF, that ends in LF.
-use Rattle.std.specs.Prelude.{◌≡◌, Bool, not, ◌&&◌, ◌||◌, List, ℕ, ◌+◌, ◌-◌, ◌≤◌, ◌<◌, T, eqb, ltb, length, drop, get_or}
+use Rattle.std.specs.Prelude.{◌≡◌, Bool, not, ◌&&◌, ◌||◌, List, ℕ, ◌+◌, ◌<◌, T, eqb, ltb, length, get_or}
 use Rattle.lists.specs.Byte.{is_ascii}
 use Rattle.utf8.specs.Utf8.{utf8}
-use Rattle.utf8.specs.Window.{placed, placed3, window_at, all_at}
+use Rattle.utf8.specs.Window.{placed, placed3}
 
 -- a byte d after c: no NUL, and a LF just where a CR stands before it
 unfoldable pub line_after : ℕ → ℕ → Bool

@@ -1,26 +1,24 @@
 -- Laws of clean headers: how blocks of windows show that a header is clean, and that each of its lines then ends at the next CR and holds
 -- what a line may hold.
-use Rattle.std.specs.Prelude.{◌≡◌, refl, Bool, true, false, not, ◌&&◌, ◌||◌, List, [], ◌∷◌, ◌++◌, ℕ, zero, suc, ◌+◌, ◌-◌, ◌≤◌, ◌<◌, T, leb, eqb, length, take, drop}
-use Rattle.std.proofs.Common.{ap, sym, ◌∙◌, not-suc-le-zero, add-zero, zero-add, add-one, arith, lt→ltb, length-drop, length-take, take-append-drop, drop-cons, drop-drop, get_or-drop, get_or-take, length-take-le, ne_eqb, lt-ltb, eq-eqb}
+use Rattle.std.specs.Prelude.{◌≡◌, refl, Bool, true, false, ◌&&◌, List, [], ◌∷◌, ◌++◌, ℕ, zero, suc, ◌+◌, ◌-◌, ◌≤◌, ◌<◌, T, eqb, length, take, drop}
+use Rattle.std.proofs.Common.{ap, sym, ◌∙◌, add-zero, zero-add, add-one, arith, length-drop, take-append-drop, drop-cons, drop-drop, get_or-drop, get_or-take, length-take-le, ne_eqb}
 use Rattle.std.proofs.Math.Dec.{ltb, eqb→eq}
 use Rattle.std.proofs.Math.ListN.{get_or}
-use Rattle.std.proofs.lemmas.Bool.{lt-leb}
-use Rattle.std.proofs.Math.Facts.{and_yes, yes_and, ltb_yes, ltb_no, leb_yes, leb_no, eqb_yes, eqb_no, no_eqb}
+use Rattle.std.proofs.Math.Facts.{and_yes, yes_and, ltb_yes, ltb_no}
 use Rattle.lists.specs.Lists.{all}
 use Rattle.lists.specs.ListsLaws.{by_test, yes_true, true_yes, no_false, all_at_lem}
-use Rattle.lists.specs.Byte.{is_ascii, within}
+use Rattle.lists.specs.Byte.{is_ascii}
 use Rattle.lists.specs.Run.{run}
 use Rattle.lists.specs.RunLaws.{run_le, run_all, run_step}
 use Rattle.utf8.specs.Utf8.{utf8}
 use Rattle.utf8.specs.Utf8Laws.{utf8_right, utf8_ascii, utf8_cut}
-use Rattle.utf8.specs.Window.{placed, placed3, whole, starts, window_at, all_at}
-use Rattle.utf8.specs.WindowLaws.{placed_first, to_whole, all_at_here, all_at_make, three_block, Clear, clear_over, clear_block, clear_all_lem, utf8_windows}
+use Rattle.utf8.specs.Window.{placed, placed3, starts, window_at, all_at}
+use Rattle.utf8.specs.WindowLaws.{placed_first, to_whole, all_at_here, all_at_make, three_block, window_part, Clear, clear_over, utf8_windows}
 use Rattle.line.specs.Line.{crlf, not_cr, cr_run}
 use Rattle.line.specs.LineLaws.{crlf_at_lem, cr_there}
 use Rattle.line.specs.CrLaws.{CrStep}
-use Rattle.header_line.specs.declared.LineCheck.TheVariants.{Malformed}
-use Rattle.header_line.specs.Lines.{line_byte, checked_lines}
-use Rattle.header_line.specs.LineLaws.{passed_part, crlf_text, TextEnd, Stopped, text_end_lem, shaped_to, Lined, lined_shape, lined_good, Left, left_all, left_bad, left_next}
+use Rattle.header_line.specs.Lines.{line_byte, checked_lines, bad_line}
+use Rattle.header_line.specs.LineLaws.{passed_part, crlf_text, TextEnd, text_end_lem, shaped_to, GoodLine, lined_shape, lined_good, Left, left_all, left_bad, left_next}
 use Rattle.header_line.specs.Clean.{line_after, line_placed, line_placed3, calm, lines_start, lines_end, Clean}
 
 -- ---- a byte after another
@@ -92,6 +90,15 @@ line_block h at n small t =
     both : (k : ℕ) → k < n → T (window_at placed3 h (at + k)) × T (after k)
     both k l = and_yes (window_at placed3 h (at + k)) (after k) (all_at_here (window_at line_placed3 h) at n t k l)
 
+-- the windows of the bytes from `at` on, as code cuts them out
+pub block_windows : (f : ℕ → ℕ → ℕ → ℕ → Bool) (h : List ℕ) (at n : ℕ) → at + n + 3 ≤ length h
+    → all_at (window_at f (take (at + n + 3 - at) (drop at h))) 0 (length (take (at + n + 3 - at) (drop at h)) - 3) ≡ all_at (window_at f h) at n
+block_windows f h at n k =
+    let cut : at + n + 3 - at ≡ n + 3 = omega arith in
+    let size : length (take (n + 3) (drop at h)) ≡ n + 3 = length-take-le (n + 3) (drop at h) (omega (arith, length-drop at h)) in
+    let few : n + 3 - 3 ≡ n = omega arith in
+    rw (cut, size, few) (window_part f h at n)
+
 -- what code answers of a block of ASCII
 pub record Calm (h : List ℕ) (at : ℕ) (r : Bool) : Type 0 where
   pub fits : r ≡ true → at + 67 ≤ length h
@@ -118,15 +125,12 @@ calm_by h at r k e f =
 
 -- blocks are passed over from a place to another
 pub record Advance (h : List ℕ) (at r : ℕ) : Type 0 where
-  pub up : at ≤ r
+  pub up : at < r
   pub inside : r + 3 ≤ length h
   pub clear : Clear (window_at line_placed h) at → Clear (window_at line_placed h) r
 
-pub advance_none : {h : List ℕ} {at : ℕ} → at + 3 ≤ length h → Advance h at at
-advance_none k = record { up = omega arith; inside = k; clear = λ c. c }
-
-pub advance_by : (h : List ℕ) (at n : ℕ) → at + n + 3 ≤ length h → T (all_at (window_at line_placed h) at n) → Advance h at (at + n)
-advance_by h at n k t = record { up = omega arith; inside = k; clear = λ c. clear_over at n (omega arith) c t }
+pub advance_by : (h : List ℕ) (at n : ℕ) → 0 < n → at + n + 3 ≤ length h → T (all_at (window_at line_placed h) at n) → Advance h at (at + n)
+advance_by h at n some k t = record { up = omega arith; inside = k; clear = λ c. clear_over at n (omega arith) c t }
 
 pub clear_end : (h : List ℕ) {at : ℕ} (last m : ℕ) (r : Bool) → last ≤ at → last + 32 ≡ m → Clear (window_at line_placed h) at
     → r ≡ all_at (window_at line_placed h) last 32 → r ≡ true → Clear (window_at line_placed h) m
@@ -336,12 +340,12 @@ module _ {h : List ℕ} {n at i end next : ℕ} {found : Bool} (clean : Clean h)
       let e = cr_here f in
       (omega (arith, e), omega (arith, lf_inside clean l.begins inside end e))
 
-  lined : found ≡ true → shaped_to 76 (eqb n 0) (take (end - at) (drop at h)) ≡ true → Lined 76 h at (eqb n 0) (end + 2)
-  lined f k = lined_good (clean_text clean l.begins inside end (cr_here f)) (clean_crlf clean l.begins inside end (cr_here f)) k
+  lined : found ≡ true → shaped_to 76 (eqb n 0) (take (end - at) (drop at h)) ≡ true → GoodLine 76 h at (eqb n 0) (end + 2)
+  lined f k = lined_good 76 (eqb n 0) (clean_text clean l.begins inside end (cr_here f)) (clean_crlf clean l.begins inside end (cr_here f)) k
 
-  pub lines_bad : found ≡ true → shaped_to 76 (eqb n 0) (take (end - at) (drop at h)) ≡ false → Malformed n at ≡ checked_lines h
+  pub lines_bad : found ≡ true → shaped_to 76 (eqb n 0) (take (end - at) (drop at h)) ≡ false → bad_line n at ≡ checked_lines h
   lines_bad f k =
-      left_bad l.left inside (lined_shape (clean_text clean l.begins inside end (cr_here f)) (clean_crlf clean l.begins inside end (cr_here f)) k) refl
+      left_bad l.left inside (lined_shape 76 (eqb n 0) (clean_text clean l.begins inside end (cr_here f)) (clean_crlf clean l.begins inside end (cr_here f)) k)
 
   pub lines_next : found ≡ true → shaped_to 76 (eqb n 0) (take (end - at) (drop at h)) ≡ true → Lines h (n + 1) (end + 2) next
   lines_next f k =
@@ -351,7 +355,7 @@ module _ {h : List ℕ} {n at i end next : ℕ} {found : Bool} (clean : Clean h)
       let past : end + 1 + cr_run (drop (end + 1) h) ≡ end + 2 + cr_run (drop (end + 2) h) =
       rw two at (run_step not_cr h (end + 1) (lf_inside clean l.begins inside end e) (rw lf)) in
       record {
-        left = left_next l.left inside (lined f k) (λ z. omega (arith, z, e));
+        left = left_next l.left inside (lined f k);
         begins = clean_next clean l.begins inside end e;
         same = sym past ∙ s.after f (cr_inside clean l.begins inside end e);
       }

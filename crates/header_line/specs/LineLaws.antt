@@ -1,12 +1,12 @@
 -- Laws of lines by position, as code tests them.
-use Rattle.std.specs.Prelude.{◌≡◌, Bool, cond, not, ◌&&◌, ◌||◌, List, [], ◌∷◌, ◌++◌, ℕ, zero, suc, ◌+◌, ◌-◌, ◌≤◌, ◌<◌, T, leb, ltb, eqb, length, take, get_or}
+use Rattle.std.specs.Prelude.{◌≡◌, Bool, cond, not, ◌&&◌, ◌||◌, List, [], ◌∷◌, ◌++◌, ℕ, suc, ◌+◌, ◌-◌, ◌≤◌, ◌<◌, T, leb, ltb, eqb, length, take, get_or, Ok, Option, Some, None}
 use Rattle.std.proofs.Math.Path.{refl, sym}
-use Rattle.std.proofs.Common.{ap, ◌∙◌, not-suc-le-zero, add-zero, suc-add, add-one, arith, le→leb, length-drop, length-take, take-append-drop, drop_of_length-le, drop-cons, drop-drop, get_or-drop, get_or-take, take-take, length-take-le, ne_eqb}
+use Rattle.std.proofs.Common.{ap, ◌∙◌, add-zero, suc-add, add-one, arith, le→leb, length-drop, length-take, take-append-drop, drop_of_length-le, drop-cons, drop-drop, get_or-drop, get_or-take, take-take, length-take-le, ne_eqb}
 use Rattle.std.proofs.Math.Bool.{true, false, and-false, or-false}
 use Rattle.std.proofs.Math.Dec.{eqb→eq}
-use Rattle.std.proofs.Math.ListN.{drop, get_or-eq_default}
+use Rattle.std.proofs.Math.ListN.{drop}
 use Rattle.std.proofs.Math.Seq.{take-append-add, drop-append-add}
-use Rattle.std.proofs.Math.Facts.{and_yes, yes_and, leb_yes, leb_no, ltb_no, eqb_no}
+use Rattle.std.proofs.Math.Facts.{and_yes, yes_and, leb_yes, ltb_no}
 use Rattle.lists.specs.Lists.{all}
 use Rattle.lists.specs.ListsLaws.{by_test, cond_yes, cond_has, yes_true, true_yes, no_false, all_past, all_weaken}
 use Rattle.lists.specs.Byte.{is_ascii, within}
@@ -15,12 +15,10 @@ use Rattle.lists.specs.RunLaws.{run_le, run_all, run_step}
 use Rattle.utf8.specs.Utf8.{char_len, is_char, char_at, utf8}
 use Rattle.utf8.specs.Utf8Laws.{char_len_some, char_high, utf8_right, utf8_ascii, utf8_char, utf8_of}
 use Rattle.utf8.specs.Utf8AtLaws.{whole_char, char_at_some, char_at_within, utf8_stop}
-use Rattle.header_line.specs.Lines.{line_byte, name_byte, name_len, named, named_to, continuation, formed_by, well_formed, line_ok, line_ok_to, line_after, lines_of, lines_from, checked_lines}
+use Rattle.header_line.specs.Lines.{line_byte, name_byte, name_len, named, named_to, continuation, formed_by, well_formed, line_ok, line_ok_to, after_line, lines_of, lines_from, checked_lines, bad_line, LineCheck}
 use Rattle.line.specs.Line.{blank, crlf, line_len}
 use Rattle.lists.specs.CutByLaws.{cut_nil, cut_front}
 use Rattle.line.specs.LineLaws.{crlf_inside, line_front, crlf_front}
-use Rattle.header_line.specs.declared.LineCheck.{LineCheck}
-use Rattle.header_line.specs.declared.LineCheck.TheVariants.{WellFormed, Malformed}
 
 -- ---- the text of a line
 
@@ -218,36 +216,24 @@ module _ (h : List ℕ) (i : ℕ) where
       let front = drop-cons h i 0 k in
       record { ok = rw front (stop_by_lem (get_or h i 0 ∷ drop (suc i) h) (λ n. no_char (get_or h i 0) (drop (suc i) h) n (rw front at e))) }
 
--- a step of code at i: to r, or none where the text stops
-pub record Step (h : List ℕ) (i r : ℕ) : Type 0 where
-  pub passed : Passed h i r
-  pub stop : r ≡ i → Stopped h i
+-- a step of code at i: to a place further on, or none where the text stops
+abbrev pub Step : List ℕ → ℕ → Option ℕ → Type 0
+Step h i None = Stopped h i
+Step h i (Some r) = Passed h i r × (i < r)
 
 module _ (h : List ℕ) (i : ℕ) (k : i < length h) where
-  pub step_plain : (r : ℕ) → plain (get_or h i 0) ≡ true → r ≡ i + run plain (drop i h) → Step h i r
-  step_plain r t e = record {
-    passed = passed_plain h i r (omega arith) e;
-    stop = λ z. absurd (omega (arith, z, e, run_step plain h i k t));
-  }
+  pub step_plain : (r : ℕ) → plain (get_or h i 0) ≡ true → r ≡ i + run plain (drop i h) → Passed h i r × (i < r)
+  step_plain r t e = (passed_plain h i r (omega arith) e, omega (arith, e, run_step plain h i k t))
 
-  pub step_one : plain (get_or h i 0) ≡ true → Step h i (i + 1)
+  pub step_one : plain (get_or h i 0) ≡ true → Passed h i (i + 1) × (i < i + 1)
   step_one e =
       let b = get_or h i 0 in
       let t = true_yes (plain b) e in
       let front : take 1 (drop i h) ≡ b ∷ [] = rw (drop-cons h i 0 k) in
-      record {
-        passed = passed_part h i 1 (omega arith) (rw front (yes_and (line_byte b) true (plain_line b t) tt)) (rw front (utf8_ascii (b ∷ []) (yes_and (is_ascii b) true (plain_ascii b t) tt)));
-        stop = λ z. absurd (omega (arith, z));
-      }
+      (passed_part h i 1 (omega arith) (rw front (yes_and (line_byte b) true (plain_line b t) tt)) (rw front (utf8_ascii (b ∷ []) (yes_and (is_ascii b) true (plain_ascii b t) tt))), omega arith)
 
-  pub step_none : get_or h i 0 < 128 → plain (get_or h i 0) ≡ false → Step h i i
-  step_none low e = record { passed = passed_none (omega arith); stop = λ z. stopped_byte h i k low e }
-
-  pub step_char : (n : ℕ) → 128 ≤ get_or h i 0 → n ≡ char_at (drop i h) → Step h i (i + n)
-  step_char n w e = record {
-    passed = passed_char h i n k w e;
-    stop = λ z. stopped_char h i k (sym e ∙ omega (arith, z));
-  }
+  pub step_char : (n : ℕ) → 128 ≤ get_or h i 0 → 0 < n → n ≡ char_at (drop i h) → Passed h i (i + n) × (i < i + n)
+  step_char n w some e = (passed_char h i n k w e, omega arith)
 
 -- ---- the line at a place
 
@@ -266,38 +252,26 @@ line_ok_lem limit first h =
     let line = take (line_len h) h in
     regroup (crlf (drop (line_len h) h)) (within 1 998 (length line)) (all line_byte line) (utf8 line) (continuation first line || named_to limit line)
 
--- what code answers of the line at `at`: the place after it, or `at` where it is malformed
-pub record Lined (limit : ℕ) (h : List ℕ) (at : ℕ) (first : Bool) (r : ℕ) : Type 0 where
-  pub malformed : r ≡ at → line_ok_to limit first (drop at h) ≡ false
-  pub good : (r ≡ at → ⊥) → line_ok_to limit first (drop at h) ≡ true
-  pub after : (r ≡ at → ⊥) → r ≡ at + (line_len (drop at h) + 2)
+-- the line at `at` is well formed, and r is the place after it
+pub record GoodLine (limit : ℕ) (h : List ℕ) (at : ℕ) (first : Bool) (r : ℕ) : Type 0 where
+  pub good : line_ok_to limit first (drop at h) ≡ true
+  pub after : r ≡ at + (line_len (drop at h) + 2)
   pub inside : r ≤ length h
 
 line_is : {h : List ℕ} {at e : ℕ} → TextEnd h at e → crlf (drop e h) ≡ true → take (line_len (drop at h)) (drop at h) ≡ take (e - at) (drop at h)
 line_is {h} {at} {e} t y = let n : line_len (drop at h) ≡ e - at = omega (arith, t.size y) in rw n
 
-module _ {limit : ℕ} {h : List ℕ} {at e : ℕ} {first : Bool} (t : TextEnd h at e) where
-  pub lined_text : crlf (drop e h) ≡ false → Lined limit h at first at
-  lined_text n = record {
-    malformed = λ z. line_ok_lem limit first (drop at h) ∙ rw (t.ok ∙ n);
-    good = λ z. absurd (z refl);
-    after = λ z. absurd (z refl);
-    inside = omega (arith, t.up, t.inside);
-  }
+module _ (limit : ℕ) {h : List ℕ} {at e : ℕ} (first : Bool) (t : TextEnd h at e) where
+  pub lined_text : crlf (drop e h) ≡ false → line_ok_to limit first (drop at h) ≡ false
+  lined_text n = line_ok_lem limit first (drop at h) ∙ rw (t.ok ∙ n)
 
-  pub lined_shape : crlf (drop e h) ≡ true → shaped_to limit first (take (e - at) (drop at h)) ≡ false → Lined limit h at first at
-  lined_shape y n = record {
-    malformed = λ z. line_ok_lem limit first (drop at h) ∙ rw (line_is t y, n, and-false);
-    good = λ z. absurd (z refl);
-    after = λ z. absurd (z refl);
-    inside = omega (arith, t.up, t.inside);
-  }
+  pub lined_shape : crlf (drop e h) ≡ true → shaped_to limit first (take (e - at) (drop at h)) ≡ false → line_ok_to limit first (drop at h) ≡ false
+  lined_shape y n = line_ok_lem limit first (drop at h) ∙ rw (line_is t y, n, and-false)
 
-  pub lined_good : crlf (drop e h) ≡ true → shaped_to limit first (take (e - at) (drop at h)) ≡ true → Lined limit h at first (e + 2)
+  pub lined_good : crlf (drop e h) ≡ true → shaped_to limit first (take (e - at) (drop at h)) ≡ true → GoodLine limit h at first (e + 2)
   lined_good y s = record {
-    malformed = λ z. absurd (omega (arith, z, t.up));
-    good = λ z. line_ok_lem limit first (drop at h) ∙ rw (line_is t y, s, t.ok ∙ y);
-    after = λ z. omega (arith, t.size y);
+    good = line_ok_lem limit first (drop at h) ∙ rw (line_is t y, s, t.ok ∙ y);
+    after = omega (arith, t.size y);
     inside = crlf_inside h e y;
   }
 
@@ -337,16 +311,36 @@ module _ (limit : ℕ) (first : Bool) (line : List ℕ) where
 
 -- the place after a line, as code answers it
 module _ (limit : ℕ) (h : List ℕ) (at : ℕ) (first : Bool) where
-  pub after_by : {r : ℕ} → Lined limit h at first r → r ≡ line_after limit first h at
-  unfolding line_after
-  after_by {r} d =
-      by_test (eqb r at)
-      (λ t. let e = eqb→eq r at t in rw (d.malformed e) e)
-      (λ t. let n : (r ≡ at → ⊥) = eqb_no {a = r} {b = at} t in rw (d.good n) (d.after n))
+  pub no_line : line_ok_to limit first (drop at h) ≡ false → None ≡ after_line limit first h at
+  unfolding after_line
+  no_line e = rw e
 
-  pub after_end : length h ≤ at → at ≡ line_after limit first h at
-  unfolding line_after line_ok_to crlf line_len
-  after_end k = rw (drop_of_length-le h {i = at} k) refl
+  pub some_line : {r : ℕ} → GoodLine limit h at first r → Some r ≡ after_line limit first h at
+  unfolding after_line
+  some_line g = rw (g.good, g.after)
+
+  pub line_past : length h ≤ at → None ≡ after_line limit first h at
+  unfolding after_line line_ok_to crlf line_len
+  line_past k = rw (drop_of_length-le h {i = at} k) refl
+
+  pub line_bad : None ≡ after_line limit first h at → line_ok_to limit first (drop at h) ≡ false
+  unfolding after_line
+  line_bad e =
+      by_test (line_ok_to limit first (drop at h))
+      (λ t. let z : None ≡ Some (at + (line_len (drop at h) + 2)) = rw (yes_true (line_ok_to limit first (drop at h)) t) at e in cc)
+      (λ t. no_false (line_ok_to limit first (drop at h)) t)
+
+  pub line_good : {r : ℕ} → Some r ≡ after_line limit first h at → GoodLine limit h at first r
+  unfolding after_line line_ok_to
+  line_good {r} e =
+      let m = line_len (drop at h) in
+      by_test (line_ok_to limit first (drop at h))
+      (λ t.
+      let same : Some r ≡ Some (at + (m + 2)) = rw (yes_true (line_ok_to limit first (drop at h)) t) at e in
+      let to : r ≡ at + (m + 2) = cc in
+      let ends = crlf_inside (drop at h) m (yes_true (crlf (drop m (drop at h))) (and_yes (crlf (drop m (drop at h))) (formed_by (named_to limit) first (take m (drop at h))) t).0) in
+      record { good = yes_true (line_ok_to limit first (drop at h)) t; after = to; inside = omega (arith, ends, length-drop at h) })
+      (λ t. let z : Some r ≡ None = rw (no_false (line_ok_to limit first (drop at h)) t) at e in cc)
 
 -- the names of 76 bytes
 ok_76 : (first : Bool) (h : List ℕ) → line_ok_to 76 first h ≡ line_ok first h
@@ -359,7 +353,7 @@ ok_76 first h = refl
 abbrev pub lines_at : ℕ → ℕ → List ℕ → LineCheck
 lines_at n at h = lines_from n at (lines_of h)
 
-pub lines_none : (n at : ℕ) → lines_at n at [] ≡ WellFormed
+pub lines_none : (n at : ℕ) → lines_at n at [] ≡ Ok tt
 unfolding lines_of lines_from
 lines_none n at = rw (cut_nil (λ rest. line_len rest + 2))
 
@@ -390,7 +384,7 @@ front_good n at xs h e =
     lines_front n at xs h
     ∙ rw (ok_front (eqb n 0) xs, e, length-take-le (line_len xs + 2) xs (ended (eqb n 0) xs e), add-one)
 
-pub front_bad : (n at : ℕ) (xs : List ℕ) → 0 < length xs → line_ok (eqb n 0) xs ≡ false → lines_at n at xs ≡ Malformed n at
+pub front_bad : (n at : ℕ) (xs : List ℕ) → 0 < length xs → line_ok (eqb n 0) xs ≡ false → lines_at n at xs ≡ bad_line n at
 unfolding lines_from
 front_bad n at xs h e = lines_front n at xs h ∙ rw (ok_front (eqb n 0) xs, e)
 
@@ -403,17 +397,17 @@ pub left_all : (h : List ℕ) → Left h 0 0
 unfolding checked_lines
 left_all h = record { count = omega arith; same = refl }
 
-pub left_end : {h : List ℕ} {n at : ℕ} → Left h n at → length h ≤ at → WellFormed ≡ checked_lines h
+pub left_end : {h : List ℕ} {n at : ℕ} → Left h n at → length h ≤ at → Ok tt ≡ checked_lines h
 left_end {h} {n} {at} l k = sym (l.same ∙ rw (drop_of_length-le h {i = at} k) (lines_none n at))
 
-module _ {h : List ℕ} {n at r : ℕ} (l : Left h n at) where
-  pub left_bad : at < length h → Lined 76 h at (eqb n 0) r → r ≡ at → Malformed n at ≡ checked_lines h
-  left_bad k d e = sym (l.same ∙ front_bad n at (drop at h) (rw length-drop (omega arith)) (sym (ok_76 (eqb n 0) (drop at h)) ∙ d.malformed e))
+module _ {h : List ℕ} {n at : ℕ} (l : Left h n at) where
+  pub left_bad : at < length h → line_ok_to 76 (eqb n 0) (drop at h) ≡ false → bad_line n at ≡ checked_lines h
+  left_bad k e = sym (l.same ∙ front_bad n at (drop at h) (rw length-drop (omega arith)) (sym (ok_76 (eqb n 0) (drop at h)) ∙ e))
 
-  pub left_next : at < length h → Lined 76 h at (eqb n 0) r → (r ≡ at → ⊥) → Left h (n + 1) r
-  left_next k d e =
-      let p : at + (line_len (drop at h) + 2) ≡ r = sym (d.after e) in
+  pub left_next : {r : ℕ} → at < length h → GoodLine 76 h at (eqb n 0) r → Left h (n + 1) r
+  left_next {r} k d =
+      let p : at + (line_len (drop at h) + 2) ≡ r = sym d.after in
       record {
-        count = omega (arith, l.count);
-        same = l.same ∙ front_good n at (drop at h) (rw length-drop (omega arith)) (sym (ok_76 (eqb n 0) (drop at h)) ∙ d.good e) ∙ rw (drop-drop, p);
+        count = omega (arith, l.count, d.after);
+        same = l.same ∙ front_good n at (drop at h) (rw length-drop (omega arith)) (sym (ok_76 (eqb n 0) (drop at h)) ∙ d.good) ∙ rw (drop-drop, p);
       }

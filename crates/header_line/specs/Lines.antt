@@ -1,13 +1,12 @@
 -- Header lines: what a well-formed line is, and the first malformed line of a header.
-use Rattle.std.specs.Prelude.{Bool, cond, not, ◌&&◌, ◌||◌, List, [], ◌∷◌, ℕ, suc, ◌+◌, eqb, length, take, drop, get_or}
+use Rattle.std.specs.Prelude.{⊤, Option, Some, None, Result, Ok, Err, Bool, cond, not, ◌&&◌, ◌||◌, List, [], ◌∷◌, ℕ, suc, ◌+◌, eqb, length, take, drop, get_or}
 use Rattle.lists.specs.Lists.{all}
 use Rattle.lists.specs.Byte.{within}
 use Rattle.lists.specs.Run.{run}
 use Rattle.lists.specs.CutBy.{cut_by}
 use Rattle.utf8.specs.Utf8.{utf8}
 use Rattle.line.specs.Line.{crlf, line_len, blank}
-use Rattle.header_line.specs.declared.LineCheck.{LineCheck}
-use Rattle.header_line.specs.declared.LineCheck.TheVariants.{WellFormed, Malformed}
+use Rattle.header_line.specs.declared.MalformedLine.{MalformedLine}
 
 -- "holds no NUL, lone CR or lone LF": a line is cut at its first CRLF, so each CR and LF in it is a lone one
 unfoldable pub line_byte : ℕ → Bool
@@ -57,14 +56,21 @@ line_ok first line = ended_by (well_formed first) line
 unfoldable pub line_ok_to : ℕ → Bool → List ℕ → Bool
 line_ok_to limit first line = ended_by (formed_by (named_to limit) first) line
 
--- the place after the line at `at`; `at` itself where it is malformed
-unfoldable pub line_after : ℕ → Bool → List ℕ → ℕ → ℕ
-line_after limit first h at = cond (line_ok_to limit first (drop at h)) (at + (line_len (drop at h) + 2)) at
+-- the place after the line at `at`, where it is well formed
+unfoldable pub after_line : ℕ → Bool → List ℕ → ℕ → Option ℕ
+after_line limit first h at = cond (line_ok_to limit first (drop at h)) (Some (at + (line_len (drop at h) + 2))) None
+
+-- a check of lines: well formed, or the number of the first malformed line and the byte where it starts
+abbrev pub LineCheck : Type 0
+LineCheck = Result ⊤ MalformedLine
+
+abbrev pub bad_line : ℕ → ℕ → LineCheck
+bad_line line at = Err (record { line = line; at = at })
 
 -- the first malformed one of these lines, the first of which is line n and starts at the byte `at`
 unfoldable pub lines_from : ℕ → ℕ → List (List ℕ) → LineCheck
-lines_from n at [] = WellFormed
-lines_from n at (line ∷ more) = let next = lines_from (suc n) (at + length line) more in cond (line_ok (eqb n 0) line) next (Malformed n at)
+lines_from n at [] = Ok tt
+lines_from n at (line ∷ more) = let next = lines_from (suc n) (at + length line) more in cond (line_ok (eqb n 0) line) next (bad_line n at)
 
 -- "A header may be empty." "Lines count from 0."
 unfoldable pub checked_lines : List ℕ → LineCheck

@@ -1,5 +1,5 @@
 -- Laws of names by eights: a bit for each of eight bytes that is no name byte, by sums, and the first of them.
-use Rattle.std.specs.Prelude.{◌≡◌, refl, Bool, true, false, cond, ◌&&◌, ◌||◌, List, [], ◌∷◌, ℕ, zero, suc, ◌+◌, ◌-◌, ◌≤◌, ◌<◌, ◌%◌, T, eqb, ltb, length, take, drop, get_or}
+use Rattle.std.specs.Prelude.{◌≡◌, refl, Bool, true, false, cond, ◌&&◌, ◌||◌, List, [], ◌∷◌, ℕ, zero, suc, ◌+◌, ◌≤◌, ◌<◌, ◌%◌, T, eqb, ltb, length, take, drop, get_or}
 use Rattle.std.proofs.Common.{ap, ◌∙◌, arith, eqb→eq, drop-cons}
 use Rattle.std.proofs.Math.Path.{sym}
 use Rattle.std.specs.Int.Count.{count_trailing_zeros}

@@ -7,18 +7,19 @@ mod text;
 ghost use Rattle.std.specs.Prelude.{◌≡◌, ◌||◌, ◌+◌, ◌<◌, ◌≤◌, length, take, drop};
 ghost use Rattle.std.specs.Int.Count.{count_trailing_zeros};
 ghost use Rattle.lists.specs.Run.{run};
-ghost use Rattle.header_line.specs.Lines.{name_byte, name_len, named_to, continuation, line_after, checked_lines};
-ghost use Rattle.header_line.specs.LineLaws.{shaped_to, Lined};
+ghost use Rattle.header_line.specs.Lines.{name_byte, name_len, named_to, continuation, after_line, checked_lines};
+ghost use Rattle.header_line.specs.LineLaws.{shaped_to};
 ghost use Rattle.header_line.specs.Clean.{Clean};
 ghost use Rattle.header_line.specs.NameLaws.{Weighed};
 
+use byte_class::Class;
 use line::is_blank;
 
-// Whether every line of a header is well formed; else the number of the first malformed line, and the byte where it starts.
-#[derive(Clone, Copy)]
-pub enum LineCheck {
-    WellFormed,
-    Malformed(usize, usize),
+// The first malformed line of a header: its number, and the byte where it starts.
+#[derive(Clone, Copy, Debug, PartialEq, Eq)]
+pub struct MalformedLine {
+    pub line: usize,
+    pub at: usize,
 }
 
 pub fn is_name_byte(b: u8) -> bool
@@ -27,18 +28,22 @@ pub fn is_name_byte(b: u8) -> bool
     (33 <= b) & (b <= 126) & !(b == 58)
 }
 
+struct NameByte;
+
+impl Class for NameByte {
+    ghost member = { name_byte };
+
+    fn holds(b: u8) -> bool {
+        is_name_byte(b)
+    }
+}
+
 // The length of the name at the front of a line or a field.
+#[tactic(auto, unfolding(crate::specs::Lines::name_len))]
 pub fn name_len(line: &[u8]) -> usize
     ensures { result ≡ name_len line.now }
 {
-    let mut i = 0;
-    while i < line.len() {
-        if !is_name_byte(line[i]) {
-            return i;
-        }
-        i += 1;
-    }
-    i
+    byte_class::run_end::<NameByte>(line, 0)
 }
 
 // What a byte adds to a sum of eight: 1 for a name byte, else w.
@@ -105,50 +110,38 @@ fn is_shaped(first: bool, line: &[u8], limit: usize) -> bool
     starts_well(first, line, limit)
 }
 
-// The place after the line at `at`; `at` itself where that line is malformed.
-fn line_end(h: &[u8], at: usize, first: bool, limit: usize) -> usize
-    requires { at < length h.now }
-    ensures { Lined limit h.now at first result }
-{
-    let e = text::text_end(h, at);
-    if !line::crlf_at(h, e) {
-        return at;
-    }
-    if !is_shaped(first, &h[at..e], limit) {
-        return at;
-    }
-    e + 2
-}
-
-// The same at every place, with names of at most `limit` bytes.
-pub fn line_after(h: &[u8], at: usize, first: bool, limit: usize) -> usize
-    ensures { result ≡ line_after limit first h.now at }
+// The place after the line at `at`; none where that line is malformed, with a name of at most `limit` bytes.
+pub fn line_after(h: &[u8], at: usize, first: bool, limit: usize) -> Option<usize>
+    ensures { result ≡ after_line limit first h.now at }
 {
     if h.len() <= at {
-        return at;
+        return None;
     }
-    line_end(h, at, first, limit)
+    let e = text::text_end(h, at);
+    if !line::crlf_at(h, e) {
+        return None;
+    }
+    if !is_shaped(first, &h[at..e], limit) {
+        return None;
+    }
+    Some(e + 2)
 }
 
 // Checks the lines of a header, byte by byte.
-fn check_slowly(h: &[u8]) -> LineCheck
+fn check_slowly(h: &[u8]) -> Result<(), MalformedLine>
     ensures { result ≡ checked_lines h.now }
 {
     let mut at: usize = 0;
     let mut n: usize = 0;
     while at < h.len() {
-        let next = line_end(h, at, n == 0, 76);
-        if next == at {
-            return LineCheck::Malformed(n, at);
-        }
-        at = next;
+        at = line_after(h, at, n == 0, 76).ok_or(MalformedLine { line: n, at })?;
         n += 1;
     }
-    LineCheck::WellFormed
+    Ok(())
 }
 
 // Checks the lines of a clean header. CRs are searched in blocks from i on: the next CR from i is the end of the line at `at`.
-fn check_clean(h: &[u8]) -> LineCheck
+fn check_clean(h: &[u8]) -> Result<(), MalformedLine>
     requires { Clean h.now }
     ensures { result ≡ checked_lines h.now }
 {
@@ -156,23 +149,21 @@ fn check_clean(h: &[u8]) -> LineCheck
     let mut n = 0;
     let mut i: usize = 0;
     while at < h.len() {
-        let c = line::find_cr(h, i);
-        let found = c.found;
-        let e = c.end;
-        i = c.next;
-        if found {
+        let step = line::find_cr(h, i);
+        i = step.next;
+        if let Some(e) = step.cr {
             if !is_shaped(n == 0, &h[at..e], 76) {
-                return LineCheck::Malformed(n, at);
+                return Err(MalformedLine { line: n, at });
             }
             at = e + 2;
             n += 1;
         }
     }
-    LineCheck::WellFormed
+    Ok(())
 }
 
 // Checks the lines of a header.
-pub fn check(h: &[u8]) -> LineCheck
+pub fn check(h: &[u8]) -> Result<(), MalformedLine>
     ensures { result ≡ checked_lines h.now }
 {
     if clean::is_clean(h) {

@@ -8,22 +8,12 @@ ghost use Rattle.letter_case.specs.LetterCase.{lower as lowered, same_any_case};
 pub fn lower(b: u8) -> u8
     ensures { result ≡ lowered b }
 {
-    if (65 <= b) & (b <= 90) { b + 32 } else { b }
+    b.to_ascii_lowercase()
 }
 
 // Whether two texts are the same but for the case of letters.
 pub fn same_any_case(a: &[u8], b: &[u8]) -> bool
     ensures { result ≡ same_any_case a.now b.now }
 {
-    if a.len() != b.len() {
-        return false;
-    }
-    let mut i = 0;
-    while i < a.len() {
-        if lower(a[i]) != lower(b[i]) {
-            return false;
-        }
-        i += 1;
-    }
-    true
+    a.eq_ignore_ascii_case(b)
 }

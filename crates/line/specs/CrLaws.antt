@@ -1,9 +1,9 @@
 -- Laws of the CRs of a block: how many there are, and the place of the only one, as a loop sums them.
-use Rattle.std.specs.Prelude.{◌≡◌, refl, Bool, true, false, not, cond, ◌&&◌, List, [], ◌∷◌, ℕ, zero, suc, ◌+◌, ◌-◌, ◌≤◌, ◌<◌, ◌%◌, T, eqb, ltb, length, take, drop, get_or}
-use Rattle.std.proofs.Common.{ap, sym, ◌∙◌, add-zero, not-suc-le-zero, arith, eqb→eq, length-drop}
-use Rattle.std.proofs.Math.Facts.{eqb_no, ltb_yes, ltb_no}
+use Rattle.std.specs.Prelude.{◌≡◌, refl, Bool, true, false, cond, List, ℕ, zero, suc, ◌+◌, ◌-◌, ◌≤◌, ◌<◌, ◌%◌, eqb, length, drop, get_or}
+use Rattle.std.specs.Int.{from_bool}
+use Rattle.std.proofs.Common.{ap, sym, ◌∙◌, add-zero, not-suc-le-zero, arith, eqb→eq}
+use Rattle.std.proofs.Math.Facts.{eqb_no}
 use Rattle.lists.specs.ListsLaws.{by_test, yes_true, true_yes, no_false, cond_yes, cond_no}
-use Rattle.lists.specs.Run.{run}
 use Rattle.lists.specs.RunLaws.{run_step, run_stop, run_end}
 use Rattle.line.specs.Line.{not_cr, cr_run}
 
@@ -85,6 +85,11 @@ counted_by {s} {at} c h w x y q i e f g = counted_more c h x y q (rw i at e) (rw
 
 pub counted_all : {s : List ℕ} {at j n p : ℕ} → Counted s at j n p → j ≡ 64 → Counted s at 64 n p
 counted_all c e = rw e at c
+
+-- a `bool` as a number
+pub one_of : (t : Bool) → from_bool t ≡ cond t 1 0
+one_of true = refl
+one_of false = refl
 
 pub one_small : (t : Bool) (x : ℕ) → x ≡ cond t 1 0 → x ≤ 1
 one_small true x e = omega arith

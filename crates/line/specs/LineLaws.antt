@@ -1,6 +1,11 @@
 -- Laws of lines: by position, as code goes from CR to CR.
-use Rattle.std.specs.Prelude.{◌≡◌, refl, Bool, true, false, not, ◌&&◌, List, [], ◌∷◌, ℕ, suc, ◌+◌, ◌-◌, ◌≤◌, ◌<◌, min, leb, ltb, eqb, length, take, drop, get_or}
+use Rattle.std.specs.Prelude.{◌≡◌, refl, true, false, not, ◌&&◌, List, [], ◌∷◌, ℕ, suc, ◌+◌, ◌-◌, ◌≤◌, ◌<◌, min, leb, ltb, eqb, length, take, drop, get_or}
 use Rattle.std.proofs.Common.{ap, sym, ◌∙◌, add-zero, add-one, arith, eqb→eq, length-drop, drop_of_length-le, take_all, take-add, drop_at, drop-cons, drop-drop, length-take-le}
+use Rattle.std.specs.Prelude.{Option, Some, None}
+use Rattle.std.specs.Option.{unwrap_or, option_copied}
+use Rattle.std.specs.Slice.{IsItemAt}
+use Rattle.std.proofs.lemmas.Grind.{get_or_default_zero}
+use Rattle.std.proofs.Common.{Bor}
 use Rattle.std.proofs.Math.Bool.{and-false}
 use Rattle.std.proofs.Math.ListN.{get_or-eq_default}
 use Rattle.std.proofs.Math.Seq.{take-nil, get_or-drop}
@@ -141,3 +146,8 @@ drop_capped s n r e h =
     by_test (leb n greatest) (λ t. let k : r ≡ n = omega (arith, leb_yes {a = n} {b = greatest} t) in rw k)
     (λ t. let k : length s ≤ r = omega (arith, leb_no {a = n} {b = greatest} t) in let m : length s ≤ n = omega (arith, leb_no {a = n} {b = greatest} t) in
     rw (drop_of_length-le s {i = r} k, drop_of_length-le s {i = n} m))
+
+-- the byte at a place, as a slice's `get` answers it
+pub item_or : (s : List ℕ) (i : ℕ) (r : Option (Bor ℕ)) → IsItemAt s i r → unwrap_or (option_copied r) 0 ≡ get_or s i 0
+item_or s i None h = sym (get_or-eq_default s 0 {n = i} (ltb_no (true_yes (not (ltb i (length s))) (ap not (sym h.0)))))
+item_or s i (Some x) h = h.1 ∙ get_or_default_zero s i x.now (ltb_yes (true_yes (ltb i (length s)) (sym h.0)))

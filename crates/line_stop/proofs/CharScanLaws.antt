@@ -1,6 +1,6 @@
 -- Laws of UTF-8 by one byte at a time: each byte leads to what is left of a UTF-8 text, and a character lacks as many bytes as are told.
 use Rattle.std.specs.Prelude.{◌≡◌, refl, Bool, true, false, not, ◌&&◌, ◌||◌, List, [], ◌∷◌, T, leb, eqb, length, take, drop}
-use Rattle.std.proofs.Common.{sym, ◌∙◌, eqb→eq, lt-ltb, le-ltb}
+use Rattle.std.proofs.Common.{sym, ◌∙◌, lt-ltb, le-ltb}
 use Rattle.std.proofs.Math.Bool.{and-false}
 use Prim.Native.Nat.{ℕ, zero, suc, pred, ◌-◌, ◌≤◌, ◌<◌}
 use native.Mathlib.Omega.{arith}
@@ -9,7 +9,7 @@ use Rattle.std.proofs.Math.Dec.{eqb-suc-suc, eqb-suc-zero}
 use Rattle.std.proofs.Math.Facts.{leb_yes, yes_leb}
 use Rattle.std.proofs.lemmas.Bool.{lt-leb}
 use Rattle.lists.specs.Lists.{all}
-use Rattle.lists.specs.ListsLaws.{by_test, cond_has, yes_true, true_yes, no_false}
+use Rattle.lists.specs.ListsLaws.{by_test, cond_has, yes_true, no_false}
 use Rattle.lists.specs.Byte.{within, is_ascii}
 use Rattle.lists.specs.ByteLaws.{below, implies, within_low, within_high}
 use Rattle.utf8.specs.Utf8.{char_len, continues, second_low, second_high, is_char, utf8}

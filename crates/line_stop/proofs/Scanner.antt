@@ -1,5 +1,5 @@
 -- Theorems on Scanner.antt of specs/.
-use Rattle.std.specs.Prelude.{Bool, cond, ◌&&◌, List, [], ◌∷◌, ℕ, suc, ◌+◌, leb, eqb}
+use Rattle.std.specs.Prelude.{List, [], ◌∷◌, ℕ}
 use Rattle.line_stop.specs.Scanner.{Scanner}
 
 abbrev pub after : {S : Type 0} → Scanner S → S → List ℕ → S

@@ -1,6 +1,6 @@
 -- UTF-8 by one byte at a time: a state is what the character that has begun lacks. CharScanLaws.antt proves that it takes just what is
 -- UTF-8.
-use Rattle.std.specs.Prelude.{Bool, true, false, cond, ℕ, zero, suc, pred, ◌-◌, leb, ltb}
+use Rattle.std.specs.Prelude.{Bool, true, false, cond, ℕ, zero, suc, pred, ◌-◌, leb}
 use Rattle.lists.specs.Byte.{within, is_ascii}
 use Rattle.utf8.specs.Utf8.{char_len, second_low, second_high}
 use Rattle.line_stop.specs.declared.Begun.{Begun}

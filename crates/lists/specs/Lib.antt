@@ -6,3 +6,4 @@ pub mod Run
 pub mod RunLaws
 pub mod CutBy
 pub mod CutByLaws
+pub mod NonzeroLaws

@@ -1,10 +1,10 @@
 -- Laws of lists of lists and of tests of every element, and cases on a test.
-use Rattle.std.specs.Prelude.{◌≡◌, refl, Bool, true, false, not, cond, ◌&&◌, ℕ, zero, suc, ◌<◌, T, length, get_or}
-use Rattle.std.proofs.Common.{sym, not-suc-le-zero, le_of_suc-le-suc}
+use Rattle.std.specs.Prelude.{◌≡◌, refl, Bool, true, false, not, cond, ◌&&◌, ℕ, zero, suc, ◌<◌, T, length, get_or, Some, None}
+use Rattle.std.proofs.Common.{sym, not-suc-le-zero, le_of_suc-le-suc, arith}
 use Rattle.std.proofs.Math.Bool.{and-true, and_assoc}
 use mathlib.Core.List.{List, [], ◌∷◌, ◌++◌, append_assoc, map, Memᴰ}
 use Rattle.std.proofs.Math.Facts.{and_yes, yes_and}
-use Rattle.lists.specs.Lists.{all, joined, nonempty}
+use Rattle.lists.specs.Lists.{all, joined, nonempty, nonzero}
 
 -- by cases on a test
 pub by_test {ℓ} : {X : Type ℓ} (b : Bool) → (T b → X) → (T (not b) → X) → X
@@ -100,3 +100,19 @@ all_mem f h (Memᴰ.tail {x} {xs} m) = all_mem f (and_yes (f x) (all f xs) h).1 
 pub some_nonempty : {A : Type 0} (xs : List A) → 0 < length xs → T (nonempty xs)
 some_nonempty [] h = absurd (not-suc-le-zero h)
 some_nonempty (x ∷ xs) h = tt
+
+-- a length as the option of one, from the length and back
+pub nonzero_none : (n : ℕ) → n ≡ 0 → nonzero n ≡ None
+nonzero_none n e = rw e
+
+pub nonzero_some : (n : ℕ) → 0 < n → nonzero n ≡ Some n
+nonzero_some zero h = absurd (not-suc-le-zero h)
+nonzero_some (suc n) h = refl
+
+pub none_nonzero : (n : ℕ) → nonzero n ≡ None → n ≡ 0
+none_nonzero zero e = refl
+none_nonzero (suc n) e = grind (arith, e)
+
+pub some_nonzero : (n m : ℕ) → nonzero n ≡ Some m → (0 < n) × (m ≡ n)
+some_nonzero zero m e = grind (arith, e)
+some_nonzero (suc n) m e = (omega arith, grind (arith, e))

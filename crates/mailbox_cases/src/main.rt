@@ -4,34 +4,19 @@
 
 use std::io;
 
-fn say(rt: &impl Print, words: &[u8]) -> io::Result<()> {
-    rt.write_all(words)
-}
-
-fn number(rt: &impl Print, n: usize) -> io::Result<()> {
-    print!(rt; "{n}")
-}
-
 fn show_numbers(rt: &impl Print, no: u32, place: usize, offset: usize, n: usize) -> io::Result<()> {
-    say(rt, b": ")?;
-    print!(rt; "{no}")?;
-    say(rt, b" at ")?;
-    number(rt, place)?;
-    say(rt, b", offset ")?;
-    number(rt, offset)?;
-    say(rt, b", length ")?;
-    number(rt, n)
+    print!(rt; ": {no} at {place}, offset {offset}, length {n}")
 }
 
 // Whether a buffer that was full of # is so from a place on, and what stands before it.
 fn show_buffer(rt: &impl Print, buffer: &[u8], n: usize) -> io::Result<()> {
     if case_line::is_untouched(line::part(buffer, n, buffer.len())) {
-        say(rt, b", rest untouched\r\n")?;
+        print!(rt; ", rest untouched\r\n")?;
     } else {
-        say(rt, b", REST CHANGED\r\n")?;
+        print!(rt; ", REST CHANGED\r\n")?;
     }
-    say(rt, line::part(buffer, 0, n))?;
-    say(rt, b"\r\n")
+    rt.write_all(line::part(buffer, 0, n))?;
+    print!(rt; "\r\n")
 }
 
 // A call that is lent the first n bytes of a buffer full of #.
@@ -45,7 +30,7 @@ fn show(rt: &impl Print, label: &[u8], header: &[u8], n: usize) -> io::Result<()
     let mut space = [b'#'; 4096];
     let answer = call(header, &mut space, n);
     let len = answer.length;
-    say(rt, label)?;
+    rt.write_all(label)?;
     show_numbers(rt, answer.number, answer.place, answer.offset, len)?;
     show_buffer(rt, &space, len)
 }
@@ -65,17 +50,11 @@ fn show_line(rt: &impl Print, line: &[u8]) -> io::Result<()> {
     )
 }
 
-fn show_lines(rt: &impl Print, cases: &[u8]) -> io::Result<()> {
-    let mut at = 0;
-    while at < cases.len() {
-        let end = case_line::find(cases, at, b'\n');
-        show_line(rt, line::part(cases, at, end))?;
-        at = buffer::place_after(end, 1);
-    }
-    Ok(())
-}
-
+// Kept: one loop for all programs would take a closure, and a public function may not require that it can be called.
 fn main(rt: HostRuntime) -> io::Result<()> {
     let input = program_input::read(rt.alloc(), rt.reader(), 65536)?;
-    show_lines(&rt, &input)
+    for line in input.split(|b| *b == b'\n') {
+        show_line(&rt, line)?;
+    }
+    Ok(())
 }

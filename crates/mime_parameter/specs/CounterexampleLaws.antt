@@ -1,11 +1,9 @@
 -- Pieces of which the promise does not hold. The parameter's name is `f`.
-use Rattle.std.specs.Prelude.{◌≡◌, refl, ℕ, ◌+◌, ◌*◌, ◌≤◌, T, length, drop, get_or, replicate}
+use Rattle.std.specs.Prelude.{◌≡◌, refl, ℕ, T, drop, get_or, replicate}
 use Rattle.std.proofs.Common.{sym, ap, ◌∙◌, arith, le→leb}
 use mathlib.Core.List.{List, [], ◌∷◌, ◌++◌, Memᴰ}
-use Rattle.std.proofs.Math.Option.{some}
 use Rattle.std.specs.Int.Count.{count_leading_zeros}
 use Rattle.lists.specs.CutBy.{cut_after, cut_by}
-use Rattle.lists.specs.Lists.{joined}
 use Rattle.utf8.specs.Utf8.{char_len, second_low, second_high, is_char, chars, utf8}
 use Rattle.hex_digit.specs.Hex.{hex_digit}
 use Rattle.row.specs.Layout.{any_case_value}

@@ -1,11 +1,11 @@
 -- Laws of extended values: how long they are, that they are ASCII, that they read back.
-use Rattle.std.specs.Prelude.{◌≡◌, refl, Bool, true, false, not, cond, ◌&&◌, ◌||◌, List, [], ◌∷◌, ◌++◌, ℕ, ◌+◌, ◌*◌, ◌/◌, ◌%◌, ◌≤◌, ◌<◌, T, eqb, length, drop, get_or}
-use Rattle.std.proofs.Common.{sym, ap, ◌∙◌, append_assoc, append-nil, div-add-mod', add-one, arith, eqb→eq, ltb→lt, lt→ltb, lit≤, length-append, drop_of_length-le, drop-cons}
+use Rattle.std.specs.Prelude.{◌≡◌, refl, Bool, true, false, not, ◌&&◌, ◌||◌, List, [], ◌∷◌, ◌++◌, ℕ, ◌+◌, ◌*◌, ◌/◌, ◌%◌, ◌≤◌, ◌<◌, T, eqb, length, drop, get_or}
+use Rattle.std.proofs.Common.{sym, ap, ◌∙◌, append_assoc, div-add-mod', add-one, arith, eqb→eq, ltb→lt, lt→ltb, lit≤, length-append, drop_of_length-le, drop-cons}
 use Rattle.std.proofs.Math.Option.{Option, none, some}
 use Rattle.std.proofs.Math.Facts.{and_yes, yes_and}
 use Rattle.lists.specs.Byte.{is_byte, is_ascii, within}
 use Rattle.lists.specs.ByteLaws.{below, within_high}
-use Rattle.lists.specs.Lists.{all, joined}
+use Rattle.lists.specs.Lists.{all}
 use Rattle.lists.specs.ListsLaws.{by_test, cond_yes, cond_no, all_append}
 use Rattle.hex_digit.specs.Hex.{hex_digit}
 use Rattle.row.specs.Layout.{any_case_value}

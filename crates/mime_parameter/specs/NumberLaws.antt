@@ -1,5 +1,5 @@
 -- Laws of decimal numbers: digit by digit, their length, that they are ASCII.
-use Rattle.std.specs.Prelude.{◌≡◌, refl, Bool, true, cond, ◌&&◌, List, [], ◌∷◌, ◌++◌, ℕ, zero, suc, ◌+◌, ◌/◌, ◌%◌, ◌≤◌, ◌<◌, T, ltb, length}
+use Rattle.std.specs.Prelude.{◌≡◌, refl, true, List, [], ◌∷◌, ◌++◌, ℕ, zero, suc, ◌+◌, ◌/◌, ◌%◌, ◌≤◌, ◌<◌, T, ltb, length}
 use Rattle.std.proofs.Common.{sym, ap, ◌∙◌, arith, lt→ltb, length-append}
 use Rattle.std.proofs.Math.Facts.{yes_and, no_ltb, ltb_yes, ltb_no}
 use Rattle.lists.specs.Byte.{is_ascii}

@@ -1,5 +1,5 @@
 -- The promise of a converted parameter holds of our pieces, for every name that leaves room.
-use Rattle.std.specs.Prelude.{◌≡◌, Bool, not, ◌&&◌, ℕ, suc, ◌+◌, ◌≤◌, ◌<◌}
+use Rattle.std.specs.Prelude.{◌≡◌, not, ℕ, suc, ◌≤◌, ◌<◌}
 use Rattle.std.proofs.Math.Path.{refl, sym, ap}
 use Rattle.std.proofs.Common.{◌∙◌, arith, T_not, length-append}
 use Rattle.std.proofs.Math.Bool.{true}
@@ -17,8 +17,8 @@ use Rattle.cut.proofs.CutLaws as cuts
 use Rattle.mime_parameter.specs.Extended.{extended}
 use Rattle.mime_parameter.specs.ExtendedLaws.{extended_reads}
 use Rattle.mime_parameter.specs.Pieces.{alone_label, part_label, line_fits, alone_piece, part_piece, fits, runs_from, numbered, parts, pieces, has_room}
-use Rattle.mime_parameter.specs.PiecesLaws.{line_fits_lem, fits_line_lem, fits_part, runs_joined, runs_some, length_numbered, numbered_fit, pieces_alone, pieces_parts}
-use Rattle.mime_parameter.specs.Parameter2231.{Part, Reads, NumberedFrom, Parameter, Proper, PiecesOf, ParameterDemand}
+use Rattle.mime_parameter.specs.PiecesLaws.{line_fits_lem, fits_line_lem, fits_part, runs_joined, runs_some, length_numbered, pieces_alone, pieces_parts}
+use Rattle.mime_parameter.specs.Parameter2231.{Part, NumberedFrom, Parameter, Proper, PiecesOf, ParameterDemand}
 
 abbrev bytes_in : List Part → List (List ℕ)
 bytes_in ps = map (λ (p : Part). p.bytes) ps

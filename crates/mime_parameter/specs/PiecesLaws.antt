@@ -1,16 +1,14 @@
 -- Laws of the pieces of a value: what fits a line, the rooms by number, that nothing is lost.
-use Rattle.std.specs.Prelude.{◌≡◌, refl, Bool, true, not, cond, ◌&&◌, ◌||◌, List, [], ◌∷◌, ◌++◌, map, ℕ, zero, suc, ◌+◌, ◌*◌, ◌≤◌, ◌<◌, T, leb, length}
-use Rattle.std.proofs.Common.{sym, ap, ◌∙◌, append-nil, arith, leb→le, le→leb, length-append}
-use Rattle.std.proofs.Math.Facts.{and_yes, yes_and}
+use Rattle.std.specs.Prelude.{◌≡◌, refl, not, List, [], ◌∷◌, ◌++◌, ℕ, suc, ◌+◌, ◌≤◌, T, leb, length}
+use Rattle.std.proofs.Common.{ap, ◌∙◌, arith, leb→le, le→leb, length-append}
+use Rattle.std.proofs.Math.Facts.{and_yes}
 use Rattle.lists.specs.Lists.{all, joined, nonempty}
-use Rattle.lists.specs.ListsLaws.{by_test, cond_yes, cond_no, joined_append}
-use Rattle.utf8.specs.Utf8.{chars}
-use Rattle.cut.specs.Cut.{cut}
+use Rattle.lists.specs.ListsLaws.{cond_yes, cond_no, joined_append}
 use Rattle.cut.proofs.CutLaws.{AllFit, cut_joined, cut_some}
 use Rattle.mime_parameter.specs.Extended.{charset, extended}
 use Rattle.mime_parameter.specs.ExtendedLaws.{length_extended_append}
 use Rattle.mime_parameter.specs.Number.{decimal}
-use Rattle.mime_parameter.specs.Pieces.{charset_of, alone_label, part_label, line_fits, alone_piece, part_piece, fits, runs_from, numbered, parts, pieces, has_room}
+use Rattle.mime_parameter.specs.Pieces.{charset_of, alone_label, part_label, line_fits, alone_piece, part_piece, fits, runs_from, numbered, parts, pieces}
 
 -- ---- what fits a line
 

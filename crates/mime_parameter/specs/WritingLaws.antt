@@ -1,7 +1,7 @@
 -- The writing of pieces, step by step.
-use Rattle.std.specs.Prelude.{◌≡◌, Bool, not, ℕ, zero, suc, ◌+◌, ◌*◌, ◌/◌, ◌%◌, ◌≤◌, ◌<◌, T, leb, length, drop, get_or}
+use Rattle.std.specs.Prelude.{◌≡◌, Bool, not, ℕ, zero, suc, ◌+◌, ◌/◌, ◌%◌, ◌≤◌, ◌<◌, T, leb, length, drop, get_or}
 use Rattle.std.proofs.Math.Path.{refl}
-use Rattle.std.proofs.Common.{sym, ap, ◌∙◌, arith, le→leb, lit≤, length-append, length-take-le, le-leb}
+use Rattle.std.proofs.Common.{sym, ap, ◌∙◌, arith, lit≤, length-append, length-take-le, le-leb}
 use Rattle.std.proofs.Math.Bool.{true, false, cond}
 use mathlib.Core.List.{List, [], ◌∷◌, ◌++◌, append-nil}
 use Rattle.std.proofs.Math.ListN.{take}
@@ -14,10 +14,10 @@ use Rattle.buffer.specs.BufferLaws.{capped_then, capped_same, length_added}
 use Rattle.hex_digit.specs.Hex.{hex_digit}
 use Rattle.hex_digit.proofs.HexLaws.{upper_half, lower_half}
 use Rattle.mime_parameter.specs.Extended.{is_attribute_char, extended_byte, extended, charset}
-use Rattle.mime_parameter.specs.ExtendedLaws.{byte_bare, byte_octet, extended_at, length_extended}
+use Rattle.mime_parameter.specs.ExtendedLaws.{byte_bare, byte_octet, extended_at}
 use Rattle.mime_parameter.specs.Number.{decimal}
 use Rattle.mime_parameter.specs.NumberLaws.{decimal_low, decimal_high, length_decimal}
-use Rattle.mime_parameter.specs.Pieces.{charset_of, alone_label, part_label, line_fits, alone_piece, part_piece, parts, pieces, has_room, laid, parameter_lines, limited}
+use Rattle.mime_parameter.specs.Pieces.{charset_of, alone_label, part_label, line_fits, alone_piece, part_piece, parts, has_room, laid, parameter_lines, limited}
 use Rattle.mime_parameter.specs.PiecesLaws.{line_length, length_alone, length_label, pieces_alone, pieces_parts}
 use Rattle.mime_parameter.specs.PartLaws.{mark_of, parts_laid, parts_fit}
 
@@ -42,6 +42,11 @@ module _ (b : ℕ) {r : Bool} (q : r ≡ is_attribute_char b) where
   octet_added e small k hh hd x y z =
       let two = capped_then y z (omega (arith, k, length_added x)) in
       capped_same (rw (is_octet e, upper_half b small hh, lower_half b hd)) (capped_then x two k)
+
+  -- the octet's three characters at once
+  pub octet_sliced : r ≡ false → b < 256 → {before after : List ℕ} {at n h d : ℕ} → h ≡ hex_digit (b / 16 % 16) → d ≡ hex_digit (b % 16 % 16)
+      → AppendedCapped (37 ∷ h ∷ d ∷ []) at before after n → AppendedCapped (extended_byte b) at before after n
+  octet_sliced e small hh hd x = capped_same (rw (is_octet e, upper_half b small hh, lower_half b hd)) x
 
   pub bare_len : r ≡ true → (1 ≡ length (extended_byte b)) × (1 ≤ 3)
   bare_len e = (sym (ap length (is_bare e)), lit≤ tt)

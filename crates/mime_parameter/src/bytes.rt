@@ -2,7 +2,9 @@
 ghost use Rattle.std.specs.Prelude.{◌≡◌, ◌*◌, ◌≤◌, length};
 ghost use Rattle.buffer.specs.Buffer.{AppendedCapped};
 ghost use Rattle.mime_parameter.specs.Extended.{is_token_byte, is_attribute_char, extended_byte, extended};
-ghost use Rattle.mime_parameter.specs.Pieces.{value_text};
+ghost use Rattle.mime_parameter.specs.Pieces.{stays_in_value, value_text};
+
+use unquote::Stays;
 
 // Whether a byte may stand in a token of RFC 2045.
 pub fn is_token_byte(b: u8) -> bool
@@ -23,21 +25,22 @@ fn is_attribute_char(b: u8) -> bool
     is_token_byte(b) & !((b == 42) | (b == 39) | (b == 37))
 }
 
+// Without quoting, escapes and folds.
+struct ValueText;
+
+impl Stays for ValueText {
+    ghost stays = { stays_in_value };
+
+    fn holds(escaped: bool, b: u8) -> bool {
+        (escaped | !((b == b'"') | (b == b'\\'))) & !((b == b'\r') | (b == b'\n'))
+    }
+}
+
 // Writes the value of a parameter without quoting, escapes and folds from a place on, as far as it fits; answers the place after it.
 pub fn add_value_text(out: &mut [u8], at: usize, standing: &[u8]) -> usize
     ensures { AppendedCapped (value_text standing.now) at out.old out.new result }
 {
-    let mut next = at;
-    let mut escaped = false;
-    let mut i = 0;
-    while i < standing.len() {
-        let b = standing[i];
-        let stays = (escaped | !((b == b'"') | (b == b'\\'))) & !((b == 13) | (b == 10));
-        next = unquote::add_kept(out, next, stays, b);
-        escaped = unquote::escapes(escaped, b);
-        i += 1;
-    }
-    next
+    unquote::add_kept_text::<ValueText>(out, at, standing)
 }
 
 fn byte_len(b: u8) -> usize
@@ -52,10 +55,8 @@ pub(crate) fn extended_len(text: &[u8]) -> usize
     ensures { result ≡ length (extended text.now) }
 {
     let mut n = 0;
-    let mut i = 0;
-    while i < text.len() {
-        n += byte_len(text[i]);
-        i += 1;
+    for b in text {
+        n += byte_len(*b);
     }
     n
 }
@@ -66,19 +67,17 @@ fn add_extended_byte(out: &mut [u8], at: usize, b: u8) -> usize
     if is_attribute_char(b) {
         return buffer::add_byte(out, at, b);
     }
-    let high = buffer::add_byte(out, at, b'%');
-    let low = buffer::add_byte(out, high, hex_digit::digit(b / 16));
-    buffer::add_byte(out, low, hex_digit::digit(b % 16))
+    let high = hex_digit::digit(b / 16);
+    let low = hex_digit::digit(b % 16);
+    buffer::add_slice(out, at, &[b'%', high, low])
 }
 
 pub(crate) fn add_extended(out: &mut [u8], at: usize, text: &[u8]) -> usize
     ensures { AppendedCapped (extended text.now) at out.old out.new result }
 {
     let mut next = at;
-    let mut i = 0;
-    while i < text.len() {
-        next = add_extended_byte(out, next, text[i]);
-        i += 1;
+    for b in text {
+        next = add_extended_byte(out, next, *b);
     }
     next
 }

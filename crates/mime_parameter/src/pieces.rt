@@ -1,5 +1,5 @@
 // The pieces of a value: alone, or in numbered parts.
-ghost use Rattle.std.specs.Prelude.{◌≡◌, cond, List, [], ◌∷◌, ◌++◌, ◌≤◌, ◌<◌, leb, length};
+ghost use Rattle.std.specs.Prelude.{◌≡◌, List, [], ◌∷◌, ◌++◌, ◌≤◌, ◌<◌, length};
 ghost use Rattle.buffer.specs.Buffer.{AppendedCapped};
 ghost use Rattle.mime_parameter.specs.Pieces.{alone_piece, part_piece, line_fits, has_room, limited, parameter_lines};
 ghost use Rattle.mime_parameter.specs.PartLaws.{mark_of, PartEnd, parts_laid, parts_fit};
@@ -118,11 +118,15 @@ fn limited_room(name: &[u8], text: &[u8]) -> bool
     parts_fit(name, text)
 }
 
-// How many of n bytes count.
-fn limited_len(n: usize) -> usize
-    ensures { result ≡ cond (leb n 32768) n 0 }
+// A text of at most 32,768 bytes; a longer one counts as empty.
+fn limited(text: &[u8]) -> &[u8]
+    ensures { (result.now ≡ limited text.now) × (length result.now ≤ 32768) }
 {
-    if n <= 32768 { n } else { 0 }
+    if text.len() <= 32768 {
+        text
+    } else {
+        &text[..0]
+    }
 }
 
 // Writes the pieces of a parameter, each on its own line, from a place on, as far as they fit; answers the place after them. The value is
@@ -130,16 +134,12 @@ fn limited_len(n: usize) -> usize
 pub fn add_parameter(out: &mut [u8], at: usize, name: &[u8], text: &[u8]) -> usize
     ensures { AppendedCapped (parameter_lines (limited name.now) (limited text.now)) at out.old out.new result }
 {
-    let n = limited_len(name.len());
-    let t = limited_len(text.len());
-    add_limited(out, at, &name[..n], &text[..t])
+    add_limited(out, at, limited(name), limited(text))
 }
 
 // Whether a name leaves room for every character of a value.
 pub fn has_room(name: &[u8], text: &[u8]) -> bool
     ensures { result ≡ has_room (limited name.now) (limited text.now) }
 {
-    let n = limited_len(name.len());
-    let t = limited_len(text.len());
-    limited_room(&name[..n], &text[..t])
+    limited_room(limited(name), limited(text))
 }

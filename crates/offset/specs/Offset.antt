@@ -6,7 +6,7 @@ use Rattle.line.specs.Line.{line_len}
 use Rattle.parameter.specs.Parameter.{params, keyword_len, alt, alt_place}
 use Rattle.envelope_line.specs.EnvelopeLine.{verb_len, tail}
 use Rattle.envelope_line.specs.declared.Fault.{Fault}
-use Rattle.envelope_line.specs.declared.Fault.TheVariants.{Fine, Malformed, NoAlternative, BadAlternative, RetiredAlternative}
+use Rattle.envelope_line.specs.declared.Fault.TheVariants.{Malformed, NoAlternative, BadAlternative, RetiredAlternative}
 use Rattle.envelope.specs.Envelope.{line_text}
 use Rattle.header_stop.specs.HeaderStop.{line_stop as header_stop}
 use Rattle.envelope_stop.specs.EnvelopeStop.{line_stop as envelope_stop}
@@ -52,7 +52,6 @@ line_at n s = front_line (drop (line_start n s) s)
 -- In line n of an envelope, with its CRLF: for 2 "the first byte at which .. the line, its CRLF with it, stops being a beginning of any
 -- well-formed line at that number".
 unfoldable pub fault_byte : Fault → ℕ → List ℕ → ℕ
-fault_byte Fine n line = 0
 fault_byte Malformed n line = envelope_stop n line
 fault_byte NoAlternative n line = path_byte (eqb n 0) (line_text line)
 fault_byte BadAlternative n line = alt_value_byte (eqb n 0) (line_text line)

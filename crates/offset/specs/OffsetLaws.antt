@@ -1,7 +1,7 @@
 -- Laws of the byte that a refusal points to, as code finds it.
-use Rattle.std.specs.Prelude.{◌≡◌, Bool, List, [], ◌∷◌, eqb, leb, take, drop}
+use Rattle.std.specs.Prelude.{◌≡◌, Bool, List, eqb, leb, take, drop}
 use Rattle.std.proofs.Math.Path.{refl}
-use Rattle.std.proofs.Common.{sym, ap, ◌∙◌, arith, not-suc-le-zero, take_all, drop-drop}
+use Rattle.std.proofs.Common.{sym, ◌∙◌, arith, not-suc-le-zero, take_all, drop-drop}
 use Prim.Native.Nat.{ℕ, zero, suc, ◌+◌, ◌-◌, ◌≤◌, ◌<◌, min}
 use Rattle.std.proofs.Math.ListN.{length, length-drop, length-take}
 use Rattle.std.proofs.Math.Facts.{leb_yes, leb_no}
@@ -14,7 +14,7 @@ use Rattle.parameter.specs.Parameter.{not_space, params, keyword_len, alt, alt_p
 use Rattle.parameter.specs.ParameterLaws.{param_part, alt_from, alt_there}
 use Rattle.envelope_line.specs.EnvelopeLine.{verb_len, tail}
 use Rattle.envelope_line.specs.declared.Fault.{Fault}
-use Rattle.envelope_line.specs.declared.Fault.TheVariants.{Fine, Malformed, NoAlternative, BadAlternative, RetiredAlternative}
+use Rattle.envelope_line.specs.declared.Fault.TheVariants.{Malformed, NoAlternative, BadAlternative, RetiredAlternative}
 use Rattle.envelope.specs.Envelope.{line_text}
 use Rattle.header_stop.specs.HeaderStop.{line_stop as header_stop}
 use Rattle.header_stop.specs.HeaderStopLaws.{line_stop_lem}
@@ -116,7 +116,6 @@ text_within line = omega (arith, length-take (line_len line) line)
 
 fault_within : (fault : Fault) (n : ℕ) (line : List ℕ) → fault_byte fault n line ≤ length line
 unfolding fault_byte path_byte alt_value_byte
-fault_within Fine n line = omega arith
 fault_within Malformed n line = (envelope_line_stop n line).inside
 fault_within NoAlternative n line = omega (arith, text_within line)
 fault_within BadAlternative n line = omega (arith, text_within line)

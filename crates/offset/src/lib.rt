@@ -10,6 +10,7 @@ use line::part;
 use parameter::{alt_place, keyword_len, param_end};
 
 // The line at a place, with its CRLF.
+#[tactic(auto, using(crate::specs::OffsetLaws::front_part))]
 fn front_line(s: &[u8], at: usize) -> &[u8]
     ensures { result.now ≡ front_line (drop at s.now) }
 {
@@ -21,15 +22,14 @@ fn line_start(s: &[u8], n: usize) -> usize
     ensures { result ≡ line_start n s.now }
 {
     let mut i: usize = 0;
-    let mut left = n;
-    while 0 < left {
+    for _ in 0..n {
         i += front_line(s, i).len();
-        left -= 1;
     }
     i
 }
 
 // Where the path of an envelope line starts.
+#[tactic(auto, using(crate::specs::OffsetLaws::path_byte_lem))]
 fn path_byte(line: &[u8], mail: bool) -> usize
     ensures { result ≡ path_byte mail line.now }
 {
@@ -40,10 +40,9 @@ fn path_byte(line: &[u8], mail: bool) -> usize
 fn alt_value_byte(line: &[u8], mail: bool) -> usize
     ensures { result ≡ alt_value_byte mail line.now }
 {
-    let place = alt_place(line, envelope_line::tail_start(line, mail));
-    if line.len() <= place {
+    let Some(place) = alt_place(line, envelope_line::tail_start(line, mail)) else {
         return line.len();
-    }
+    };
     let start = place + 1;
     let size = keyword_len(part(line, start, param_end(line, start)));
     buffer::clip(
@@ -53,6 +52,7 @@ fn alt_value_byte(line: &[u8], mail: bool) -> usize
 }
 
 // Its first byte past the path that is not ASCII: one of an ORCPT value.
+#[tactic(auto, using(crate::specs::OffsetLaws::orcpt_byte_lem), unfolding(utf8::specs::Utf8::ascii_run))]
 fn orcpt_byte(line: &[u8], mail: bool) -> usize
     ensures { result ≡ orcpt_byte mail line.now }
 {
@@ -63,6 +63,7 @@ fn orcpt_byte(line: &[u8], mail: bool) -> usize
 }
 
 // A line without its CRLF.
+#[tactic(auto, using(crate::specs::OffsetLaws::text_part))]
 fn line_text(line: &[u8]) -> &[u8]
     ensures { result.now ≡ line_text line.now }
 {
@@ -70,11 +71,11 @@ fn line_text(line: &[u8]) -> &[u8]
 }
 
 // The byte of line n, with its CRLF, that tells of a fault.
+#[tactic(auto, unfolding(crate::specs::Offset::fault_byte))]
 fn fault_byte(line: &[u8], fault: Fault, n: usize) -> usize
     ensures { result ≡ fault_byte fault n line.now }
 {
     match fault {
-        Fault::Fine => 0,
         Fault::Malformed => envelope_stop::stop(line, 0, n),
         Fault::NoAlternative => path_byte(line_text(line), n == 0),
         Fault::BadAlternative => alt_value_byte(line_text(line), n == 0),
@@ -83,6 +84,7 @@ fn fault_byte(line: &[u8], fault: Fault, n: usize) -> usize
 }
 
 // The byte that 2, 3, 4 and 10 point to, at line n of an envelope.
+#[tactic(auto, using(crate::specs::OffsetLaws::fault_inside, crate::specs::OffsetLaws::fault_offset_lem))]
 pub fn of_fault(envelope: &[u8], fault: Fault, n: usize) -> usize
     ensures { result ≡ fault_offset envelope.now fault n }
 {
@@ -91,6 +93,7 @@ pub fn of_fault(envelope: &[u8], fault: Fault, n: usize) -> usize
 }
 
 // The byte that 6 points to, at line n of an envelope.
+#[tactic(auto, using(crate::specs::OffsetLaws::orcpt_inside, crate::specs::OffsetLaws::orcpt_offset_lem))]
 pub fn of_orcpt(envelope: &[u8], n: usize) -> usize
     ensures { result ≡ orcpt_offset envelope.now n }
 {
@@ -99,6 +102,7 @@ pub fn of_orcpt(envelope: &[u8], n: usize) -> usize
 }
 
 // The byte that 5 points to, at line n of a header, which starts at `at`.
+#[tactic(auto, using(crate::specs::OffsetLaws::header_line_offset_lem, crate::specs::OffsetLaws::header_line_fits))]
 pub fn of_header_line(header: &[u8], n: usize, at: usize) -> usize
     ensures { result ≡ header_line_offset header.now n at }
 {
@@ -106,6 +110,7 @@ pub fn of_header_line(header: &[u8], n: usize, at: usize) -> usize
 }
 
 // The byte that 6 points to, in the field of a header that starts at `at`.
+#[tactic(auto, unfolding(crate::specs::Offset::field_offset, utf8::specs::Utf8::ascii_run))]
 pub fn of_field(header: &[u8], at: usize) -> usize
     ensures { result ≡ field_offset header.now at }
 {

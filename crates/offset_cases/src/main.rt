@@ -4,15 +4,6 @@
 
 use std::io;
 
-fn say(rt: &impl Print, words: &[u8]) -> io::Result<()> {
-    rt.write_all(words)
-}
-
-fn number(rt: &impl Print, words: &[u8], n: usize) -> io::Result<()> {
-    say(rt, words)?;
-    print!(rt; "{n}")
-}
-
 // A case with two buffers of 64 bytes.
 fn show(
     rt: &impl Print,
@@ -30,12 +21,11 @@ fn show(
         &mut envelope_buffer,
         &mut header_buffer,
     );
-    say(rt, label)?;
-    number(rt, b": ", answer.number as usize)?;
-    number(rt, b" of input ", answer.input as usize)?;
-    number(rt, b" at ", answer.place)?;
-    number(rt, b", offset ", answer.offset)?;
-    say(rt, b"\r\n")
+    rt.write_all(label)?;
+    print!(rt; ": {}", answer.number as usize)?;
+    print!(rt; " of input {}", answer.input as usize)?;
+    print!(rt; " at {}", answer.place)?;
+    print!(rt; ", offset {}\r\n", answer.offset)
 }
 
 // A line of the input.
@@ -57,17 +47,11 @@ fn show_line(rt: &impl Print, line: &[u8]) -> io::Result<()> {
     )
 }
 
-fn show_lines(rt: &impl Print, cases: &[u8]) -> io::Result<()> {
-    let mut at = 0;
-    while at < cases.len() {
-        let end = case_line::find(cases, at, b'\n');
-        show_line(rt, line::part(cases, at, end))?;
-        at = buffer::place_after(end, 1);
-    }
-    Ok(())
-}
-
+// Kept: one loop for all programs would take a closure, and a public function may not require that it can be called.
 fn main(rt: HostRuntime) -> io::Result<()> {
     let input = program_input::read(rt.alloc(), rt.reader(), 65536)?;
-    show_lines(&rt, &input)
+    for line in input.split(|b| *b == b'\n') {
+        show_line(&rt, line)?;
+    }
+    Ok(())
 }

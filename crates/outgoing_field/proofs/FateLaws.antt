@@ -2,6 +2,7 @@
 use Rattle.std.specs.Prelude.{◌≡◌, Bool, not, ℕ, ◌+◌, ◌-◌, ◌*◌, ◌≤◌, ◌<◌, T, leb, drop}
 use Rattle.std.proofs.Math.Path.{refl, sym}
 use Rattle.std.proofs.Common.{ap, ◌∙◌, length-append, length-take, length-drop, drop_of_length-le, le-leb}
+use Rattle.std.proofs.lemmas.Bool.{lt-leb}
 use Rattle.std.proofs.Math.Bool.{true, false, cond}
 use mathlib.Core.List.{List, [], ◌∷◌, ◌++◌, append-nil, append_assoc, map}
 use native.Mathlib.Omega.{arith}
@@ -24,9 +25,8 @@ use Rattle.header_line.specs.Lines.{name_len}
 use Rattle.header.specs.Fields.{field_len, fields_of, name_of, value_of, text_of, line_count}
 use Rattle.header.specs.FieldLaws.{field_le, fields_nil, fields_next, name_part, length_value}
 use Rattle.header.specs.AsciiFieldsLaws.{AsciiFields, value_ascii}
-use Rattle.field_text.specs.TextPlace.{text_place}
+use Rattle.field_text.specs.TextPlace.{text_place, in_place}
 use Rattle.field_text.specs.TextLaws.{wrote_front, length_text, text_there}
-use Rattle.field_text.specs.declared.TextPlace.TheVariants.{InPlace}
 use Rattle.header_name.specs.Names.{kind_of}
 use Rattle.header_name.specs.declared.Kind.{Kind}
 use Rattle.field_method.specs.declared.Method.{Method}
@@ -41,8 +41,8 @@ use Rattle.received.specs.Received.{received_field, passes as received_passes}
 use Rattle.parameterized_field.specs.Value.{parameterized_field, passes as parameters_pass}
 use Rattle.outgoing_field.specs.Fate.{Fate, comments_or_encapsulated, holds, method_written, method_fate, fate_of, segments_of, field_segments, header_segments, field_written, header_written, limited, is_held, held_from, held_of}
 use Rattle.outgoing_field.specs.Fate.Fate.{held, written}
-use Rattle.outgoing_field.specs.declared.HeldField.TheVariants.{Absent, At}
-use Rattle.outgoing_field.specs.FateLaws.{CommentsGiven, Roomy, Served, limited_len, needs_scratch}
+use Rattle.outgoing_field.specs.Fate.FirstHeld.{Absent, At}
+use Rattle.outgoing_field.specs.FateLaws.{CommentsGiven, Roomy, Served, needs_scratch}
 
 -- ---- a field whose value is ASCII
 
@@ -232,7 +232,7 @@ module _ {field made scratch : List ℕ} (s : Roomy field made scratch) where
   made_size {after} {n} w = sym (length-take-le n after (made_within w))
 
 -- a text that stands in the field
-pub text_placed : (field : List ℕ) {text : List ℕ} {a b : ℕ} → text_place field ≡ InPlace a b → text ≡ take (b - a) (drop a field) → text ≡ text_of field
+pub text_placed : (field : List ℕ) {text : List ℕ} {a b : ℕ} → text_place field ≡ in_place a b → text ≡ take (b - a) (drop a field) → text ≡ text_of field
 text_placed field {text} {a} {b} e q = q ∙ text_there field a b e
 
 pub served_placed : (method : Method) (field : List ℕ) {text scratch : List ℕ} → needs_scratch method ≡ false → length field ≤ 32768 → text ≡ text_of field → Served method field text scratch
@@ -248,28 +248,13 @@ module _ (rules : Rules) (field : List ℕ) {before after : List ℕ} {at r : �
   unfolding field_written
   added_by_method n e k q m a = rw e (rw (m, q, name_part field n k) at a)
 
-pub limited_small : {n : ℕ} (m : ℕ) → n ≡ limited_len m → n ≤ 32768
-unfolding limited_len
-limited_small m e = rw e (cond_has (λ (k : ℕ). k ≤ 32768) (leb m 32768) m 0 (λ t. leb_yes t) (λ t. omega arith))
+pub limited_within : (s : List ℕ) → length (limited s) ≤ 32768
+unfolding limited
+limited_within s = cond_has (λ (t : List ℕ). length t ≤ 32768) (leb (length s) 32768) s [] (λ t. leb_yes t) (λ t. omega arith)
 
-module _ (s : List ℕ) (n : ℕ) (e : n ≡ limited_len (length s)) where
-  pub limited_part : take n s ≡ limited s
-  unfolding limited limited_len
-  limited_part = rw e (go (leb (length s) 32768))
-    where
-      go : (b : Bool) → take (cond b (length s) 0) s ≡ cond b s []
-      go true = take-length s
-      go false = refl
-
-  limited_le : n ≤ length s
-  unfolding limited_len
-  limited_le = rw e (cond_has (λ n. n ≤ length s) (leb (length s) 32768) (length s) 0 (λ t. omega arith) (λ t. omega arith))
-
-  pub limited_size : n ≡ length (take n s)
-  limited_size = sym (length-take-le n s limited_le)
-
-  pub limited_within : length (take n s) ≤ 32768
-  limited_within = rw (length-take-le n s limited_le) (limited_small (length s) e)
+pub limited_over : (s : List ℕ) → 32768 < length s → take 0 s ≡ limited s
+unfolding limited
+limited_over s h = rw (lt-leb (length s) 32768 h) refl
 
 pub limited_short : (s : List ℕ) → length s ≤ 32768 → limited s ≡ s
 unfolding limited

@@ -15,10 +15,10 @@ use Rattle.header_name.specs.declared.Kind.{Kind}
 use Rattle.field_method.specs.declared.Method.{Method}
 use Rattle.field_method.specs.declared.Method.TheVariants.{Pieces, PlainText, Encapsulated, Received, CommentsOrHeld, CommentsOrEncapsulated, Parameters, Held}
 use Rattle.field_method.specs.FieldMethod.{method_of}
-use Rattle.outgoing_field.specs.declared.HeldField.TheVariants.{Absent, At}
+use Rattle.std.specs.Prelude.{Some, None, Ok, Err}
 use Rattle.outgoing_field.specs.Fate.{fate_of, is_held}
-use Rattle.outgoing_field.proofs.FateLaws.{HeldLeft, held_all, held_skip, held_end, held_here, held_next, found_none}
-use Rattle.outgoing_field.specs.Most.{method_most, field_most, fields_most, most_of, LookedAt}
+use Rattle.outgoing_field.proofs.FateLaws.{HeldLeft, held_all, held_skip, held_end, held_here, held_next}
+use Rattle.outgoing_field.specs.Most.{method_most, field_most, fields_most, most_of, LooksAs, Looked}
 
 -- ---- by the length
 
@@ -125,14 +125,12 @@ looking_small g k = most_small g.to k
 pub looking_skip : {rules : Rules} {h : List ℕ} {at r n : ℕ} → Looking rules h at n → at ≤ length h → AsciiFields h at r → Looking rules h r (n + 30 * (r - at))
 looking_skip g k p = record { left = held_skip g.left k p; to = most_skip g.to k p }
 
-pub looking_end : {rules : Rules} {h : List ℕ} {at n : ℕ} → Looking rules h at n → length h ≤ at → LookedAt rules h Absent n
-looking_end g k = record { first = held_end g.left k; greatest = λ e. most_end g.to k }
+pub looking_end : {rules : Rules} {h : List ℕ} {at n : ℕ} → Looking rules h at n → length h ≤ at → Looked rules h (Ok n)
+looking_end g k = (sym (held_end g.left k), most_end g.to k)
 
-module _ {rules : Rules} {h : List ℕ} {at to n : ℕ} (g : Looking rules h at n) (k : at < length h) (e : to ≡ at + field_len (drop at h)) {held : Bool} (q : held ≡ is_held (fate_of rules (take (to - at) (drop at h)))) where
-  pub looking_here : (most : ℕ) {line : ℕ} → held ≡ true → line ≡ line_count (take (at - 0) h) → LookedAt rules h (At line at) most
-  looking_here most {line} t l =
-      let here = held_here g.left k e (sym q ∙ t) line l in
-      record { first = here; greatest = λ z. absurd (found_none (here ∙ z)) }
+module _ {rules : Rules} {h : List ℕ} {at to n : ℕ} (g : Looking rules h at n) (k : at < length h) (e : to ≡ at + field_len (drop at h)) where
+  pub looking_here : {line : ℕ} → LooksAs rules (take (to - at) (drop at h)) None → line ≡ line_count (take (at - 0) h) → Looked rules h (Err (record { line = line; at = at }))
+  looking_here {line} t l = sym (held_here g.left k e t line l)
 
-  pub looking_next : {m : ℕ} → held ≡ false → m ≡ field_most rules (take (to - at) (drop at h)) → Looking rules h to (n + m)
-  looking_next t w = record { left = held_next g.left k e (sym q ∙ t); to = most_next g.to k e w }
+  pub looking_next : {m : ℕ} → LooksAs rules (take (to - at) (drop at h)) (Some m) → Looking rules h to (n + m)
+  looking_next t = record { left = held_next g.left k e t.0; to = most_next g.to k e t.1 }

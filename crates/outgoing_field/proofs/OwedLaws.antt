@@ -1,5 +1,5 @@
 -- What every method for a field owes: what is written for it is sound, and no longer than its most (Most.antt).
-use Rattle.std.specs.Prelude.{◌≡◌, refl, Bool, not, cond, ℕ, ◌+◌, ◌*◌, ◌≤◌, T}
+use Rattle.std.specs.Prelude.{◌≡◌, refl, Bool, not, cond, ℕ, ◌+◌, ◌*◌, ◌≤◌, T, Ok}
 use Rattle.std.proofs.Common.{ap, ◌∙◌, arith, length-append}
 use Rattle.std.proofs.Math.Bool.{true, false}
 use mathlib.Core.List.{List, [], ◌∷◌, ◌++◌, append-nil, map}
@@ -12,7 +12,6 @@ use Rattle.encoded_word.specs.Segments.{Segment, rendered, sound}
 use Rattle.encoded_word.specs.Segments.Segment.{raw}
 use Rattle.encoded_word.specs.SegmentsLaws.{rendered_append}
 use Rattle.rules.specs.declared.Rules.{Rules}
-use Rattle.header_line.specs.declared.LineCheck.TheVariants.{WellFormed}
 use Rattle.header_line.specs.Lines.{checked_lines}
 use Rattle.header.specs.Fields.{fields_of, name_of, value_of, text_of}
 use Rattle.header.specs.FieldLaws.{fields_joined}
@@ -132,6 +131,6 @@ owed_fields rules (field ∷ fields) s =
     }
 
 -- the same of all that is written for the fields of a well-formed header
-pub owed_header : (rules : Rules) (h : List ℕ) → checked_lines h ≡ WellFormed → Owed (most_of rules h) (written (header_segments rules h))
+pub owed_header : (rules : Rules) (h : List ℕ) → checked_lines h ≡ Ok tt → Owed (most_of rules h) (written (header_segments rules h))
 unfolding header_segments most_of
 owed_header rules h w = owed_fields rules (fields_of h) (fields_shaped h w)

@@ -15,8 +15,6 @@ use Rattle.address_pieces.specs.AddressField.{address_field}
 use Rattle.structured_field.specs.StructuredField.{ascii_outside_comments, structured_field}
 use Rattle.received.specs.Received.{received_field, passes as received_passes}
 use Rattle.parameterized_field.specs.Value.{parameterized_field, passes as parameters_pass}
-use Rattle.outgoing_field.specs.declared.HeldField.{HeldField}
-use Rattle.outgoing_field.specs.declared.HeldField.TheVariants.{Absent, At}
 
 pub data Fate : Type 0 where
   held : Fate
@@ -88,13 +86,18 @@ unfoldable pub is_held : Fate → Bool
 is_held held = true
 is_held (written segments) = false
 
+-- the first held field of a header, if any: the number of its first line, and the byte where it starts
+pub data FirstHeld : Type 0 where
+  Absent : FirstHeld
+  At : ℕ → ℕ → FirstHeld
+
 -- the first held field of these fields of a header, the first of which starts at the byte `at`. "a field's place is its first line":
 -- lines count from 0, so its number is how many lines end before it.
-unfoldable pub held_from : Rules → List ℕ → ℕ → List (List ℕ) → HeldField
-held_from rules h at [] = Absent
+unfoldable pub held_from : Rules → List ℕ → ℕ → List (List ℕ) → FirstHeld
+held_from rules h at [] = FirstHeld.Absent
 held_from rules h at (field ∷ fields) =
-    cond (is_held (fate_of rules field)) (At (line_count (take at h)) at) (held_from rules h (at + length field) fields)
+    cond (is_held (fate_of rules field)) (FirstHeld.At (line_count (take at h)) at) (held_from rules h (at + length field) fields)
 
 -- the first held field of a header
-unfoldable pub held_of : Rules → List ℕ → HeldField
+unfoldable pub held_of : Rules → List ℕ → FirstHeld
 held_of rules h = held_from rules h 0 (fields_of h)

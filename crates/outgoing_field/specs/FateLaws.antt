@@ -26,7 +26,6 @@ use Rattle.header.specs.FieldLaws.{field_le, fields_nil, fields_next, name_part,
 use Rattle.header.specs.AsciiFieldsLaws.{AsciiFields, value_ascii}
 use Rattle.field_text.specs.TextPlace.{text_place}
 use Rattle.field_text.specs.TextLaws.{wrote_front, length_text, text_there}
-use Rattle.field_text.specs.declared.TextPlace.TheVariants.{InPlace}
 use Rattle.header_name.specs.Names.{kind_of}
 use Rattle.header_name.specs.declared.Kind.{Kind}
 use Rattle.field_method.specs.declared.Method.{Method}
@@ -41,7 +40,7 @@ use Rattle.received.specs.Received.{received_field, passes as received_passes}
 use Rattle.parameterized_field.specs.Value.{parameterized_field, passes as parameters_pass}
 use Rattle.outgoing_field.specs.Fate.{Fate, comments_or_encapsulated, holds, method_written, method_fate, fate_of, segments_of, field_segments, header_segments, field_written, header_written, limited, is_held, held_from, held_of}
 use Rattle.outgoing_field.specs.Fate.Fate.{held, written}
-use Rattle.outgoing_field.specs.declared.HeldField.TheVariants.{Absent, At}
+use Rattle.outgoing_field.specs.Fate.FirstHeld.{Absent, At}
 
 -- ---- a field by the method for it
 
@@ -74,8 +73,3 @@ pub record Roomy (field made scratch : List ℕ) : Type 0 where
   pub short : length field ≤ 32768
   pub text : length field ≤ length made
   pub room : 2 * length field ≤ length scratch
-
--- ---- the limit
-
-unfoldable pub limited_len : ℕ → ℕ
-limited_len n = cond (leb n 32768) n 0

@@ -5,7 +5,7 @@ mod held;
 mod writer;
 
 ghost use Rattle.std.specs.Prelude.{◌≡◌};
-ghost use Rattle.outgoing_field.specs.FateLaws.{limited_len};
+ghost use Rattle.outgoing_field.specs.Fate.{limited};
 
 pub use held::first_held;
 pub use writer::{add_field, add_fields};
@@ -13,23 +13,16 @@ pub use writer::{add_field, add_fields};
 // The most bytes that a header has, and so a field.
 const LIMIT: usize = 32768;
 
-// The first held field: the number of its first line, and the byte where it starts.
-#[derive(Clone, Copy)]
-pub enum HeldField {
-    Absent,
-    At(usize, usize),
+// A held field: the number of its first line, and the byte where it starts.
+#[derive(Clone, Copy, Debug, PartialEq, Eq)]
+pub struct HeldField {
+    pub line: usize,
+    pub at: usize,
 }
 
-// What was found in a header: the first held field; where none is, the most bytes that are written for it.
-#[derive(Clone, Copy)]
-pub struct Looked {
-    pub held: HeldField,
-    pub most: usize,
-}
-
-// How many of n bytes count.
-pub(crate) fn limited_len(n: usize) -> usize
-    ensures { result ≡ limited_len n }
+// A header or a field; one over the limit counts as empty.
+fn limited(s: &[u8]) -> &[u8]
+    ensures { result.now ≡ limited s.now }
 {
-    if n <= LIMIT { n } else { 0 }
+    if s.len() <= LIMIT { s } else { &s[..0] }
 }

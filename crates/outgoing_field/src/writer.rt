@@ -1,11 +1,11 @@
 // What is written for the fields of a header.
-ghost use Rattle.std.specs.Prelude.{◌≡◌, ◌≤◌, length};
+ghost use Rattle.std.specs.Prelude.{◌*◌, ◌≡◌, ◌≤◌, length};
 ghost use Rattle.buffer.specs.Buffer.{AppendedCapped};
 ghost use Rattle.encoded_word.specs.Segments.{rendered};
 ghost use Rattle.outgoing_field.specs.Fate.{comments_or_encapsulated, method_written, field_written, header_written, limited};
 ghost use Rattle.outgoing_field.specs.FateLaws.{needs_scratch, CommentsGiven, Served, Roomy};
 
-use crate::limited_len;
+use crate::limited;
 use field_method::Method;
 use field_text::TextPlace;
 use rules::Rules;
@@ -88,7 +88,7 @@ fn add_with(
     ensures { AppendedCapped (rendered (method_written rules method field.now)) at out.old out.new result }
 {
     match field_text::place(field) {
-        TextPlace::InPlace(from, to) => {
+        Some(TextPlace { from, to }) => {
             add_by_method(
                 out,
                 at,
@@ -99,46 +99,38 @@ fn add_with(
                 scratch,
             )
         }
-        TextPlace::Folded => {
+        None => {
             let size = field_text::put(made, field);
             add_by_method(out, at, rules, method, field, &made[..size], scratch)
         }
     }
 }
 
-// A field of at most 1,024 bytes: small buffers take less time to clear.
-fn add_short(out: &mut [u8], at: usize, rules: Rules, method: Method, field: &[u8]) -> usize
-    requires { length field.now ≤ 1024 }
+// A field, its text and its scratch made in buffers of so many bytes: small ones take less time to clear.
+fn add_made<const TEXT: usize, const SCRATCH: usize>(
+    out: &mut [u8],
+    at: usize,
+    rules: Rules,
+    method: Method,
+    field: &[u8],
+) -> usize
+    requires { (length field.now ≤ 32768) × (length field.now ≤ TEXT) × (2 * TEXT ≤ SCRATCH) × (SCRATCH ≤ 65536) }
     ensures { AppendedCapped (rendered (method_written rules method field.now)) at out.old out.new result }
 {
-    let mut made = [0u8; 1024];
-    let mut scratch = [0u8; 2048];
-    add_with(out, at, rules, method, field, &mut made, &mut scratch)
-}
-
-fn add_long(out: &mut [u8], at: usize, rules: Rules, method: Method, field: &[u8]) -> usize
-    requires { length field.now ≤ 32768 }
-    ensures { AppendedCapped (rendered (method_written rules method field.now)) at out.old out.new result }
-{
-    let mut made = [0u8; 32768];
-    let mut scratch = [0u8; 65536];
+    let mut made = [0u8; TEXT];
+    let mut scratch = [0u8; SCRATCH];
     add_with(out, at, rules, method, field, &mut made, &mut scratch)
 }
 
 // Whether a method needs a scratch besides the field's text.
+#[tactic(auto, unfolding(crate::specs::FateLaws::needs_scratch))]
 fn needs_scratch(method: Method) -> bool
     ensures { result ≡ needs_scratch method }
 {
-    match method {
-        Method::Pieces => true,
-        Method::PlainText => false,
-        Method::Encapsulated => false,
-        Method::Received => true,
-        Method::CommentsOrHeld => true,
-        Method::CommentsOrEncapsulated => true,
-        Method::Parameters => true,
-        Method::Held => false,
-    }
+    !matches!(
+        method,
+        Method::PlainText | Method::Encapsulated | Method::Held
+    )
 }
 
 // A field whose value is not ASCII. Most texts that are encoded whole have no fold, and need no buffer.
@@ -147,7 +139,7 @@ fn add_non_ascii(out: &mut [u8], at: usize, rules: Rules, method: Method, field:
     ensures { AppendedCapped (rendered (method_written rules method field.now)) at out.old out.new result }
 {
     if !needs_scratch(method) {
-        if let TextPlace::InPlace(from, to) = field_text::place(field) {
+        if let Some(TextPlace { from, to }) = field_text::place(field) {
             let mut none = [0u8; 0];
             return add_by_method(
                 out,
@@ -161,9 +153,9 @@ fn add_non_ascii(out: &mut [u8], at: usize, rules: Rules, method: Method, field:
         }
     }
     if field.len() <= 1024 {
-        return add_short(out, at, rules, method, field);
+        return add_made::<1024, 2048>(out, at, rules, method, field);
     }
-    add_long(out, at, rules, method, field)
+    add_made::<32768, 65536>(out, at, rules, method, field)
 }
 
 fn add_limited(out: &mut [u8], at: usize, rules: Rules, field: &[u8]) -> usize
@@ -183,8 +175,7 @@ fn add_limited(out: &mut [u8], at: usize, rules: Rules, field: &[u8]) -> usize
 pub fn add_field(out: &mut [u8], at: usize, rules: Rules, field: &[u8]) -> usize
     ensures { AppendedCapped (rendered (field_written rules (limited field.now))) at out.old out.new result }
 {
-    let end = limited_len(field.len());
-    add_limited(out, at, rules, &field[..end])
+    add_limited(out, at, rules, limited(field))
 }
 
 fn add_all(out: &mut [u8], at: usize, rules: Rules, h: &[u8]) -> usize
@@ -211,6 +202,5 @@ fn add_all(out: &mut [u8], at: usize, rules: Rules, h: &[u8]) -> usize
 pub fn add_fields(out: &mut [u8], at: usize, rules: Rules, h: &[u8]) -> usize
     ensures { AppendedCapped (rendered (header_written rules (limited h.now))) at out.old out.new result }
 {
-    let end = limited_len(h.len());
-    add_all(out, at, rules, &h[..end])
+    add_all(out, at, rules, limited(h))
 }

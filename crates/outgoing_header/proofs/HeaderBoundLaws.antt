@@ -1,5 +1,5 @@
 -- Bounds of a header's refusals: places and offsets lie in the header.
-use Rattle.std.specs.Prelude.{◌≡◌, refl, List, [], ◌∷◌, ℕ, suc, ◌+◌, ◌≤◌, eqb, length, take, drop}
+use Rattle.std.specs.Prelude.{◌≡◌, refl, List, [], ◌∷◌, ℕ, suc, ◌+◌, ◌≤◌, eqb, length, take, drop, Ok}
 use Rattle.std.proofs.Common.{ap, arith, length-append, length-take, length-drop}
 use Rattle.lists.specs.Byte.{is_ascii}
 use Rattle.lists.specs.Lists.{joined}
@@ -7,36 +7,34 @@ use Rattle.lists.specs.ListsLaws.{cond_has}
 use Rattle.lists.specs.CutByLaws.{cut_few, cut_joined}
 use Rattle.lists.specs.RunLaws.{run_le}
 use Rattle.line.specs.Line.{crlf, line_len}
-use Rattle.header_line.specs.declared.LineCheck.{LineCheck}
-use Rattle.header_line.specs.declared.LineCheck.TheVariants.{WellFormed, Malformed}
-use Rattle.header_line.specs.Lines.{line_ok, lines_of, lines_from, checked_lines}
+use Rattle.header_line.specs.Lines.{line_ok, lines_of, lines_from, checked_lines, bad_line, LineCheck}
 use Rattle.header.specs.Fields.{field_len, fields_of, line_count}
 use Rattle.header_stop.specs.HeaderStopLaws.{line_stop_lem}
 use Rattle.rules.specs.declared.Rules.{Rules}
-use Rattle.outgoing_field.specs.declared.HeldField.{HeldField}
-use Rattle.outgoing_field.specs.declared.HeldField.TheVariants.{Absent, At}
+use Rattle.outgoing_field.specs.Fate.{FirstHeld}
+use Rattle.outgoing_field.specs.Fate.FirstHeld.{Absent, At}
 use Rattle.outgoing_field.specs.Fate.{fate_of, is_held, held_from, held_of}
 use Rattle.offset.specs.Offset.{front_line, header_line_offset, field_offset}
 use Rattle.offset.specs.OffsetLaws.{front_within}
 
 -- a malformed header line, and where it starts
 data LineWithin (n m : ℕ) : LineCheck → Type 0 where
-  well_formed_lem : LineWithin n m WellFormed
-  malformed : {line at : ℕ} → line ≤ n → at ≤ m → LineWithin n m (Malformed line at)
+  well_formed_lem : LineWithin n m (Ok tt)
+  malformed : {line at : ℕ} → line ≤ n → at ≤ m → LineWithin n m (bad_line line at)
 
 lines_within : (n at i j : ℕ) (ls : List (List ℕ)) → n + length ls ≤ i → at + length (joined ls) ≤ j → LineWithin i j (lines_from n at ls)
 unfolding lines_from
 lines_within n at i j [] k l = well_formed_lem
 lines_within n at i j (line ∷ more) k l =
     let size = length-append line (joined more) in
-    cond_has (LineWithin i j) (line_ok (eqb n 0) line) (lines_from (suc n) (at + length line) more) (Malformed n at)
+    cond_has (LineWithin i j) (line_ok (eqb n 0) line) (lines_from (suc n) (at + length line) more) (bad_line n at)
     (λ t. lines_within (suc n) (at + length line) i j more (omega arith) (omega arith))
     (λ t. malformed (omega arith) (omega arith))
 
-malformed_line : {n m line at : ℕ} → LineWithin n m (Malformed line at) → (line ≤ n) × (at ≤ m)
+malformed_line : {n m line at : ℕ} → LineWithin n m (bad_line line at) → (line ≤ n) × (at ≤ m)
 malformed_line (malformed k l) = (k, l)
 
-pub malformed_le : (h : List ℕ) (line at : ℕ) → checked_lines h ≡ Malformed line at → (line ≤ length h) × (at ≤ length h)
+pub malformed_le : (h : List ℕ) (line at : ℕ) → checked_lines h ≡ bad_line line at → (line ≤ length h) × (at ≤ length h)
 unfolding checked_lines lines_of
 malformed_le h line at q =
     let size : List ℕ → ℕ = λ rest. line_len rest + 2 in
@@ -47,7 +45,7 @@ unfolding header_line_offset
 header_line_le h n at k = omega (arith, (line_stop_lem (eqb n 0) (front_line (drop at h))).inside, front_within h at k)
 
 -- a held field, and where it starts
-data HeldWithin (h : List ℕ) (n : ℕ) : HeldField → Type 0 where
+data HeldWithin (h : List ℕ) (n : ℕ) : FirstHeld → Type 0 where
   absent : HeldWithin h n Absent
   at_field : {at : ℕ} → at ≤ n → HeldWithin h n (At (line_count (take at h)) at)
 

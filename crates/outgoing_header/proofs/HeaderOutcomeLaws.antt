@@ -1,7 +1,9 @@
 -- Laws of a header's outcome, case by case.
+use Rattle.outgoing_header.specs.HeaderContent.{HeaderContent}
+use Rattle.outgoing_header.specs.HeaderOutcome.{HeaderVerdict}
 use Rattle.std.proofs.Math.Path.{◌≡◌, refl, sym}
 use Rattle.std.proofs.Common.{ap, ◌∙◌, not-suc-le-zero, lt-ltb, le-ltb}
-use Rattle.std.specs.Prelude.{true, false, List, [], ◌∷◌, ◌++◌, ℕ, ◌*◌, ◌≤◌, ◌<◌, ltb}
+use Rattle.std.specs.Prelude.{true, false, List, [], ◌∷◌, ◌++◌, ℕ, ◌*◌, ◌≤◌, ◌<◌, ltb, Ok, Err, IsErrAnd}
 use native.Mathlib.Omega.{arith}
 use Rattle.std.proofs.Math.ListN.{length}
 use Rattle.std.proofs.Math.Facts.{ltb_yes, ltb_no}
@@ -9,44 +11,38 @@ use Rattle.lists.specs.ListsLaws.{by_test}
 use Rattle.buffer.specs.Buffer.{Wrote, AppendedCapped}
 use Rattle.buffer.specs.BufferLaws.{wrote_of}
 use Rattle.encoded_word.specs.Segments.{rendered}
-use Rattle.header_line.specs.declared.LineCheck.{LineCheck}
-use Rattle.header_line.specs.declared.LineCheck.TheVariants.{WellFormed, Malformed}
-use Rattle.header_line.specs.Lines.{checked_lines}
+use Rattle.header_line.specs.Lines.{checked_lines, LineCheck}
 use Rattle.rules.specs.declared.Rules.{Rules}
-use Rattle.outgoing_field.specs.declared.HeldField.{HeldField}
-use Rattle.outgoing_field.specs.declared.HeldField.TheVariants.{Absent, At}
+use Rattle.outgoing_field.specs.Fate.{FirstHeld}
+use Rattle.outgoing_field.specs.Fate.FirstHeld.{Absent, At}
 use Rattle.outgoing_field.specs.Fate.{segments_of, header_written, limited, held_of}
 use Rattle.outgoing_field.proofs.FateLaws.{limited_short, unheld_header}
-use Rattle.outgoing_field.specs.Most.{most_of, LookedAt}
+use Rattle.outgoing_field.specs.Most.{most_of}
 use Rattle.outgoing_field.proofs.MostLaws.{most_le}
 use Rattle.outgoing_field.proofs.OwedLaws.{owed_header}
 use Rattle.offset.specs.Offset.{field_offset}
 use Rattle.outgoing_header.specs.declared.HeaderRefusal.{HeaderRefusal}
 use Rattle.outgoing_header.specs.declared.HeaderRefusal.TheVariants.{Over, Held, Needs}
-use Rattle.outgoing_header.specs.declared.HeaderVerdict.{HeaderVerdict}
-use Rattle.outgoing_header.specs.declared.HeaderVerdict.TheVariants.{Accept, Refuse}
 use Rattle.outgoing_header.specs.declared.HeaderAnswer.{HeaderAnswer}
-use Rattle.outgoing_header.specs.declared.HeaderContent.{HeaderContent}
-use Rattle.outgoing_header.specs.declared.HeaderContent.TheVariants.{Passes, Fails}
 use Rattle.outgoing_header.specs.HeaderContent.{with_most}
 use Rattle.outgoing_header.specs.HeaderOutcome.{number_of, place_of, offset_of, of_size, of_lines, of_held, of_room, first_of, header_out, header_verdict, header_outcome_of, header_outcome, header_observed}
 use Rattle.outgoing_header.specs.HeaderOutcomeLaws.{Needed, Passed, RefusedBy}
 
 -- ---- size and room
 
-pub size_over : (h : List ℕ) → 32768 < length h → of_size h ≡ Refuse Over
+pub size_over : (h : List ℕ) → 32768 < length h → of_size h ≡ Err Over
 unfolding of_size
 size_over h k = rw (lt-ltb 32768 (length h) k)
 
-pub size_within : (h : List ℕ) → length h ≤ 32768 → of_size h ≡ Accept
+pub size_within : (h : List ℕ) → length h ≤ 32768 → of_size h ≡ (Ok tt)
 unfolding of_size
 size_within h k = rw (le-ltb 32768 (length h) k)
 
-pub room_short : (room size : ℕ) → room < size → of_room room size ≡ Refuse (Needs size)
+pub room_short : (room size : ℕ) → room < size → of_room room size ≡ Err (Needs size)
 unfolding of_room
 room_short room size k = rw (lt-ltb room size k)
 
-pub room_enough : (room size : ℕ) → size ≤ room → of_room room size ≡ Accept
+pub room_enough : (room size : ℕ) → size ≤ room → of_room room size ≡ (Ok tt)
 unfolding of_room
 room_enough room size k = rw (le-ltb room size k)
 
@@ -73,34 +69,30 @@ module _ {rules : Rules} {h : List ℕ} (p : Passed rules h) where
 -- ---- a verdict with the most
 
 -- what tells a verdict that passes, or fails
-pub with_passes : (v : HeaderVerdict) (n : ℕ) {m : ℕ} → with_most v n ≡ Passes m → (v ≡ Accept) × (m ≡ n)
+pub with_passes : (v : HeaderVerdict) (n : ℕ) {m : ℕ} → with_most v n ≡ Ok m → (v ≡ (Ok tt)) × (m ≡ n)
 unfolding with_most
-with_passes Accept n {m} e = (refl, let k : m ≡ n = cc in k)
-with_passes (Refuse refusal) n e = absurd (let z : ◌≡◌ {A = ℕ} 0 1 = cc in omega arith)
+with_passes (Ok tt) n {m} e = (refl, let k : m ≡ n = cc in k)
+with_passes (Err refusal) n e = absurd (let z : ◌≡◌ {A = ℕ} 0 1 = cc in omega arith)
 
-pub with_fails : (v : HeaderVerdict) (n : ℕ) {refusal : HeaderRefusal} → with_most v n ≡ Fails refusal → v ≡ Refuse refusal
+pub with_fails : (v : HeaderVerdict) (n : ℕ) {refusal : HeaderRefusal} → with_most v n ≡ Err refusal → v ≡ Err refusal
 unfolding with_most
-with_fails Accept n e = absurd (let z : ◌≡◌ {A = ℕ} 0 1 = cc in omega arith)
-with_fails (Refuse r) n {refusal} e = let k : r ≡ refusal = cc in ap Refuse k
+with_fails (Ok tt) n e = absurd (let z : ◌≡◌ {A = ℕ} 0 1 = cc in omega arith)
+with_fails (Err r) n {refusal} e = let k : r ≡ refusal = cc in ap Err k
 
 -- a walk that found no held field, or one
-module _ {rules : Rules} (h : List ℕ) {s : List ℕ} {held : HeldField} {most : ℕ} (l : LookedAt rules s held most) where
-  pub held_absent : held ≡ Absent → Passes most ≡ with_most (of_held h (held_of rules s)) (most_of rules s)
+module _ (rules : Rules) (h s : List ℕ) where
+  pub held_absent : {most : ℕ} → (held_of rules s ≡ Absent) × (most ≡ most_of rules s) → Ok most ≡ with_most (of_held h (held_of rules s)) (most_of rules s)
   unfolding with_most of_held
-  held_absent e =
-      let none : held_of rules s ≡ Absent = sym l.first ∙ e in
-      rw (none, l.greatest none)
+  held_absent l = rw (l.0, l.1)
 
-  pub held_found : {line at n : ℕ} → held ≡ At line at → n ≡ field_offset h at → Fails (Held line n) ≡ with_most (of_held h (held_of rules s)) (most_of rules s)
+  pub held_found : {line at n : ℕ} → held_of rules s ≡ At line at → n ≡ field_offset h at → Err (Held line n) ≡ with_most (of_held h (held_of rules s)) (most_of rules s)
   unfolding with_most of_held
-  held_found {line} {at} e k =
-      let found : held_of rules s ≡ At line at = sym l.first ∙ e in
-      rw (found, k)
+  held_found l k = rw (l, k)
 
 -- ---- refusals
 
 -- where a verdict refuses, so does the call
-pub refused_observed : (rules : Rules) (h c : List ℕ) {refusal : HeaderRefusal} {r : HeaderAnswer} → header_verdict rules h (length c) ≡ Refuse refusal → RefusedBy refusal r
+pub refused_observed : (rules : Rules) (h c : List ℕ) {refusal : HeaderRefusal} {r : HeaderAnswer} → header_verdict rules h (length c) ≡ Err refusal → RefusedBy refusal r
     → header_observed r c ≡ header_outcome rules h c
 unfolding header_outcome header_outcome_of
 refused_observed rules h c v a = rw (v, a.number, a.place, a.offset, a.none)
@@ -112,38 +104,42 @@ of_content rules h = of_size h ∷ of_lines h (checked_lines h) ∷ of_held h (h
 -- the same, as code finds them
 first_one : (v : HeaderVerdict) → first_of (v ∷ []) ≡ v
 unfolding first_of
-first_one Accept = refl
-first_one (Refuse refusal) = refl
+first_one (Ok tt) = refl
+first_one (Err refusal) = refl
 
 module _ (rules : Rules) (h : List ℕ) where
-  pub over_content : (n : ℕ) → 32768 < length h → Fails Over ≡ with_most (first_of (of_content rules h)) n
+  pub over_content : (n : ℕ) → 32768 < length h → Err Over ≡ with_most (first_of (of_content rules h)) n
   unfolding first_of with_most
   over_content n k = rw (size_over h k)
 
   module _ (s : length h ≤ 32768) {v : HeaderVerdict} (e : v ≡ of_lines h (checked_lines h)) where
-    pub line_content : (n : ℕ) {refusal : HeaderRefusal} → v ≡ Refuse refusal → Fails refusal ≡ with_most (first_of (of_content rules h)) n
+    line_refused : (n : ℕ) {refusal : HeaderRefusal} → v ≡ Err refusal → Err refusal ≡ with_most (first_of (of_content rules h)) n
     unfolding first_of with_most
-    line_content n k = rw (size_within h s, ← e, k)
+    line_refused n k = rw (size_within h s, ← e, k)
 
-    pub held_content : (n : ℕ) {w : HeaderContent} → v ≡ Accept → w ≡ with_most (of_held h (held_of rules (limited h))) n → w ≡ with_most (first_of (of_content rules h)) n
+    pub line_content : (n : ℕ) (refusal : HeaderRefusal) (r : HeaderContent) → v ≡ Err refusal → IsErrAnd r (λ x. x ≡ refusal) → r ≡ with_most (first_of (of_content rules h)) n
+    line_content n refusal (Ok most) k a = absurd a
+    line_content n refusal (Err other) k a = rw a (line_refused n k)
+
+    pub held_content : (n : ℕ) {w : HeaderContent} → v ≡ (Ok tt) → w ≡ with_most (of_held h (held_of rules (limited h))) n → w ≡ with_most (first_of (of_content rules h)) n
     unfolding first_of
     held_content n k q = rw (limited_short h s) at q ∙ rw (size_within h s, ← e, k) (ap (λ v. with_most v n) (sym (first_one (of_held h (held_of rules h)))))
 
 -- of verdicts one after another
-first_refused : (a b : List HeaderVerdict) (refusal : HeaderRefusal) → first_of a ≡ Refuse refusal → first_of (a ++ b) ≡ Refuse refusal
+first_refused : (a b : List HeaderVerdict) (refusal : HeaderRefusal) → first_of a ≡ Err refusal → first_of (a ++ b) ≡ Err refusal
 unfolding first_of
 first_refused [] b refusal k = absurd (let z : ◌≡◌ {A = ℕ} 0 1 = cc in omega arith)
-first_refused (Accept ∷ a) b refusal k = first_refused a b refusal k
-first_refused (Refuse r ∷ a) b refusal k = k
+first_refused ((Ok tt) ∷ a) b refusal k = first_refused a b refusal k
+first_refused (Err r ∷ a) b refusal k = k
 
-first_accepted : (a b : List HeaderVerdict) → first_of a ≡ Accept → first_of (a ++ b) ≡ first_of b
+first_accepted : (a b : List HeaderVerdict) → first_of a ≡ (Ok tt) → first_of (a ++ b) ≡ first_of b
 unfolding first_of
 first_accepted [] b k = refl
-first_accepted (Accept ∷ a) b k = first_accepted a b k
-first_accepted (Refuse r ∷ a) b k = absurd (let z : ◌≡◌ {A = ℕ} 0 1 = cc in omega arith)
+first_accepted ((Ok tt) ∷ a) b k = first_accepted a b k
+first_accepted (Err r ∷ a) b k = absurd (let z : ◌≡◌ {A = ℕ} 0 1 = cc in omega arith)
 
 module _ (rules : Rules) (h : List ℕ) (room : ℕ) where
-  pub content_refused : {refusal : HeaderRefusal} → first_of (of_content rules h) ≡ Refuse refusal → header_verdict rules h room ≡ Refuse refusal
+  pub content_refused : {refusal : HeaderRefusal} → first_of (of_content rules h) ≡ Err refusal → header_verdict rules h room ≡ Err refusal
   unfolding header_verdict
   content_refused {refusal} k = first_refused (of_content rules h) (of_room room (length (header_out rules h)) ∷ []) refusal k
 
@@ -153,20 +149,20 @@ module _ (rules : Rules) (h : List ℕ) (room : ℕ) where
 
 -- content that is not refused
 module _ (rules : Rules) (h : List ℕ) where
-  by_content : length h ≤ 32768 → (l : LineCheck) → checked_lines h ≡ l → (f : HeldField) → held_of rules h ≡ f → first_of (of_lines h l ∷ of_held h f ∷ []) ≡ Accept → Passed rules h
+  by_content : length h ≤ 32768 → (l : LineCheck) → checked_lines h ≡ l → (f : FirstHeld) → held_of rules h ≡ f → first_of (of_lines h l ∷ of_held h f ∷ []) ≡ (Ok tt) → Passed rules h
   unfolding first_of of_lines of_held
-  by_content s WellFormed l Absent f k = record { short = s; lines = l; none = f }
-  by_content s WellFormed l (At line at) f k = absurd (let z : ◌≡◌ {A = ℕ} 0 1 = cc in omega arith)
-  by_content s (Malformed line at) l held f k = absurd (let z : ◌≡◌ {A = ℕ} 0 1 = cc in omega arith)
+  by_content s (Ok tt) l Absent f k = record { short = s; lines = l; none = f }
+  by_content s (Ok tt) l (At line at) f k = absurd (let z : ◌≡◌ {A = ℕ} 0 1 = cc in omega arith)
+  by_content s (Err bad) l held f k = absurd (let z : ◌≡◌ {A = ℕ} 0 1 = cc in omega arith)
 
-  pub content : first_of (of_content rules h) ≡ Accept → Passed rules h
+  pub content : first_of (of_content rules h) ≡ (Ok tt) → Passed rules h
   unfolding first_of
   content k =
       by_test (ltb 32768 (length h))
       (λ t. absurd (never (rw (size_over h (ltb_yes {a = 32768} {b = length h} t)) at k)))
       (λ t. let s = ltb_no {a = 32768} {b = length h} t in by_content s (checked_lines h) refl (held_of rules h) refl (rw (size_within h s) at k))
     where
-      never : Refuse Over ≡ Accept → ⊥
+      never : ◌≡◌ {A = HeaderVerdict} (Err Over) (Ok tt) → ⊥
       never e = let z : ◌≡◌ {A = ℕ} 0 1 = cc in omega arith
 
 -- ---- by the buffer
@@ -182,11 +178,11 @@ module _ {rules : Rules} {h : List ℕ} (p : Passed rules h) (c : List ℕ) wher
       → Wrote (header_out rules h) c c' a.length → header_observed a c' ≡ header_outcome rules h c
   unfolding first_of header_outcome header_outcome_of
   written_out {m} {c'} {a} d l x y z w =
-      let fine : header_verdict rules h (length c) ≡ Accept = passed_verdict rules h (length c) p ∙ rw (room_enough (length c) (length (header_out rules h)) (d.enough l)) in
+      let fine : header_verdict rules h (length c) ≡ (Ok tt) = passed_verdict rules h (length c) p ∙ rw (room_enough (length c) (length (header_out rules h)) (d.enough l)) in
       rw (fine, x, y, z, w.size, w.bytes)
 
 -- content that passes
-pub content_passes : (rules : Rules) (h : List ℕ) {m : ℕ} → with_most (first_of (of_content rules h)) (most_of rules (limited h)) ≡ Passes m → Passed rules h × (m ≡ most_of rules h)
+pub content_passes : (rules : Rules) (h : List ℕ) {m : ℕ} → with_most (first_of (of_content rules h)) (most_of rules (limited h)) ≡ Ok m → Passed rules h × (m ≡ most_of rules h)
 content_passes rules h {m} e =
     let both = with_passes (first_of (of_content rules h)) (most_of rules (limited h)) e in
     let p = content rules h both.0 in

@@ -1,10 +1,13 @@
 -- A verdict on what stands in a header, with its most: code finds both by one walk.
-use Rattle.std.specs.Prelude.{ℕ}
-use Rattle.outgoing_header.specs.declared.HeaderVerdict.{HeaderVerdict}
-use Rattle.outgoing_header.specs.declared.HeaderVerdict.TheVariants.{Accept, Refuse}
-use Rattle.outgoing_header.specs.declared.HeaderContent.{HeaderContent}
-use Rattle.outgoing_header.specs.declared.HeaderContent.TheVariants.{Passes, Fails}
+use Rattle.std.specs.Prelude.{Ok, Err}
+use Rattle.outgoing_header.specs.HeaderOutcome.{HeaderVerdict}
+use Rattle.std.specs.Prelude.{ℕ, Result}
+use Rattle.outgoing_header.specs.declared.HeaderRefusal.{HeaderRefusal}
+
+-- the most bytes that are written for a header, or its refusal
+abbrev pub HeaderContent : Type 0
+HeaderContent = Result ℕ HeaderRefusal
 
 unfoldable pub with_most : HeaderVerdict → ℕ → HeaderContent
-with_most Accept most = Passes most
-with_most (Refuse refusal) most = Fails refusal
+with_most (Ok tt) most = Ok most
+with_most (Err refusal) most = Err refusal

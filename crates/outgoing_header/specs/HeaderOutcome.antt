@@ -1,23 +1,23 @@
 -- What a header on its own is answered by the rules, and its buffer afterwards: the refusals of a header, their order, and what is written.
 -- The call adds an envelope to it; for a mailbox it is all.
-use Rattle.std.specs.Prelude.{cond, List, [], ◌∷◌, ℕ, ltb, length}
+use Rattle.std.specs.Prelude.{cond, List, [], ◌∷◌, ℕ, ltb, length, Result, Ok, Err, ⊤}
 use Rattle.buffer.specs.Buffer.{overlay}
 use Rattle.encoded_word.specs.Segments.{rendered}
-use Rattle.header_line.specs.declared.LineCheck.{LineCheck}
-use Rattle.header_line.specs.declared.LineCheck.TheVariants.{WellFormed, Malformed}
-use Rattle.header_line.specs.Lines.{checked_lines}
+use Rattle.header_line.specs.Lines.{checked_lines, LineCheck}
 use Rattle.rules.specs.declared.Rules.{Rules}
-use Rattle.outgoing_field.specs.declared.HeldField.{HeldField}
-use Rattle.outgoing_field.specs.declared.HeldField.TheVariants.{Absent, At}
+use Rattle.outgoing_field.specs.Fate.{FirstHeld}
+use Rattle.outgoing_field.specs.Fate.FirstHeld.{Absent, At}
 use Rattle.outgoing_field.specs.Fate.{header_segments, held_of}
 use Rattle.offset.specs.Offset.{header_line_offset, field_offset}
 use Rattle.outgoing_header.specs.declared.HeaderRefusal.{HeaderRefusal}
 use Rattle.outgoing_header.specs.declared.HeaderRefusal.TheVariants.{Over, Line, Held, Needs}
-use Rattle.outgoing_header.specs.declared.HeaderVerdict.{HeaderVerdict}
-use Rattle.outgoing_header.specs.declared.HeaderVerdict.TheVariants.{Accept, Refuse}
 use Rattle.outgoing_header.specs.declared.HeaderAnswer.{HeaderAnswer}
 
 -- ---- the refusals
+
+-- a header passes, or is refused
+abbrev pub HeaderVerdict : Type 0
+HeaderVerdict = Result ⊤ HeaderRefusal
 
 -- the paper's number for each refusal of a header
 unfoldable pub number_of : HeaderRefusal → ℕ
@@ -42,29 +42,29 @@ offset_of (Needs size) = 0
 
 -- "header over 32,768"
 unfoldable pub of_size : List ℕ → HeaderVerdict
-of_size h = cond (ltb 32768 (length h)) (Refuse Over) Accept
+of_size h = cond (ltb 32768 (length h)) (Err Over) (Ok tt)
 
 -- "the first 5"
 unfoldable pub of_lines : List ℕ → LineCheck → HeaderVerdict
-of_lines h WellFormed = Accept
-of_lines h (Malformed line at) = Refuse (Line line (header_line_offset h line at))
+of_lines h (Ok ok) = (Ok tt)
+of_lines h (Err bad) = Err (Line bad.line (header_line_offset h bad.line bad.at))
 
 -- 6 of a held field
-unfoldable pub of_held : List ℕ → HeldField → HeaderVerdict
-of_held h Absent = Accept
-of_held h (At line at) = Refuse (Held line (field_offset h at))
+unfoldable pub of_held : List ℕ → FirstHeld → HeaderVerdict
+of_held h Absent = (Ok tt)
+of_held h (At line at) = Err (Held line (field_offset h at))
 
 -- "header output longer than its buffer": the buffer's room, and the output's length
 unfoldable pub of_room : ℕ → ℕ → HeaderVerdict
-of_room room size = cond (ltb room size) (Refuse (Needs size)) Accept
+of_room room size = cond (ltb room size) (Err (Needs size)) (Ok tt)
 
 -- ---- their order
 
 -- the first refusal of these
 unfoldable pub first_of : List HeaderVerdict → HeaderVerdict
-first_of [] = Accept
-first_of (Accept ∷ more) = first_of more
-first_of (Refuse refusal ∷ more) = Refuse refusal
+first_of [] = (Ok tt)
+first_of ((Ok tt) ∷ more) = first_of more
+first_of (Err refusal ∷ more) = Err refusal
 
 -- the header written
 unfoldable pub header_out : Rules → List ℕ → List ℕ
@@ -86,8 +86,8 @@ pub record HeaderOutcome : Type 0 where
 
 -- "A refusal changes no byte of either buffer and gives both lengths as 0. After 0 the bytes past each length are as before."
 unfoldable pub header_outcome_of : Rules → HeaderVerdict → List ℕ → List ℕ → HeaderOutcome
-header_outcome_of rules (Refuse refusal) h c = record { number = number_of refusal; place = place_of refusal; offset = offset_of refusal; len = 0; buffer = c }
-header_outcome_of rules Accept h c = record { number = 0; place = 0; offset = 0; len = length (header_out rules h); buffer = overlay (header_out rules h) c }
+header_outcome_of rules (Err refusal) h c = record { number = number_of refusal; place = place_of refusal; offset = offset_of refusal; len = 0; buffer = c }
+header_outcome_of rules (Ok tt) h c = record { number = 0; place = 0; offset = 0; len = length (header_out rules h); buffer = overlay (header_out rules h) c }
 
 -- The outcome of a call with these rules, this header and this buffer.
 unfoldable pub header_outcome : Rules → List ℕ → List ℕ → HeaderOutcome

@@ -1,7 +1,7 @@
 -- Laws of a header's outcome, case by case.
 use Rattle.std.proofs.Math.Path.{◌≡◌, refl, sym}
 use Rattle.std.proofs.Common.{ap, ◌∙◌, not-suc-le-zero, lt-ltb, le-ltb}
-use Rattle.std.specs.Prelude.{true, false, List, [], ◌∷◌, ◌++◌, ℕ, ◌*◌, ◌≤◌, ◌<◌, ltb}
+use Rattle.std.specs.Prelude.{true, false, List, [], ◌∷◌, ◌++◌, ℕ, ◌*◌, ◌≤◌, ◌<◌, ltb, Ok}
 use native.Mathlib.Omega.{arith}
 use Rattle.std.proofs.Math.ListN.{length}
 use Rattle.std.proofs.Math.Facts.{ltb_yes, ltb_no}
@@ -9,25 +9,19 @@ use Rattle.lists.specs.ListsLaws.{by_test}
 use Rattle.buffer.specs.Buffer.{Wrote, AppendedCapped}
 use Rattle.buffer.specs.BufferLaws.{wrote_of}
 use Rattle.encoded_word.specs.Segments.{rendered}
-use Rattle.header_line.specs.declared.LineCheck.{LineCheck}
-use Rattle.header_line.specs.declared.LineCheck.TheVariants.{WellFormed, Malformed}
 use Rattle.header_line.specs.Lines.{checked_lines}
 use Rattle.rules.specs.declared.Rules.{Rules}
-use Rattle.outgoing_field.specs.declared.HeldField.{HeldField}
-use Rattle.outgoing_field.specs.declared.HeldField.TheVariants.{Absent, At}
+use Rattle.outgoing_field.specs.Fate.{FirstHeld}
+use Rattle.outgoing_field.specs.Fate.FirstHeld.{Absent, At}
 use Rattle.outgoing_field.specs.Fate.{segments_of, header_written, limited, held_of}
 use Rattle.outgoing_field.proofs.FateLaws.{limited_short, unheld_header}
-use Rattle.outgoing_field.specs.Most.{most_of, LookedAt}
+use Rattle.outgoing_field.specs.Most.{most_of}
 use Rattle.outgoing_field.proofs.MostLaws.{most_le}
 use Rattle.outgoing_field.proofs.OwedLaws.{owed_header}
 use Rattle.offset.specs.Offset.{field_offset}
 use Rattle.outgoing_header.specs.declared.HeaderRefusal.{HeaderRefusal}
 use Rattle.outgoing_header.specs.declared.HeaderRefusal.TheVariants.{Over, Held, Needs}
-use Rattle.outgoing_header.specs.declared.HeaderVerdict.{HeaderVerdict}
-use Rattle.outgoing_header.specs.declared.HeaderVerdict.TheVariants.{Accept, Refuse}
 use Rattle.outgoing_header.specs.declared.HeaderAnswer.{HeaderAnswer}
-use Rattle.outgoing_header.specs.declared.HeaderContent.{HeaderContent}
-use Rattle.outgoing_header.specs.declared.HeaderContent.TheVariants.{Passes, Fails}
 use Rattle.outgoing_header.specs.HeaderContent.{with_most}
 use Rattle.outgoing_header.specs.HeaderOutcome.{number_of, place_of, offset_of, of_size, of_lines, of_held, of_room, first_of, header_out, header_verdict, header_outcome_of, header_outcome, header_observed}
 
@@ -48,5 +42,5 @@ pub record Needed (size room r : ℕ) : Type 0 where
 -- a header within its limit whose lines are well formed and no field of which is held
 pub record Passed (rules : Rules) (h : List ℕ) : Type 0 where
   pub short : length h ≤ 32768
-  pub lines : checked_lines h ≡ WellFormed
+  pub lines : checked_lines h ≡ Ok tt
   pub none : held_of rules h ≡ Absent

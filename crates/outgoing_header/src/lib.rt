@@ -9,30 +9,17 @@ ghost use Rattle.outgoing_header.specs.HeaderOutcome.{header_out, header_observe
 ghost use Rattle.outgoing_field.specs.Most.{most_of};
 ghost use Rattle.outgoing_header.specs.HeaderOutcomeLaws.{Needed, Passed};
 
-pub use refusals::{number_of, of_held, of_lines, offset_of, place_of};
+pub use refusals::{of_held, of_lines};
 use refusals::{of_content, refused};
 use rules::Rules;
 
 // Why a header is refused, with the paper's place: a line, and the byte in the header that tells why, or the length needed.
-#[derive(Clone, Copy)]
+#[derive(Clone, Copy, Debug, PartialEq, Eq)]
 pub enum HeaderRefusal {
     Over,
     Line(usize, usize),
     Held(usize, usize),
     Needs(usize),
-}
-
-#[derive(Clone, Copy)]
-pub enum HeaderVerdict {
-    Accept,
-    Refuse(HeaderRefusal),
-}
-
-// A verdict on what stands in a header; where it passes, with the most bytes that are written for it.
-#[derive(Clone, Copy)]
-pub enum HeaderContent {
-    Passes(usize),
-    Fails(HeaderRefusal),
 }
 
 // What a call with a header is answered: the paper's number, place and offset, and the length of what was written.
@@ -94,7 +81,7 @@ pub fn downgrade(rules: Rules, header: &[u8], buffer: &mut [u8]) -> HeaderAnswer
     ensures { header_observed result buffer.new ≡ header_outcome rules header.now buffer.old }
 {
     match of_content(rules, header) {
-        HeaderContent::Fails(refusal) => refused(refusal),
-        HeaderContent::Passes(most) => fill(rules, header, most, buffer),
+        Err(refusal) => refused(refusal),
+        Ok(most) => fill(rules, header, most, buffer),
     }
 }

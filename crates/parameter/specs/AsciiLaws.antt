@@ -11,7 +11,6 @@ use Rattle.lists.specs.Byte.{is_ascii}
 use Rattle.lists.specs.Run.{run}
 use Rattle.lists.specs.RunLaws.{run_all, run_after}
 use Rattle.lists.specs.CutBy.{cut_by, cut_after}
-use Rattle.letter_case.specs.LetterCase.{bytes}
 use Rattle.parameter.specs.Parameter.{not_space, spaced_len, params, spaced, is_keyword_byte, keyword_len, keyword, has_value, value, is_orcpt, is_value_byte, is_param, orcpt_clean}
 
 module _ (b : ℕ) where

@@ -8,6 +8,7 @@ ghost use Rattle.lists.specs.Lists.{all};
 ghost use Rattle.buffer.specs.Buffer.{greatest};
 ghost use Rattle.parameter.specs.Parameter.{is_keyword_byte, keyword_len, value, is_orcpt as names_orcpt, is_alt as names_alt, is_value_byte, is_param, orcpt_clean};
 
+use byte_class::{Class, are_all, run_end};
 use letter_case::same_any_case;
 use line::part;
 pub use tail::{alt_place, are_orcpt_clean, are_params, is_spaced, param_end};
@@ -19,18 +20,22 @@ pub fn is_keyword_byte(b: u8) -> bool
     ((65 <= b) & (b <= 90)) | ((97 <= b) & (b <= 122)) | ((48 <= b) & (b <= 57)) | (b == 45)
 }
 
+struct KeywordByte;
+
+impl Class for KeywordByte {
+    ghost member = { is_keyword_byte };
+
+    fn holds(b: u8) -> bool {
+        is_keyword_byte(b)
+    }
+}
+
 // The length of a parameter's keyword.
+#[tactic(auto, unfolding(crate::specs::Parameter::keyword_len))]
 pub fn keyword_len(p: &[u8]) -> usize
     ensures { result ≡ keyword_len p.now }
 {
-    let mut i = 0;
-    while i < p.len() {
-        if !is_keyword_byte(p[i]) {
-            return i;
-        }
-        i += 1;
-    }
-    i
+    run_end::<KeywordByte>(p, 0)
 }
 
 // Where a parameter's value starts, past its keyword and the byte after it.
@@ -61,18 +66,25 @@ pub fn is_value_byte(b: u8, orcpt: bool) -> bool
     ((33 <= b) & (b <= 126) & !(b == 61)) | (orcpt & (128 <= b))
 }
 
+struct ValueByte<const ORCPT: bool>;
+
+impl<const ORCPT: bool> Class for ValueByte<ORCPT> {
+    ghost member = { is_value_byte ORCPT };
+
+    fn holds(b: u8) -> bool {
+        is_value_byte(b, ORCPT)
+    }
+}
+
 // Whether all bytes of a value may stand there.
 fn is_value(v: &[u8], orcpt: bool) -> bool
     ensures { result ≡ all (is_value_byte orcpt) v.now }
 {
-    let mut i = 0;
-    while i < v.len() {
-        if !is_value_byte(v[i], orcpt) {
-            return false;
-        }
-        i += 1;
+    if orcpt {
+        are_all::<ValueByte<true>>(v)
+    } else {
+        are_all::<ValueByte<false>>(v)
     }
-    true
 }
 
 // Whether a text between spaces is a parameter.

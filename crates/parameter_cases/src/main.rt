@@ -4,26 +4,21 @@
 
 use std::io;
 
-fn say(rt: &impl Print, words: &[u8]) -> io::Result<()> {
-    rt.write_all(words)
-}
-
 fn show_written(rt: &impl Print, value: &[u8]) -> io::Result<()> {
     let mut out = [0u8; 65536];
     let mut scratch = [0u8; 65536];
     let n = parameterized_field::add_field(&mut out, 0, b"Content-Type", value, &mut scratch);
-    print!(rt; "{n}")?;
-    say(rt, b"\r\n")?;
-    say(rt, line::part(&out, 0, n))
+    print!(rt; "{n}\r\n")?;
+    rt.write_all(line::part(&out, 0, n))
 }
 
 fn show(rt: &impl Print, label: &[u8], value: &[u8]) -> io::Result<()> {
-    say(rt, label)?;
-    say(rt, b": ")?;
+    rt.write_all(label)?;
+    print!(rt; ": ")?;
     if parameterized_field::passes(value) {
         return show_written(rt, value);
     }
-    say(rt, b"held\r\n")
+    print!(rt; "held\r\n")
 }
 
 fn show_line(rt: &impl Print, line: &[u8]) -> io::Result<()> {
@@ -35,17 +30,11 @@ fn show_line(rt: &impl Print, line: &[u8]) -> io::Result<()> {
     show(rt, case_line::column(line, 0), &space[..n])
 }
 
-fn show_lines(rt: &impl Print, cases: &[u8]) -> io::Result<()> {
-    let mut at = 0;
-    while at < cases.len() {
-        let end = case_line::find(cases, at, b'\n');
-        show_line(rt, line::part(cases, at, end))?;
-        at = buffer::place_after(end, 1);
-    }
-    Ok(())
-}
-
+// Kept: one loop for all programs would take a closure, and a public function may not require that it can be called.
 fn main(rt: HostRuntime) -> io::Result<()> {
     let input = program_input::read(rt.alloc(), rt.reader(), 65536)?;
-    show_lines(&rt, &input)
+    for line in input.split(|b| *b == b'\n') {
+        show_line(&rt, line)?;
+    }
+    Ok(())
 }

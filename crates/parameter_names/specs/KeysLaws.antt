@@ -1,12 +1,12 @@
 -- Keys of names: the same names have the same key, so that a name whose key no other has differs from all others.
-use Rattle.std.proofs.Common.{eq-eqb, ap, ◌∙◌, append-nil, append_assoc, eqb→eq, T_not, length-set, length-drop, drop_of_length-le, take_all, take-suc-set}
-use Rattle.std.specs.Prelude.{◌≡◌, refl, Bool, true, false, ◌&&◌, List, [], ◌∷◌, ◌++◌, map, ℕ, zero, suc, ◌+◌, ◌-◌, ◌*◌, ◌%◌, ◌≤◌, ◌<◌, T, eqb, length, take, drop, get_or, set}
+use Rattle.std.proofs.Common.{eq-eqb, ap, ◌∙◌, not-suc-le-zero, append-nil, append_assoc, eqb→eq, T_not, length-set, length-drop, drop_of_length-le, take_all, take-suc-set}
+use Rattle.std.specs.Prelude.{◌≡◌, refl, Bool, true, false, ◌&&◌, List, [], ◌∷◌, ◌++◌, map, ℕ, zero, suc, ◌+◌, ◌-◌, ◌*◌, ◌%◌, ◌≤◌, ◌<◌, T, eqb, ltb, length, take, drop, get_or, set}
 use Rattle.std.proofs.Math.Path.{sym}
 use Rattle.std.proofs.Math.Bool.{not, and-true, and_assoc}
 use Rattle.std.proofs.Math.Numerals.{add-one}
 use native.Mathlib.Omega.{arith}
 use Rattle.std.proofs.Math.Seq.{drop-cons}
-use Rattle.std.proofs.Math.Facts.{and_yes, yes_and}
+use Rattle.std.proofs.Math.Facts.{and_yes, yes_and, ltb_yes, ltb_no}
 use Rattle.lists.specs.CutBy.{cut_by}
 use Rattle.lists.specs.CutByLaws.{cut_nil, cut_next}
 use Rattle.lists.specs.Lists.{all}
@@ -113,6 +113,25 @@ module _ (s : List ℕ) (i end : ℕ) (h : i < length s) (e : end ≡ i + marked
     -- and the rest of the keys as it is lent on
     pub keys_lent : KeysAt s end (take (length keys - (n + 1)) (drop (n + 1) keys)) × (get_or keys n 0 ≡ key_of (take (end - i) (drop i s)))
     keys_lent = (rw (take_all (length keys - (n + 1)) (drop (n + 1) keys) (rw length-drop (omega arith))) keys_next, key_here)
+
+-- there are as many keys as names
+pub name_there : (s : List ℕ) (i n : ℕ) (keys : List ℕ) → KeysAt s i (drop n keys) → n < length keys → i < length s
+name_there s i n keys k h =
+    by_test (ltb i (length s))
+    (λ t. ltb_yes t)
+    (λ t.
+    let none : cut_by marked_len (drop i s) ≡ [] = rw (drop_of_length-le s {i = i} (ltb_no t)) (cut_nil marked_len) in
+    let size : length (drop n keys) ≡ 0 = rw none at (ap length k.is) in
+    absurd (not-suc-le-zero {n = 0} (omega (arith, length-drop n keys, size, h))))
+
+pub names_over : (s : List ℕ) (i n : ℕ) (keys : List ℕ) → KeysAt s i (drop n keys) → length keys ≤ n → length s ≤ i
+names_over s i n keys k h =
+    by_test (ltb i (length s))
+    (λ t.
+    let l : i < length s = ltb_yes t in
+    let more = key_there s i (i + marked_len (drop i s)) l refl keys n k in
+    absurd (not-suc-le-zero {n = 0} (omega (arith, more, h))))
+    (λ t. ltb_no t)
 
 -- the keys of the first n names, while they are gathered in an array of 8,192
 pub record Gathered (s : List ℕ) (i : ℕ) (keys : List ℕ) (n : ℕ) : Type 0 where

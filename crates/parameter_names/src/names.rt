@@ -34,6 +34,7 @@ fn is_new(name: &[u8], s: &[u8], at: usize) -> bool
     true
 }
 
+// Kept: beside `keyed_differ`, since one loop for both would look for a key at each name, and handle names that have none.
 fn all_differ(s: &[u8]) -> bool
     ensures { result ≡ distinct (cut_by marked_len s.now) }
 {
@@ -64,13 +65,10 @@ fn keyed_differ(s: &[u8], keys: &[u32]) -> bool
     requires { KeysAt s.now 0 keys.now }
     ensures { result ≡ distinct (cut_by marked_len s.now) }
 {
-    let mut n: usize = 0;
     let mut i: usize = 0;
-    while i < s.len() {
+    for (n, key) in keys.iter().enumerate() {
         let end = marked_end(s, i);
-        let key = keys[n];
-        n += 1;
-        if !is_other(&s[i..end], s, end, &keys[n..], key) {
+        if !is_other(&s[i..end], s, end, &keys[n + 1..], *key) {
             return false;
         }
         i = end;
@@ -83,9 +81,8 @@ pub fn names_differ(s: &[u8]) -> bool
     ensures { result ≡ distinct (cut_by marked_len s.now) }
 {
     let mut keys = [0u32; 8192];
-    let n = fill_keys(&mut keys, s);
-    if n == 8192 {
-        return all_differ(s);
+    match fill_keys(&mut keys, s) {
+        Some(n) => keyed_differ(s, &keys[..n]),
+        None => all_differ(s),
     }
-    keyed_differ(s, &keys[..n])
 }

@@ -1,9 +1,10 @@
 // The tail of an envelope line, the parameters after its path, by one byte at a time.
 #![tactic(auto)]
 
-ghost use Rattle.std.specs.Prelude.{◌≡◌, cond, ◌≤◌, eqb};
-ghost use Rattle.parameter_stop.specs.ParameterStop.{key_more, start_step, due_step, key_end, key_step, equals_step, value_step, tail_step, tail_done, tail_live, tail_need};
+ghost use Rattle.std.specs.Prelude.{◌≡◌, ◌≤◌};
+ghost use Rattle.parameter_stop.specs.ParameterStop.{key_more, start_step, due_step, key_end, key_step, equals_step, value_step, tail_step, tail_done, tail_live, tail_need, tail};
 
+use line_stop::LineForm;
 use parameter::{is_keyword_byte, is_value_byte};
 
 // Where a tail stands. `seen`: whether an ALT-ADDRESS with its `=` has come.
@@ -23,6 +24,7 @@ pub enum Tail {
 }
 
 // A byte more of a keyword.
+#[tactic(auto, unfolding(letter_case::specs::LetterCase::bytes))]
 fn key_more(alt: usize, orcpt: usize, seen: bool, b: u8) -> Tail
     ensures { result ≡ key_more alt orcpt seen b }
 {
@@ -31,6 +33,7 @@ fn key_more(alt: usize, orcpt: usize, seen: bool, b: u8) -> Tail
     Tail::Key(a, o, seen)
 }
 
+#[tactic(auto, unfolding(crate::specs::ParameterStop::start_step))]
 fn start_step(b: u8) -> Tail
     ensures { result ≡ start_step b }
 {
@@ -40,6 +43,7 @@ fn start_step(b: u8) -> Tail
     Tail::Off
 }
 
+#[tactic(auto, unfolding(crate::specs::ParameterStop::due_step))]
 fn due_step(seen: bool, b: u8) -> Tail
     ensures { result ≡ due_step seen b }
 {
@@ -50,6 +54,7 @@ fn due_step(seen: bool, b: u8) -> Tail
 }
 
 // After a keyword, which is ALT-ADDRESS or is ORCPT.
+#[tactic(auto, unfolding(crate::specs::ParameterStop::key_end))]
 fn key_end(alt: bool, orcpt: bool, seen: bool, b: u8) -> Tail
     ensures { result ≡ key_end alt orcpt seen b }
 {
@@ -62,6 +67,7 @@ fn key_end(alt: bool, orcpt: bool, seen: bool, b: u8) -> Tail
     Tail::Off
 }
 
+#[tactic(auto, unfolding(crate::specs::ParameterStop::key_step))]
 fn key_step(alt: usize, orcpt: usize, seen: bool, b: u8) -> Tail
     ensures { result ≡ key_step alt orcpt seen b }
 {
@@ -71,6 +77,7 @@ fn key_step(alt: usize, orcpt: usize, seen: bool, b: u8) -> Tail
     key_end(alt == 11, orcpt == 5, seen, b)
 }
 
+#[tactic(auto, unfolding(crate::specs::ParameterStop::equals_step))]
 fn equals_step(orcpt: bool, seen: bool, b: u8) -> Tail
     ensures { result ≡ equals_step orcpt seen b }
 {
@@ -80,6 +87,7 @@ fn equals_step(orcpt: bool, seen: bool, b: u8) -> Tail
     Tail::Off
 }
 
+#[tactic(auto, unfolding(crate::specs::ParameterStop::value_step))]
 fn value_step(orcpt: bool, seen: bool, b: u8) -> Tail
     ensures { result ≡ value_step orcpt seen b }
 {
@@ -92,68 +100,46 @@ fn value_step(orcpt: bool, seen: bool, b: u8) -> Tail
     Tail::Off
 }
 
-// After one more byte.
-pub fn step(t: Tail, b: u8) -> Tail
-    ensures { result ≡ tail_step t b }
-{
-    match t {
-        Tail::Start => start_step(b),
-        Tail::Due(seen) => due_step(seen, b),
-        Tail::Key(alt, orcpt, seen) => key_step(alt, orcpt, seen, b),
-        Tail::Equals(orcpt, seen) => equals_step(orcpt, seen, b),
-        Tail::Value(orcpt, seen) => value_step(orcpt, seen, b),
-        Tail::Off => Tail::Off,
-    }
-}
+impl LineForm for Tail {
+    ghost form = { tail };
 
-// Whether the line may end.
-pub fn is_done(t: Tail) -> bool
-    ensures { result ≡ tail_done t }
-{
-    match t {
-        Tail::Start => true,
-        Tail::Due(_) => false,
-        Tail::Key(alt, _, _) => !(alt == 11),
-        Tail::Equals(_, _) => false,
-        Tail::Value(_, _) => true,
-        Tail::Off => false,
+    fn step(self, b: u8) -> Tail
+        ensures { result ≡ tail_step self b }
+    {
+        match self {
+            Tail::Start => start_step(b),
+            Tail::Due(seen) => due_step(seen, b),
+            Tail::Key(alt, orcpt, seen) => key_step(alt, orcpt, seen, b),
+            Tail::Equals(orcpt, seen) => equals_step(orcpt, seen, b),
+            Tail::Value(orcpt, seen) => value_step(orcpt, seen, b),
+            Tail::Off => Tail::Off,
+        }
     }
-}
 
-// Whether some bytes complete the tail.
-pub fn is_live(t: Tail) -> bool
-    ensures { result ≡ tail_live t }
-{
-    match t {
-        Tail::Start => true,
-        Tail::Due(_) => true,
-        Tail::Key(_, _, _) => true,
-        Tail::Equals(_, _) => true,
-        Tail::Value(_, _) => true,
-        Tail::Off => false,
+    fn is_done(self) -> bool
+        ensures { result ≡ tail_done self }
+    {
+        match self {
+            Tail::Start | Tail::Value(_, _) => true,
+            Tail::Key(alt, _, _) => !(alt == 11),
+            Tail::Due(_) | Tail::Equals(_, _) | Tail::Off => false,
+        }
     }
-}
 
-// How many a keyword needs.
-fn key_need(alt: usize) -> usize
-    ensures { (result ≡ cond (eqb alt 11) 1 0) × (result ≤ 1) }
-{
-    if alt == 11 {
-        return 1;
+    fn is_live(self) -> bool
+        ensures { result ≡ tail_live self }
+    {
+        !matches!(self, Tail::Off)
     }
-    0
-}
 
-// The fewest bytes that complete the tail.
-pub fn need(t: Tail) -> usize
-    ensures { (result ≡ tail_need t) × (result ≤ 1) }
-{
-    match t {
-        Tail::Start => 0,
-        Tail::Due(_) => 1,
-        Tail::Key(alt, _, _) => key_need(alt),
-        Tail::Equals(_, _) => 1,
-        Tail::Value(_, _) => 0,
-        Tail::Off => 0,
+    fn need(self) -> usize
+        ensures { (result ≡ tail_need self) × (result ≤ 1) }
+    {
+        match self {
+            Tail::Start | Tail::Value(_, _) | Tail::Off => 0,
+            Tail::Key(alt, _, _) => usize::from(alt == 11),
+            Tail::Due(_) => 1,
+            Tail::Equals(_, _) => 1,
+        }
     }
 }

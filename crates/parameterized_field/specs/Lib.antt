@@ -6,3 +6,5 @@ pub mod Grammar
 pub mod GrammarLaws
 pub mod ParameterizedLaws
 pub mod ValueCases
+pub mod Part
+pub mod RuleLaws

@@ -31,26 +31,6 @@ use Rattle.parameterized_field.specs.declared.State.{State}
 use Rattle.parameterized_field.specs.Value.{Item, item_segments, new_line, semicolon_kind, dropped, own_mark, token_items, parameter_items, segments_from, start, parameterized_field}
 use Rattle.parameterized_field.specs.StepLaws.{part_clear, part_items}
 
--- a part is no longer than the whole
-pub part_short : (s : List ℕ) (i e : ℕ) → length (take (e - i) (drop i s)) ≤ length s
-part_short s i e = omega (arith, length-take (e - i) (drop i s), length-drop i s)
-
--- ---- a name without `*`
-
-module _ (s : List ℕ) (i : ℕ) where
-  module _ (h : i < length s) where
-    star_step : all no_star (drop i s) ≡ no_star (get_or s i 0) && all no_star (drop (i + 1) s)
-    star_step = rw (add-one i, drop-cons s i 0 h)
-
-    pub star_found : get_or s i 0 ≡ 42 → false ≡ all no_star (drop i s)
-    star_found e = sym (star_step ∙ rw (eq-eqb (get_or s i 0) 42 e))
-
-    pub star_next : (get_or s i 0 ≡ 42 → ⊥) → all no_star (drop i s) ≡ all no_star (drop (i + 1) s)
-    star_next n = star_step ∙ rw (ne_eqb (get_or s i 0) 42 n)
-
-  pub star_end : length s ≤ i → true ≡ all no_star (drop i s)
-  star_end h = rw (drop_of_length-le s {i = i} h)
-
 -- ---- a parameter's name and value
 
 module _ (p : List ℕ) (name : ℕ) (e : name ≡ 0 + run is_token_byte (drop 0 p)) where
@@ -111,20 +91,6 @@ module _ (p : List ℕ) where
       let a = limited_short (name_of p) (omega (arith, length_name p)) in
       let b = limited_short (value_text (value_of p)) (omega (arith, length_text p)) in
       rw (← q, e, ← c, f) (g ∙ rw (a, b))
-
-module _ (t : List ℕ) (kind : Kind) {parameter : Bool} where
-  pub clear_parameter : parameter ≡ true → {r : Bool} → r ≡ parameter_clear t → r ≡ part_clear parameter kind t
-  unfolding part_clear
-  clear_parameter e q = rw e q
-
-  module _ (e : parameter ≡ false) {comment : Bool} (k : comment ≡ comment_kind kind) where
-    pub clear_comment : comment ≡ true → true ≡ part_clear parameter kind t
-    unfolding part_clear clear
-    clear_comment f = rw (e, ← k, f)
-
-    pub clear_other : comment ≡ false → {r : Bool} → r ≡ all is_ascii t → r ≡ part_clear parameter kind t
-    unfolding part_clear clear
-    clear_other f q = rw (e, ← k, f) q
 
 -- ---- white space that goes
 
@@ -219,11 +185,3 @@ module _ (state : State) (kind : Kind) (t more : List ℕ) {parameter : Bool} wh
     unfolding part_items token_items
     part_token f m a =
         capped_same (rw (e, ← g, f) (sym (line_bytes (state.fresh && not (own_mark state kind)) (Item.other (becomes kind t))))) (rw m at a)
-
--- ---- the field
-
-pub field_added : (name value : List ℕ) {before labelled marked valued after : List ℕ} {at n c v r : ℕ} → length before ≤ greatest
-    → AppendedCapped name at before labelled n → AppendedCapped (58 ∷ []) n labelled marked c → AppendedCapped (rendered (segments_from start value)) c marked valued v
-    → AppendedCapped (13 ∷ 10 ∷ []) v valued after r → AppendedCapped (rendered (parameterized_field name value)) at before after r
-unfolding parameterized_field
-field_added name value k a b d f = named_added name (segments_from start value) k a b d f

@@ -1,27 +1,26 @@
 // Whether a field with parameters is not held.
 ghost use Rattle.std.specs.Prelude.{◌≡◌, true, ◌*◌, ◌≤◌, length};
-ghost use Rattle.lists.specs.Lists.{all};
 ghost use Rattle.piece.specs.Piece.{fitting};
 ghost use Rattle.field_parameter.specs.Parameter.{no_star, is_converted, parameter_clear};
-ghost use Rattle.parameterized_field.specs.Value.{start as at_start, clear_from, passes};
+ghost use Rattle.parameterized_field.specs.Part.{is_parameter, converts, token_kind};
+ghost use Rattle.parameterized_field.specs.Value.{passes};
 ghost use Rattle.parameterized_field.specs.StepLaws.{part_clear};
 
 use crate::names::names_differ;
-use crate::part::{make_text, next_state, part_at, start};
-use structured_token::Kind;
+use crate::part::{PartKind, make_text};
+use crate::rule::Parameterized;
+use byte_class::Class;
+use structured_field::all_clear;
 
-// Whether a name has no `*`.
-fn no_star(name: &[u8]) -> bool
-    ensures { result ≡ all no_star name.now }
-{
-    let mut i: usize = 0;
-    while i < name.len() {
-        if name[i] == b'*' {
-            return false;
-        }
-        i += 1;
+// All bytes but `*`.
+struct NoStar;
+
+impl Class for NoStar {
+    ghost member = { no_star };
+
+    fn holds(b: u8) -> bool {
+        b != b'*'
     }
-    true
 }
 
 // Whether a parameter does not hold the field. The text of its value is made in the scratch.
@@ -30,7 +29,7 @@ fn parameter_clear(parameter: &[u8], converted: bool, scratch: &mut [u8]) -> boo
     ensures { result ≡ parameter_clear parameter.now }
 {
     let name = field_parameter::token_end(parameter, 0);
-    if !no_star(&parameter[..name]) {
+    if !byte_class::are_all::<NoStar>(&parameter[..name]) {
         return false;
     }
     if !converted {
@@ -41,45 +40,23 @@ fn parameter_clear(parameter: &[u8], converted: bool, scratch: &mut [u8]) -> boo
 }
 
 // Whether a part does not hold the field.
-fn part_clear(part: &[u8], parameter: bool, converted: bool, kind: Kind, scratch: &mut [u8]) -> bool
-    requires { (length part.now ≤ 32768) × (length part.now ≤ length scratch.old) × (parameter ≡ true → converted ≡ is_converted part.now) }
-    ensures { result ≡ part_clear parameter kind part.now }
+#[tactic(auto, unfolding(crate::specs::StepLaws::part_clear))]
+pub(crate) fn part_clear(kind: PartKind, part: &[u8], scratch: &mut [u8]) -> bool
+    requires { (length part.now ≤ 32768) × (length part.now ≤ length scratch.old) × (is_parameter kind ≡ true → converts kind ≡ is_converted part.now) }
+    ensures { result ≡ part_clear (is_parameter kind) (token_kind kind) part.now }
 {
-    if parameter {
-        return parameter_clear(part, converted, scratch);
+    match kind {
+        PartKind::Converted => parameter_clear(part, true, scratch),
+        PartKind::Stays => parameter_clear(part, false, scratch),
+        PartKind::Token(kind) => structured_field::is_clear(kind, part),
     }
-    if structured_token::is_comment(kind) {
-        return true;
-    }
-    utf8::is_ascii(part)
-}
-
-fn parts_clear(s: &[u8], scratch: &mut [u8]) -> bool
-    requires { (length s.now ≤ 32768) × (length s.now ≤ length scratch.old) }
-    ensures { result ≡ clear_from at_start s.now }
-{
-    let mut state = start();
-    let mut i: usize = 0;
-    while i < s.len() {
-        let part = part_at(s, i, state);
-        let parameter = part.parameter;
-        let converted = part.converted;
-        let kind = part.kind;
-        let end = part.end;
-        if !part_clear(&s[i..end], parameter, converted, kind, scratch) {
-            return false;
-        }
-        state = next_state(state, parameter, converted, kind);
-        i = end;
-    }
-    true
 }
 
 fn fitting_passes(value: &[u8], scratch: &mut [u8]) -> bool
     requires { (length value.now ≤ 32768) × (2 * length value.now ≤ length scratch.old) }
     ensures { result ≡ passes value.now }
 {
-    if !parts_clear(value, scratch) {
+    if !all_clear::<Parameterized>(value, scratch) {
         return false;
     }
     names_differ(value, scratch)

@@ -4,6 +4,7 @@
 mod held;
 mod names;
 mod part;
+mod rule;
 mod writer;
 
 pub use held::passes;

@@ -2,21 +2,25 @@
 ghost use Rattle.std.specs.Prelude.{◌≡◌, ◌*◌, ◌≤◌, length};
 ghost use Rattle.buffer.specs.Buffer.{AppendedCapped};
 ghost use Rattle.parameter_names.specs.Names.{distinct, marked};
+ghost use Rattle.parameterized_field.specs.Part.{is_parameter};
 ghost use Rattle.parameterized_field.specs.Value.{start as at_start, names_from};
 ghost use Rattle.parameterized_field.specs.NamesLaws.{part_names};
 
-use crate::part::{next_state, part_at, start};
+use crate::part::{PartKind, next_state, part_at, start};
+use structured_token::Token;
 
 // The name of a parameter and a `=`; nothing for another part.
-fn add_name(out: &mut [u8], at: usize, part: &[u8], parameter: bool) -> usize
-    ensures { AppendedCapped (marked (part_names parameter part.now)) at out.old out.new result }
+fn add_name(out: &mut [u8], at: usize, part: &[u8], kind: PartKind) -> usize
+    ensures { AppendedCapped (marked (part_names (is_parameter kind) part.now)) at out.old out.new result }
 {
-    if !parameter {
-        return at;
+    match kind {
+        PartKind::Token(_) => at,
+        PartKind::Converted | PartKind::Stays => {
+            let name = field_parameter::token_end(part, 0);
+            let next = buffer::add_slice(out, at, &part[..name]);
+            buffer::add_byte(out, next, b'=')
+        }
     }
-    let name = field_parameter::token_end(part, 0);
-    let next = buffer::add_slice(out, at, &part[..name]);
-    buffer::add_byte(out, next, b'=')
 }
 
 // The names of all parameters, each with a `=`, at the front of a buffer.
@@ -28,13 +32,9 @@ fn add_names(out: &mut [u8], s: &[u8]) -> usize
     let mut state = start();
     let mut i: usize = 0;
     while i < s.len() {
-        let part = part_at(s, i, state);
-        let parameter = part.parameter;
-        let converted = part.converted;
-        let kind = part.kind;
-        let end = part.end;
-        next = add_name(out, next, &s[i..end], parameter);
-        state = next_state(state, parameter, converted, kind);
+        let Token { kind, end } = part_at(s, i, state);
+        next = add_name(out, next, &s[i..end], kind);
+        state = next_state(state, kind);
         i = end;
     }
     next

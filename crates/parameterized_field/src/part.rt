@@ -1,20 +1,21 @@
 // What stands at a place of a value: a parameter, or a token.
-ghost use Rattle.std.specs.Prelude.{◌≡◌, ◌≤◌, ◌<◌, length, drop};
+ghost use Rattle.std.specs.Prelude.{◌≡◌, true, ◌≤◌, ◌<◌, length};
 ghost use Rattle.buffer.specs.Buffer.{AppendedCapped};
 ghost use Rattle.mime_parameter.specs.Pieces.{value_text};
-ghost use Rattle.field_parameter.specs.Parameter.{value_of};
-ghost use Rattle.parameterized_field.specs.Value.{start as at_start, stays_after, semicolon_kind, dropped};
+ghost use Rattle.field_parameter.specs.Parameter.{is_converted, value_of};
+ghost use Rattle.parameterized_field.specs.Part.{is_parameter, converts, token_kind};
+ghost use Rattle.parameterized_field.specs.Value.{start as at_start, after_parameter, after_token, stays_after, semicolon_kind, dropped};
 ghost use Rattle.parameterized_field.specs.StepLaws.{TookToken, TookPart, part_next};
 
 use crate::State;
-use structured_token::Kind;
+use structured_token::{Kind, Token};
 
-#[derive(Clone, Copy)]
-pub(crate) struct Part {
-    pub parameter: bool,
-    pub converted: bool,
-    pub kind: Kind,
-    pub end: usize,
+// A parameter that is converted, one that stays as it came, or a token.
+#[derive(Clone, Copy, Debug, PartialEq, Eq)]
+pub(crate) enum PartKind {
+    Converted,
+    Stays,
+    Token(Kind),
 }
 
 pub(crate) fn start() -> State
@@ -28,54 +29,47 @@ pub(crate) fn start() -> State
     }
 }
 
-fn token_part(s: &[u8], at: usize, comments: bool) -> Part
+fn token_part(s: &[u8], at: usize, comments: bool) -> Token<PartKind>
     requires { at < length s.now }
-    ensures { TookToken comments s.now at result.parameter result.kind result.end }
+    ensures { TookToken comments s.now at (is_parameter result.kind) (token_kind result.kind) result.end }
 {
-    let token = structured_token::token_at(s, at, comments);
-    let kind = token.kind;
-    let end = token.end;
-    Part {
-        parameter: false,
-        converted: false,
-        kind: kind,
-        end: end,
+    let Token { kind, end } = structured_token::token_at(s, at, comments);
+    let kind = PartKind::Token(kind);
+    Token { kind, end }
+}
+
+fn parameter_kind(parameter: &[u8]) -> PartKind
+    ensures parameter { is_parameter result ≡ true }
+    ensures converted { converts result ≡ is_converted parameter.now }
+{
+    if field_parameter::is_converted(parameter) {
+        PartKind::Converted
+    } else {
+        PartKind::Stays
     }
 }
 
-pub(crate) fn part_at(s: &[u8], at: usize, state: State) -> Part
+pub(crate) fn part_at(s: &[u8], at: usize, state: State) -> Token<PartKind>
     requires { at < length s.now }
-    ensures { TookPart state s.now at result.parameter result.converted result.kind result.end }
+    ensures { TookPart state s.now at (is_parameter result.kind) (converts result.kind) (token_kind result.kind) result.end }
 {
     let comments = state.comments;
     if !state.after {
         return token_part(s, at, comments);
     }
-    let end = field_parameter::parameter_end(s, at, comments);
-    if end == at {
-        return token_part(s, at, comments);
-    }
-    let converted = field_parameter::is_converted(&s[at..end]);
-    Part {
-        parameter: true,
-        converted: converted,
-        kind: Kind::Plain,
-        end: end,
+    match field_parameter::parameter_end(s, at, comments) {
+        Some(end) => {
+            let kind = parameter_kind(&s[at..end]);
+            Token { kind, end }
+        }
+        None => token_part(s, at, comments),
     }
 }
 
 pub(crate) fn is_semicolon(kind: Kind) -> bool
     ensures { result ≡ semicolon_kind kind }
 {
-    match kind {
-        Kind::Comment => false,
-        Kind::Quoted => false,
-        Kind::White => false,
-        Kind::Open => false,
-        Kind::Semicolon => true,
-        Kind::Plain => false,
-        Kind::End => false,
-    }
+    matches!(kind, Kind::Semicolon)
 }
 
 // Whether a `;` is still the last thing but white space, folds and comments.
@@ -83,43 +77,50 @@ fn stays_after(after: bool, kind: Kind) -> bool
     ensures { result ≡ stays_after after kind }
 {
     match kind {
-        Kind::Comment => after,
-        Kind::Quoted => false,
-        Kind::White => after,
-        Kind::Open => false,
         Kind::Semicolon => true,
-        Kind::Plain => false,
-        Kind::End => after,
+        Kind::Comment | Kind::White | Kind::End => after,
+        Kind::Quoted | Kind::Open | Kind::Plain => false,
     }
 }
 
-pub(crate) fn next_state(state: State, parameter: bool, converted: bool, kind: Kind) -> State
-    ensures { result ≡ part_next state parameter converted kind }
+fn after_parameter(state: State, converted: bool) -> State
+    ensures { result ≡ after_parameter state converted }
 {
-    let comments = state.comments;
-    let fresh = state.fresh;
-    let own = state.own;
-    if parameter {
-        return State {
-            comments: comments,
-            after: false,
-            fresh: converted,
-            own: converted,
-        };
-    }
-    let white = structured_token::is_white_space(kind);
-    let mark = is_semicolon(kind) & own;
     State {
-        comments: structured_token::goes_on(comments, kind),
-        after: stays_after(state.after, kind),
-        fresh: fresh & (white | mark),
-        own: own & white,
+        comments: state.comments,
+        after: false,
+        fresh: converted,
+        own: converted,
     }
 }
 
-// Whether a token is white space that goes; what follows it stands at a place.
-pub(crate) fn is_dropped(s: &[u8], end: usize, state: State, kind: Kind) -> bool
-    ensures { result ≡ dropped state kind (drop end s.now) }
+fn after_token(state: State, kind: Kind) -> State
+    ensures { result ≡ after_token state kind }
+{
+    let white = structured_token::is_white_space(kind);
+    let mark = is_semicolon(kind) & state.own;
+    State {
+        comments: structured_token::goes_on(state.comments, kind),
+        after: stays_after(state.after, kind),
+        fresh: state.fresh & (white | mark),
+        own: state.own & white,
+    }
+}
+
+#[tactic(auto, unfolding(crate::specs::StepLaws::part_next))]
+pub(crate) fn next_state(state: State, kind: PartKind) -> State
+    ensures { result ≡ part_next state (is_parameter kind) (converts kind) (token_kind kind) }
+{
+    match kind {
+        PartKind::Converted => after_parameter(state, true),
+        PartKind::Stays => after_parameter(state, false),
+        PartKind::Token(kind) => after_token(state, kind),
+    }
+}
+
+// Whether a token is white space that goes, before what follows it.
+pub(crate) fn is_dropped(state: State, kind: Kind, after: &[u8]) -> bool
+    ensures { result ≡ dropped state kind after.now }
 {
     let comments = state.comments;
     if !structured_token::is_white_space(kind) {
@@ -131,7 +132,7 @@ pub(crate) fn is_dropped(s: &[u8], end: usize, state: State, kind: Kind) -> bool
     if !state.after {
         return false;
     }
-    field_parameter::converted_next(s, end, comments)
+    field_parameter::converted_next(after, 0, comments)
 }
 
 // The text of a parameter's value, made at the front of a scratch.

@@ -1,6 +1,6 @@
 -- Laws of the path of an envelope line by one byte at a time: each byte leads to what is left of a path, its `>` and what passes after
 -- it.
-use Rattle.std.specs.Prelude.{◌≡◌, Bool, cond, ◌&&◌, ◌||◌, T, leb, ltb, eqb, length, take, drop, get_or}
+use Rattle.std.specs.Prelude.{◌≡◌, Bool, cond, ◌&&◌, ◌||◌, T, leb, ltb, eqb, length, take, drop, get_or, Result, Ok, Err}
 use Rattle.std.proofs.Math.Path.{refl, sym}
 use Rattle.std.proofs.Common.{◌∙◌, arith}
 use Rattle.std.proofs.Math.Bool.{true, false, not, and-false, or-false}
@@ -16,8 +16,6 @@ use Rattle.lists.specs.Byte.{within}
 use Rattle.lists.specs.ByteLaws.{within_low, within_high, below}
 use Rattle.lists.specs.Run.{run}
 use Rattle.letter_case.specs.LetterCase.{bytes, lower, same_any_case}
-use Rattle.address.specs.declared.Scan.{Scan}
-use Rattle.address.specs.declared.Scan.TheVariants.{To, Stop}
 use Rattle.address.specs.Address.{later, byte_then, scan_then, is_atext, is_atom_byte, is_quoted_byte, is_literal_byte, dot_atom_end, dot_atom_from, dot_atom_scan, quoted_from, quoted_scan, literal_from, literal_scan, domain_scan, local_scan, address_scan}
 use Rattle.envelope_line.specs.EnvelopeLine.{path_scan}
 use Rattle.envelope_line.proofs.LineGrammarLaws.{lower_mark}
@@ -29,24 +27,24 @@ use Rattle.path_stop.specs.PathStop.{end_step, atoms_step, quoted_step, literal_
 
 -- ---- a scan that ends, and what passes after it
 
-unfoldable pub ends : Scan → List ℕ → (List ℕ → Bool) → Bool
-ends (To n) s k = k (drop n s)
-ends (Stop n) s k = false
+unfoldable pub ends : Result ℕ ℕ → List ℕ → (List ℕ → Bool) → Bool
+ends (Ok n) s k = k (drop n s)
+ends (Err n) s k = false
 
-ends_later : (x : Scan) (b : ℕ) (s : List ℕ) (k : List ℕ → Bool) → ends (later 1 x) (b ∷ s) k ≡ ends x s k
+ends_later : (x : Result ℕ ℕ) (b : ℕ) (s : List ℕ) (k : List ℕ → Bool) → ends (later 1 x) (b ∷ s) k ≡ ends x s k
 unfolding ends later
-ends_later (To n) b s k = let e : 1 + n ≡ suc n = omega arith in rw e
-ends_later (Stop n) b s k = refl
+ends_later (Ok n) b s k = let e : 1 + n ≡ suc n = omega arith in rw e
+ends_later (Err n) b s k = refl
 
-ends_moved : (n : ℕ) (x : Scan) (s : List ℕ) (k : List ℕ → Bool) → ends (later n x) s k ≡ ends x (drop n s) k
+ends_moved : (n : ℕ) (x : Result ℕ ℕ) (s : List ℕ) (k : List ℕ → Bool) → ends (later n x) s k ≡ ends x (drop n s) k
 unfolding ends later
-ends_moved n (To m) s k = rw (drop-drop m n s)
-ends_moved n (Stop m) s k = refl
+ends_moved n (Ok m) s k = rw (drop-drop m n s)
+ends_moved n (Err m) s k = refl
 
-ends_then : (x : Scan) (next : List ℕ → Scan) (s : List ℕ) (k : List ℕ → Bool) → ends (scan_then x next s) s k ≡ ends x s (λ t. ends (next t) t k)
+ends_then : (x : Result ℕ ℕ) (next : List ℕ → Result ℕ ℕ) (s : List ℕ) (k : List ℕ → Bool) → ends (scan_then x next s) s k ≡ ends x s (λ t. ends (next t) t k)
 unfolding ends scan_then
-ends_then (To n) next s k = ends_moved n (next (drop n s)) s k
-ends_then (Stop n) next s k = refl
+ends_then (Ok n) next s k = ends_moved n (next (drop n s)) s k
+ends_then (Err n) next s k = refl
 
 -- ---- bytes
 
@@ -165,7 +163,7 @@ module _ (k : List ℕ → Bool) where
       n : ℕ
       n = run is_literal_byte l
 
-      more : (x : Bool) → ends (cond x (To (suc n + 1)) (Stop (suc n))) (b ∷ l) closed ≡ ends (cond x (To (n + 1)) (Stop n)) l closed
+      more : (x : Bool) → ends (cond x (Ok (suc n + 1)) (Err (suc n))) (b ∷ l) closed ≡ ends (cond x (Ok (n + 1)) (Err n)) l closed
       more true = let e : suc n + 1 ≡ suc (n + 1) = omega arith in rw e
       more false = refl
 

@@ -1,8 +1,10 @@
 // The path of an envelope line and its `>` by one byte at a time.
 #![tactic(auto)]
 
-ghost use Rattle.std.specs.Prelude.{◌≡◌, cond, ◌≤◌};
-ghost use Rattle.path_stop.specs.PathStop.{end_step, atoms_step, quoted_step, literal_step, domain_step, local_step, word_step, start_step, path_step, is_closed, path_live, word_need, atoms_need, path_need};
+ghost use Rattle.std.specs.Prelude.{◌≡◌, ◌≤◌};
+ghost use Rattle.path_stop.specs.PathStop.{end_step, atoms_step, quoted_step, literal_step, domain_step, local_step, word_step, start_step, path_step, is_closed, path_live, word_need, atoms_need, path_need, path};
+
+use line_stop::LineForm;
 
 // Where a path stands.
 #[derive(Clone, Copy)]
@@ -27,6 +29,7 @@ pub enum PathForm {
     Off,
 }
 
+#[tactic(auto, unfolding(crate::specs::PathStop::end_step))]
 fn end_step(domain: bool, b: u8) -> PathForm
     ensures { result ≡ end_step domain b }
 {
@@ -42,6 +45,7 @@ fn end_step(domain: bool, b: u8) -> PathForm
     PathForm::Off
 }
 
+#[tactic(auto, unfolding(crate::specs::PathStop::atoms_step))]
 fn atoms_step(domain: bool, due: bool, b: u8) -> PathForm
     ensures { result ≡ atoms_step domain due b }
 {
@@ -57,6 +61,7 @@ fn atoms_step(domain: bool, due: bool, b: u8) -> PathForm
     end_step(domain, b)
 }
 
+#[tactic(auto, unfolding(crate::specs::PathStop::quoted_step, address::specs::Address::is_quoted_byte))]
 fn quoted_step(escaped: bool, b: u8) -> PathForm
     ensures { result ≡ quoted_step escaped b }
 {
@@ -75,6 +80,7 @@ fn quoted_step(escaped: bool, b: u8) -> PathForm
     PathForm::Off
 }
 
+#[tactic(auto, unfolding(crate::specs::PathStop::literal_step, address::specs::Address::is_literal_byte))]
 fn literal_step(b: u8) -> PathForm
     ensures { result ≡ literal_step b }
 {
@@ -87,6 +93,7 @@ fn literal_step(b: u8) -> PathForm
     PathForm::Off
 }
 
+#[tactic(auto, unfolding(crate::specs::PathStop::domain_step))]
 fn domain_step(b: u8) -> PathForm
     ensures { result ≡ domain_step b }
 {
@@ -96,6 +103,7 @@ fn domain_step(b: u8) -> PathForm
     atoms_step(true, true, b)
 }
 
+#[tactic(auto, unfolding(crate::specs::PathStop::local_step))]
 fn local_step(b: u8) -> PathForm
     ensures { result ≡ local_step b }
 {
@@ -105,6 +113,7 @@ fn local_step(b: u8) -> PathForm
     atoms_step(false, true, b)
 }
 
+#[tactic(auto, using(line_stop::proofs::WordLaws::next_within), unfolding(crate::specs::PathStop::word_step, letter_case::specs::LetterCase::bytes))]
 fn word_step(n: usize, b: u8) -> PathForm
     ensures { result ≡ word_step n b }
 {
@@ -117,6 +126,7 @@ fn word_step(n: usize, b: u8) -> PathForm
     atoms_step(false, false, b)
 }
 
+#[tactic(auto, unfolding(crate::specs::PathStop::start_step, letter_case::specs::LetterCase::bytes))]
 fn start_step(mail: bool, b: u8) -> PathForm
     ensures { result ≡ start_step mail b }
 {
@@ -132,58 +142,8 @@ fn start_step(mail: bool, b: u8) -> PathForm
     local_step(b)
 }
 
-// After one more byte.
-pub fn step(p: PathForm, b: u8) -> PathForm
-    ensures { result ≡ path_step p b }
-{
-    match p {
-        PathForm::Start(mail) => start_step(mail, b),
-        PathForm::Word(n) => word_step(n, b),
-        PathForm::Atoms(domain, due) => atoms_step(domain, due, b),
-        PathForm::Quoted(escaped) => quoted_step(escaped, b),
-        PathForm::End(domain) => end_step(domain, b),
-        PathForm::Domain => domain_step(b),
-        PathForm::Literal => literal_step(b),
-        PathForm::Closed => PathForm::Off,
-        PathForm::Off => PathForm::Off,
-    }
-}
-
-// Whether the path is closed.
-pub fn is_closed(p: PathForm) -> bool
-    ensures { result ≡ is_closed p }
-{
-    match p {
-        PathForm::Start(_) => false,
-        PathForm::Word(_) => false,
-        PathForm::Atoms(_, _) => false,
-        PathForm::Quoted(_) => false,
-        PathForm::End(_) => false,
-        PathForm::Domain => false,
-        PathForm::Literal => false,
-        PathForm::Closed => true,
-        PathForm::Off => false,
-    }
-}
-
-// Whether some bytes complete the path and its `>`.
-pub fn is_live(p: PathForm) -> bool
-    ensures { result ≡ path_live p }
-{
-    match p {
-        PathForm::Start(_) => true,
-        PathForm::Word(_) => true,
-        PathForm::Atoms(_, _) => true,
-        PathForm::Quoted(_) => true,
-        PathForm::End(_) => true,
-        PathForm::Domain => true,
-        PathForm::Literal => true,
-        PathForm::Closed => true,
-        PathForm::Off => false,
-    }
-}
-
 // How many bytes a path needs that has begun as `Postmaster>` does.
+#[tactic(auto, unfolding(crate::specs::PathStop::word_need))]
 fn word_need(n: usize) -> usize
     ensures { (result ≡ word_need n) × (result ≤ 5) }
 {
@@ -197,6 +157,7 @@ fn word_need(n: usize) -> usize
 }
 
 // How many bytes a dot-atom needs, with what must follow it.
+#[tactic(auto, unfolding(crate::specs::PathStop::atoms_need))]
 fn atoms_need(domain: bool, due: bool) -> usize
     ensures { (result ≡ atoms_need domain due) × (result ≤ 5) }
 {
@@ -212,30 +173,49 @@ fn atoms_need(domain: bool, due: bool) -> usize
     3
 }
 
-// One number, or another.
-fn either(test: bool, yes: usize, other: usize) -> usize
-    requires { (yes ≤ 5) × (other ≤ 5) }
-    ensures { (result ≡ cond test yes other) × (result ≤ 5) }
-{
-    if test {
-        return yes;
-    }
-    other
-}
+impl LineForm for PathForm {
+    ghost form = { path };
 
-// The fewest bytes that complete the path and its `>`.
-pub fn need(p: PathForm) -> usize
-    ensures { (result ≡ path_need p) × (result ≤ 5) }
-{
-    match p {
-        PathForm::Start(mail) => either(mail, 1, 4),
-        PathForm::Word(n) => word_need(n),
-        PathForm::Atoms(domain, due) => atoms_need(domain, due),
-        PathForm::Quoted(escaped) => either(escaped, 5, 4),
-        PathForm::End(domain) => atoms_need(domain, false),
-        PathForm::Domain => 2,
-        PathForm::Literal => 2,
-        PathForm::Closed => 0,
-        PathForm::Off => 0,
+    fn step(self, b: u8) -> PathForm
+        ensures { result ≡ path_step self b }
+    {
+        match self {
+            PathForm::Start(mail) => start_step(mail, b),
+            PathForm::Word(n) => word_step(n, b),
+            PathForm::Atoms(domain, due) => atoms_step(domain, due, b),
+            PathForm::Quoted(escaped) => quoted_step(escaped, b),
+            PathForm::End(domain) => end_step(domain, b),
+            PathForm::Domain => domain_step(b),
+            PathForm::Literal => literal_step(b),
+            PathForm::Closed | PathForm::Off => PathForm::Off,
+        }
+    }
+
+    // Whether the path is closed.
+    fn is_done(self) -> bool
+        ensures { result ≡ is_closed self }
+    {
+        matches!(self, PathForm::Closed)
+    }
+
+    fn is_live(self) -> bool
+        ensures { result ≡ path_live self }
+    {
+        !matches!(self, PathForm::Off)
+    }
+
+    fn need(self) -> usize
+        ensures { (result ≡ path_need self) × (result ≤ 5) }
+    {
+        match self {
+            PathForm::Start(mail) => if mail { 1 } else { 4 },
+            PathForm::Word(n) => word_need(n),
+            PathForm::Atoms(domain, due) => atoms_need(domain, due),
+            PathForm::Quoted(escaped) => if escaped { 5 } else { 4 },
+            PathForm::End(domain) => atoms_need(domain, false),
+            PathForm::Domain => 2,
+            PathForm::Literal => 2,
+            PathForm::Closed | PathForm::Off => 0,
+        }
     }
 }

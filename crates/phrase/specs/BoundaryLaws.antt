@@ -1,5 +1,5 @@
 -- Words, phrases and addresses of a text that is UTF-8 end where it may be cut, and the text of a phrase is UTF-8.
-use Rattle.std.specs.Prelude.{◌≡◌, refl, Bool, true, false, cond, ◌&&◌, ◌||◌, List, [], ◌∷◌, ◌++◌, map, ℕ, zero, suc, ◌+◌, ◌≤◌, ◌<◌, T, leb, ltb, eqb, length, take, drop, get_or}
+use Rattle.std.specs.Prelude.{◌≡◌, refl, Bool, true, false, cond, ◌&&◌, ◌||◌, List, [], ◌∷◌, ◌++◌, map, ℕ, zero, suc, ◌+◌, ◌≤◌, ◌<◌, T, leb, ltb, eqb, length, take, drop, get_or, Result, Ok, Err}
 use Rattle.std.proofs.Common.{not-suc-le-zero, arith, eqb→eq, lt→ltb, take-append-drop, length-drop, drop-drop, take_all, take-add}
 use Rattle.std.proofs.Math.Facts.{and_yes, yes_and, ltb_yes, ltb_no, leb_no}
 use Rattle.lists.specs.Byte.{is_ascii}
@@ -14,8 +14,6 @@ use Rattle.line.specs.Line.{blank}
 use Rattle.unquote.specs.Unquote.{unquoted}
 use Rattle.unquote.specs.UnquoteLaws.{unquoted_utf8}
 use Rattle.address.specs.AddressLaws.{front_byte}
-use Rattle.address.specs.declared.Scan.{Scan}
-use Rattle.address.specs.declared.Scan.TheVariants.{To, Stop}
 use Rattle.address.specs.Address.{is_atom_byte, is_atext, is_high, quoted_scan, address_scan}
 use Rattle.address.specs.GrammarLaws.{Cut, utf8_taken, quoted_cut, address_cut}
 use Rattle.phrase.specs.Words.{found, capped, is_word_byte, address_len, word_len, next_word_len, next_words_len, phrase_len}
@@ -66,9 +64,9 @@ capped_boundary : (s : List ℕ) (n : ℕ) → T (utf8 s) → Boundary s n → B
 unfolding capped
 capped_boundary s n h a = cond_has (Boundary s) (leb n 900) n 0 (λ t. a) (λ t. boundary_none s h)
 
-found_boundary : (s : List ℕ) (r : Scan) → T (utf8 s) → ((n : ℕ) → r ≡ To n → Cut s n) → Boundary s (found r)
-found_boundary s (To n) h c = boundary_cut s n h (c n refl)
-found_boundary s (Stop n) h c = boundary_none s h
+found_boundary : (s : List ℕ) (r : Result ℕ ℕ) → T (utf8 s) → ((n : ℕ) → r ≡ Ok n → Cut s n) → Boundary s (found r)
+found_boundary s (Ok n) h c = boundary_cut s n h (c n refl)
+found_boundary s (Err n) h c = boundary_none s h
 
 pub address_boundary : (s : List ℕ) → T (utf8 s) → Boundary s (address_len s)
 unfolding address_len

@@ -1,5 +1,5 @@
 -- Laws of the words of a phrase and of its text, as code goes over them.
-use Rattle.std.specs.Prelude.{◌≡◌, refl, cond, List, [], ◌∷◌, ◌++◌, map, ℕ, zero, suc, pred, ◌+◌, ◌-◌, ◌*◌, ◌≤◌, ◌<◌, eqb, length, take, drop}
+use Rattle.std.specs.Prelude.{◌≡◌, refl, cond, List, [], ◌∷◌, ◌++◌, map, ℕ, zero, suc, pred, ◌+◌, ◌-◌, ◌*◌, ◌≤◌, ◌<◌, max, eqb, length, take, drop}
 use Rattle.std.proofs.Common.{ap, ◌∙◌, zero-le, not-suc-le-zero, arith, drop_of_length-le, length-take, length-append, drop-drop}
 use borrow.Author.Tests.{ne_eqb}
 use Rattle.std.proofs.Math.ListN.{length-drop}
@@ -11,13 +11,9 @@ use Rattle.phrase.specs.Words.{word_len}
 use Rattle.phrase.specs.Phrase.{word_size, words_from, phrase_words, after_spaces, joined_by_spaces, phrase_text}
 
 module _ (t : List ℕ) (at n : ℕ) (q : n ≡ word_len (drop at t)) where
-  pub word_to_end : n ≡ 0 → at < length t → length t ≡ at + word_size (drop at t)
+  pub word_to_end : n ≡ 0 → max at (length t) ≡ at + word_size (drop at t)
   unfolding word_size
-  word_to_end z h = rw (← q, z) (omega (arith, length-drop at t))
-
-  pub word_past : n ≡ 0 → length t ≤ at → at ≡ at + word_size (drop at t)
-  unfolding word_size
-  word_past z h = rw (← q, z) (omega (arith, length-drop at t))
+  word_to_end z = rw (← q, z) (omega (arith, length-drop at t))
 
   pub word_some : (n ≡ 0 → ⊥) → at + n ≡ at + word_size (drop at t)
   unfolding word_size

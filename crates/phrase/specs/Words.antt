@@ -1,17 +1,15 @@
 -- Words, phrases and addresses at the front of a text. Lengths count bytes, and 0 is none.
 --
 -- Bytes that are not ASCII are taken one by one: in a text that is UTF-8 a run of them is a run of non-ASCII characters.
-use Rattle.std.specs.Prelude.{Bool, cond, ◌||◌, ◌&&◌, List, [], ◌∷◌, ℕ, zero, suc, pred, ◌+◌, ltb, leb, eqb, drop, get_or}
+use Rattle.std.specs.Prelude.{Bool, cond, ◌||◌, ◌&&◌, List, [], ◌∷◌, ℕ, zero, suc, pred, ◌+◌, ltb, leb, eqb, drop, get_or, Result, Ok, Err}
 use Rattle.lists.specs.Run.{run}
 use Rattle.line.specs.Line.{blank}
-use Rattle.address.specs.declared.Scan.{Scan}
-use Rattle.address.specs.declared.Scan.TheVariants.{To, Stop}
 use Rattle.address.specs.Address.{is_atom_byte, quoted_scan, address_scan}
 
 -- the length of what a scan found
-abbrev pub found : Scan → ℕ
-found (To n) = n
-found (Stop n) = 0
+abbrev pub found : Result ℕ ℕ → ℕ
+found (Ok n) = n
+found (Err n) = 0
 
 -- "No word or address exceeds 900 bytes."
 unfoldable pub capped : ℕ → ℕ

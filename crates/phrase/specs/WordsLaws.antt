@@ -1,7 +1,8 @@
 -- Laws of words, phrases and addresses, as code finds them by position.
 use Rattle.std.proofs.Math.Path.{◌≡◌, refl}
 use Rattle.std.proofs.Common.{ap, sym, ◌∙◌, not-suc-le-zero, drop_of_length-le, drop-drop}
-use Rattle.std.specs.Prelude.{Bool, true, false, cond, ◌&&◌, ℕ, zero, suc, ◌+◌, ◌-◌, ◌≤◌, ◌<◌, ltb, leb, eqb, drop, get_or}
+use Rattle.std.specs.Prelude.{Bool, true, false, cond, ◌&&◌, ℕ, zero, suc, ◌+◌, ◌-◌, ◌≤◌, ◌<◌, ltb, leb, eqb, drop, get_or, Option, Some, None, Result, Ok, Err}
+use Rattle.std.specs.Result.{result_ok}
 use Rattle.std.proofs.Math.Bool.{and-false}
 use mathlib.Core.List.{List, [], ◌∷◌}
 use native.Mathlib.Omega.{arith}
@@ -11,11 +12,9 @@ use Rattle.lists.specs.ListsLaws.{cond_has}
 use Rattle.lists.specs.Run.{run}
 use Rattle.lists.specs.RunLaws.{run_le}
 use Rattle.line.specs.Line.{blank}
-use Rattle.address.specs.declared.Scan.{Scan}
-use Rattle.address.specs.declared.Scan.TheVariants.{To, Stop}
 use Rattle.address.specs.Address.{later, quoted_scan, address_scan}
 use Rattle.address.specs.AddressLaws.{front_byte}
-use Rattle.address.specs.TakenLaws.{Taken, taken_quoted}
+use Rattle.address.specs.TakenLaws.{Taken, taken_quoted, taken_address}
 use Rattle.phrase.specs.Words.{found, capped, is_word_byte, address_len, word_len, next_word_len, next_words_len, phrase_len}
 
 pub capped_in : (n : ℕ) → n ≤ 900 → n ≡ capped n
@@ -36,28 +35,47 @@ capped_le {r} {n} {m} e h = rw e (go (leb n 900))
 
 -- ---- what a scan found, by position
 
-module _ {least : ℕ} (s : List ℕ) (at : ℕ) (r : Scan) (t : Taken (suc least) (drop at s) r) where
-  pub found_to : (n : ℕ) → To n ≡ later at r → (n - at ≡ found r) × ((at ≤ n) × (n - at ≤ length s - at))
+module _ {least : ℕ} (s : List ℕ) (at : ℕ) (r : Result ℕ ℕ) (t : Taken (suc least) (drop at s) r) where
+  pub found_to : (n : ℕ) → Ok n ≡ later at r → (n - at ≡ found r) × ((at ≤ n) × (n - at ≤ length s - at))
   unfolding later
   found_to n e = go r t e
     where
-      go : (r : Scan) → Taken (suc least) (drop at s) r → To n ≡ later at r → (n - at ≡ found r) × ((at ≤ n) × (n - at ≤ length s - at))
-      go (To m) t e =
+      go : (r : Result ℕ ℕ) → Taken (suc least) (drop at s) r → Ok n ≡ later at r → (n - at ≡ found r) × ((at ≤ n) × (n - at ≤ length s - at))
+      go (Ok m) t e =
           let place : n ≡ at + m = cc in
           (omega arith, (omega arith, omega (arith, t.covers.within, length-drop at s)))
-      go (Stop m) t e = absurd (let z : ◌≡◌ {A = ℕ} 0 1 = cc in omega arith)
+      go (Err m) t e = absurd (let z : ◌≡◌ {A = ℕ} 0 1 = cc in omega arith)
 
-  pub found_stop : (n : ℕ) → Stop n ≡ later at r → 0 ≡ found r
+  pub found_stop : (n : ℕ) → Err n ≡ later at r → 0 ≡ found r
   unfolding later
   found_stop n e = go r e
     where
-      go : (r : Scan) → Stop n ≡ later at r → 0 ≡ found r
-      go (To m) e = absurd (let z : ◌≡◌ {A = ℕ} 0 1 = cc in omega arith)
-      go (Stop m) e = refl
+      go : (r : Result ℕ ℕ) → Err n ≡ later at r → 0 ≡ found r
+      go (Ok m) e = absurd (let z : ◌≡◌ {A = ℕ} 0 1 = cc in omega arith)
+      go (Err m) e = refl
 
-pub address_of : (s : List ℕ) (n r : ℕ) → n ≡ found (address_scan s) → r ≡ capped n → r ≡ address_len s
+  -- the same of the option of where it ends
+  module _ {o : Option ℕ} {q : Result ℕ ℕ} (w : o ≡ result_ok q) (p : q ≡ later at r) where
+    pub taken_some : {n : ℕ} → o ≡ Some n → (n - at ≡ found r) × ((at ≤ n) × (n - at ≤ length s - at))
+    taken_some {n} e = go q refl
+      where
+        go : (a : Result ℕ ℕ) → q ≡ a → (n - at ≡ found r) × ((at ≤ n) × (n - at ≤ length s - at))
+        go (Ok m) x = let same : Some n ≡ Some m = sym e ∙ (w ∙ rw x refl) in let k : n ≡ m = cc in found_to n (rw k (sym x ∙ p))
+        go (Err m) x = let none : Some n ≡ None = sym e ∙ (w ∙ rw x refl) in absurd (let z : ◌≡◌ {A = ℕ} 0 1 = cc in omega arith)
+
+    pub taken_none : o ≡ None → 0 ≡ found r
+    taken_none e = go q refl
+      where
+        go : (a : Result ℕ ℕ) → q ≡ a → 0 ≡ found r
+        go (Ok m) x = let some : None ≡ Some m = sym e ∙ (w ∙ rw x refl) in absurd (let z : ◌≡◌ {A = ℕ} 0 1 = cc in omega arith)
+        go (Err m) x = found_stop m (sym x ∙ p)
+
+pub address_of : (s : List ℕ) (n : ℕ) → n ≡ found (address_scan s) → capped n ≡ address_len s
 unfolding address_len
-address_of s n r e q = rw (← e) q
+address_of s n e = rw e
+
+pub address_none : (s : List ℕ) → 0 ≡ found (address_scan s) → address_len s ≡ 0
+address_none s e = sym (address_of s 0 e) ∙ sym (capped_in 0 (omega arith))
 
 -- ---- a word
 
@@ -140,9 +158,9 @@ module _ (s : List ℕ) (w : ℕ) (q : w ≡ word_len (drop 0 s)) where
 
 -- ---- lengths within the text
 
-found_le : {least : ℕ} {s : List ℕ} (r : Scan) → Taken (suc least) s r → found r ≤ length s
-found_le (To n) t = t.covers.within
-found_le (Stop n) t = omega arith
+found_le : {least : ℕ} {s : List ℕ} (r : Result ℕ ℕ) → Taken (suc least) s r → found r ≤ length s
+found_le (Ok n) t = t.covers.within
+found_le (Err n) t = omega arith
 
 word_le : (s : List ℕ) → word_len s ≤ length s
 unfolding word_len
@@ -151,6 +169,15 @@ word_le s =
     let plain = run_le is_word_byte s in
     capped_le refl (cond_has (λ n. n ≤ length s) (eqb (get_or s 0 0) 34) (found (quoted_scan s)) (run is_word_byte s) (λ t. quoted) (λ t. plain))
 
+-- by position
+module _ (s : List ℕ) (at : ℕ) where
+  pub address_within : address_len (drop at s) ≤ length s - at
+  unfolding address_len
+  address_within = omega (arith, capped_le refl (found_le (address_scan (drop at s)) (taken_address (drop at s))), length-drop at s)
+
+  pub word_within : word_len (drop at s) ≤ length s - at
+  word_within = omega (arith, word_le (drop at s), length-drop at s)
+
 pub next_word_le : (s : List ℕ) → next_word_len s ≤ length s
 unfolding next_word_len
 next_word_le s =
@@ -158,6 +185,9 @@ next_word_le s =
     let word : ℕ = word_len (drop gap s) in
     let within : gap + word ≤ length s = omega (arith, run_le blank s, word_le (drop gap s), length-drop gap s) in
     cond_has (λ n. n ≤ length s) (ltb 0 gap && ltb 0 word) (gap + word) 0 (λ t. within) (λ t. omega arith)
+
+pub next_word_within : (s : List ℕ) (at : ℕ) → next_word_len (drop at s) ≤ length s - at
+next_word_within s at = omega (arith, next_word_le (drop at s), length-drop at s)
 
 -- no word follows
 pub words_none : (s : List ℕ) → next_word_len s ≤ 0 → next_words_len 0 s ≡ 0

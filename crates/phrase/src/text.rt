@@ -11,14 +11,10 @@ use line::blanks_end;
 pub fn word_end(phrase: &[u8], at: usize) -> usize
     ensures { WordEnd phrase.now at result }
 {
-    let n = word_len(phrase, at);
-    if n != 0 {
-        return at + n;
+    match word_len(phrase, at) {
+        Some(n) => at + n,
+        None => at.max(phrase.len()),
     }
-    if phrase.len() <= at {
-        return at;
-    }
-    phrase.len()
 }
 
 // The words of a phrase from a place on without quoting and escapes, each after a space.

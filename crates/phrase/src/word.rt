@@ -1,37 +1,27 @@
-// Words, phrases and addresses of an address field, by position in its text. Lengths count bytes, and 0 is none.
-ghost use Rattle.std.specs.Prelude.{◌≡◌, ◌+◌, ◌-◌, ◌≤◌, length, drop};
-ghost use Rattle.lists.specs.Run.{run};
-ghost use Rattle.address.specs.Address.{quoted_scan};
-ghost use Rattle.phrase.specs.Words.{found, capped, is_word_byte, address_len, word_len, next_word_len, phrase_len};
+// Words, phrases and addresses of an address field, by position in its text. Lengths count bytes.
+ghost use Rattle.std.specs.Prelude.{◌≡◌, ◌-◌, ◌≤◌, length, drop};
+ghost use Rattle.lists.specs.Lists.{nonzero};
+ghost use Rattle.phrase.specs.Words.{capped, is_word_byte, address_len, word_len, next_word_len, phrase_len};
 
-use address::Scan;
+use byte_class::{Class, run_end};
 use line::blanks_end;
 
-// A length; none where it exceeds 900.
-fn capped(n: usize) -> usize
-    ensures { result ≡ capped n }
+// A length; none where it is 0 or exceeds 900.
+fn capped(n: usize) -> Option<usize>
+    ensures { result ≡ nonzero (capped n) }
 {
-    if n <= 900 { n } else { 0 }
+    match n {
+        1..=900 => Some(n),
+        _ => None,
+    }
 }
 
 // The length of the address at a place.
-pub fn address_len(s: &[u8], at: usize) -> usize
-    ensures { (result ≡ address_len (drop at s.now)) × (result ≤ length s.now - at) }
+pub fn address_len(s: &[u8], at: usize) -> Option<usize>
+    ensures { (result ≡ nonzero (address_len (drop at s.now))) × (address_len (drop at s.now) ≤ length s.now - at) }
 {
-    match address::address(s, at) {
-        Scan::To(n) => capped(n - at),
-        Scan::Stop(_) => 0,
-    }
-}
-
-// The length of the quoted string at a place.
-fn quoted_len(s: &[u8], at: usize) -> usize
-    ensures { (result ≡ found (quoted_scan (drop at s.now))) × (result ≤ length s.now - at) }
-{
-    match address::quoted::quoted(s, at) {
-        Scan::To(n) => n - at,
-        Scan::Stop(_) => 0,
-    }
+    let end = address::address(s, at).ok()?;
+    capped(end - at)
 }
 
 fn is_word_byte(b: u8) -> bool
@@ -40,59 +30,47 @@ fn is_word_byte(b: u8) -> bool
     address::atom::is_atom_byte(b) | (b == b'.')
 }
 
-// Where the run of atext, dots and non-ASCII bytes from a place on ends.
-fn run_end(s: &[u8], at: usize) -> usize
-    ensures { result ≡ at + run is_word_byte (drop at s.now) }
-{
-    let mut i = at;
-    while i < s.len() {
-        if !is_word_byte(s[i]) {
-            return i;
-        }
-        i += 1;
+// atext, dots and non-ASCII bytes.
+struct WordByte;
+
+impl Class for WordByte {
+    ghost member = { is_word_byte };
+
+    fn holds(b: u8) -> bool {
+        is_word_byte(b)
     }
-    i
 }
 
-// The length of the word at a place.
-pub(crate) fn word_len(s: &[u8], at: usize) -> usize
-    ensures { (result ≡ word_len (drop at s.now)) × (result ≤ length s.now - at) }
+// The length of the word at a place: a quoted string, or the run of its bytes.
+pub(crate) fn word_len(s: &[u8], at: usize) -> Option<usize>
+    ensures { (result ≡ nonzero (word_len (drop at s.now))) × (word_len (drop at s.now) ≤ length s.now - at) }
 {
     if line::byte_at(s, at) == b'"' {
-        return capped(quoted_len(s, at));
+        let end = address::quoted::quoted(s, at).ok()?;
+        return capped(end - at);
     }
-    capped(run_end(s, at) - at)
+    capped(run_end::<WordByte>(s, at) - at)
 }
 
 // The length of the blanks, at least one, and the word after them at a place.
-fn next_word_len(s: &[u8], at: usize) -> usize
-    ensures { (result ≡ next_word_len (drop at s.now)) × (result ≤ length s.now - at) }
+fn next_word_len(s: &[u8], at: usize) -> Option<usize>
+    ensures { (result ≡ nonzero (next_word_len (drop at s.now))) × (next_word_len (drop at s.now) ≤ length s.now - at) }
 {
     let e = blanks_end(s, at);
     if e == at {
-        return 0;
+        return None;
     }
-    let word = word_len(s, e);
-    if word == 0 {
-        return 0;
-    }
-    e - at + word
+    let word = word_len(s, e)?;
+    Some(e - at + word)
 }
 
 // The length of the phrase at the front.
-pub fn phrase_len(s: &[u8]) -> usize
-    ensures { (result ≡ phrase_len s.now) × (result ≤ length s.now) }
+pub fn phrase_len(s: &[u8]) -> Option<usize>
+    ensures { (result ≡ nonzero (phrase_len s.now)) × (phrase_len s.now ≤ length s.now) }
 {
-    let mut i = word_len(s, 0);
-    if i == 0 {
-        return 0;
+    let mut end = word_len(s, 0)?;
+    while let Some(n) = next_word_len(s, end) {
+        end += n;
     }
-    while i < s.len() {
-        let n = next_word_len(s, i);
-        if n == 0 {
-            return i;
-        }
-        i += n;
-    }
-    i
+    Some(end)
 }

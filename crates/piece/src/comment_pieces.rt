@@ -9,6 +9,9 @@ ghost use Rattle.piece.specs.CommentPieces.{part_pieces, comment_pieces};
 
 use crate::{add_piece, fitting_len};
 
+// Kept: what these functions require of a text and its scratch. Each passes a part of the text on with the same scratch, so that a
+// struct of the two would be built anew, with its proof, at each call: `put_part(&mut out[a..], &comment[i..e], scratch)`.
+
 // The encoded words of a run. Its text is made in the scratch.
 fn put_encoded(out: &mut [u8], run: &[u8], scratch: &mut [u8]) -> usize
     requires { (length run.now ≤ 32768) × (length run.now ≤ length scratch.old) }

@@ -18,6 +18,7 @@ pub fn add_piece(out: &mut [u8], at: usize, text: &[u8]) -> usize
     buffer::add_slice(out, next, text)
 }
 
+// Kept: 0 is a length here, that of a text that counts as empty (`fitting`).
 // The length of a text; none where a scratch with so much room cannot serve it.
 pub fn fitting_len(room: usize, n: usize) -> usize
     ensures { result ≡ cond (leb n 32768 && leb (2 * n) room) n 0 }

@@ -7,42 +7,36 @@ use native.Mathlib.Omega.{arith}
 use Rattle.buffer.specs.BufferLaws.{length_overlay}
 use Rattle.lists.specs.ListsLaws.{cond_has}
 use Rattle.header.specs.Fields.{field_len}
-use Rattle.downgraded_field.specs.declared.FieldRead.{FieldRead}
-use Rattle.downgraded_field.specs.declared.FieldRead.TheVariants.{Text as FieldText, Malformed as FieldMalformed, Word as FieldWord, Charset as FieldCharset, NotUtf8 as FieldNotUtf8}
+use Rattle.std.specs.Prelude.{Some, None, Ok, Err}
+use Rattle.std.specs.declared.option.Option.{Option}
+use Rattle.std.specs.declared.result.Result.{Result}
+use Rattle.downgraded_field.specs.declared.FieldFault.{FieldFault}
 use Rattle.downgraded_field.specs.Shown.{field_read, field_text}
 use Rattle.downgraded_reader.specs.declared.Found.{Found}
-use Rattle.downgraded_reader.specs.declared.Found.TheVariants.{Text, Malformed, Word, Charset, NotUtf8, Room, Nothing}
+use Rattle.downgraded_reader.specs.declared.Unread.{Unread}
 use Rattle.downgraded_reader.specs.declared.ReadAnswer.{ReadAnswer}
-use Rattle.downgraded_reader.specs.Reader.{field_start, field_at, of_field, left_by, reading, buffer_after, next_of, Outcome, outcome, observed}
+use Rattle.downgraded_reader.specs.Reader.{field_start, field_at, of_field, text_left, left_by, reading, buffer_after, next_of, Outcome, outcome, observed}
 use Rattle.reader_grammar.specs.CallLaws.{Reached}
 use Rattle.read_back.specs.Calls.{outcome_after}
 
 -- ---- their places
 
-left_length : (r : Found) (text buffer : List ℕ) → length (left_by r text buffer) ≡ length buffer
-unfolding left_by
-left_length (Text start next size) text buffer = length_overlay text buffer
-left_length (Malformed start next) text buffer = refl
-left_length (Word start next) text buffer = refl
-left_length (Charset start next) text buffer = refl
-left_length (NotUtf8 start next) text buffer = refl
-left_length (Room start next size) text buffer = refl
-left_length Nothing text buffer = refl
+text_left_length : (r : Result ℕ Unread) (text buffer : List ℕ) → length (text_left r text buffer) ≡ length buffer
+unfolding text_left
+text_left_length (Ok size) text buffer = length_overlay text buffer
+text_left_length (Err why) text buffer = refl
 
-field_next : (end room start next : ℕ) (r : FieldRead) → next_of end (of_field room start next r) ≡ next
-unfolding of_field next_of
-field_next end room start next (FieldText size) = cond_has (λ (f : Found). next_of end f ≡ next) (leb size room) (Text start next size) (Room start next size) (λ t. refl) (λ t. refl)
-field_next end room start next FieldMalformed = refl
-field_next end room start next FieldWord = refl
-field_next end room start next FieldCharset = refl
-field_next end room start next FieldNotUtf8 = refl
+left_length : (r : Option Found) (text buffer : List ℕ) → length (left_by r text buffer) ≡ length buffer
+unfolding left_by
+left_length None text buffer = refl
+left_length (Some field) text buffer = text_left_length field.text text buffer
 
 module _ (h : List ℕ) (place : ℕ) (buffer : List ℕ) where
   next_is : field_start h place < length h → (outcome h place buffer).next ≡ field_start h place + field_len (drop (field_start h place) h)
-  unfolding outcome reading
+  unfolding outcome reading of_field next_of
   next_is k =
       let s = field_start h place in
-      rw (lt-ltb s (length h) k) (field_next (length h) (length buffer) s (s + field_len (drop s h)) (field_read (field_at h s)))
+      rw (lt-ltb s (length h) k) refl
 
   buffer_size : length (outcome h place buffer).buffer ≡ length buffer
   unfolding outcome buffer_after

@@ -1,6 +1,6 @@
 -- The outgoing header is made of written fields. Each method for a field owes that what it writes is such: a label with the encoded words of a
 -- text, or a name and what the value becomes, which has no label.
-use Rattle.std.specs.Prelude.{◌≡◌, refl, Bool, ℕ, ◌≤◌, T, length, get_or}
+use Rattle.std.specs.Prelude.{◌≡◌, refl, Bool, ℕ, ◌≤◌, T, length, get_or, Ok}
 use Rattle.std.proofs.Common.{sym, ◌∙◌, arith, length-append}
 use Rattle.std.proofs.Math.Bool.{true, false}
 use mathlib.Core.List.{List, [], ◌∷◌, ◌++◌, append_assoc, append-nil, map}
@@ -18,7 +18,6 @@ use Rattle.rules.specs.declared.Rules.{Rules}
 use Rattle.encoded_word.specs.Segments.{Segment, rendered}
 use Rattle.encoded_word.specs.Segments.Segment.{raw}
 use Rattle.header_line.specs.Lines.{name_byte, name_len, checked_lines}
-use Rattle.header_line.specs.declared.LineCheck.TheVariants.{WellFormed}
 use Rattle.header.specs.Fields.{fields_of, name_of, value_of, text_of}
 use Rattle.header.specs.FieldShape.{Shaped, Each}
 use Rattle.header.specs.FieldShapeLaws.{fields_shaped, text_utf8}
@@ -42,7 +41,6 @@ use Rattle.outgoing_field.specs.Fate.{Fate, comments_or_encapsulated, holds, met
 use Rattle.outgoing_field.specs.Fate.Fate.{held, written}
 use Rattle.envelope.specs.Envelope.{checked, mail_replacement, rcpt_replacement}
 use Rattle.envelope.proofs.ReplacementLaws.{mail_replacement_utf8, rcpt_replacement_utf8}
-use Rattle.envelope.specs.declared.Checked.TheVariants.{Passed}
 use Rattle.call.specs.OutgoingHeader.{new_field, new_fields, outgoing_segments}
 use Rattle.downgraded_row.specs.RowLinesLaws.{Label}
 use Rattle.downgraded_row.specs.ReadBackLaws.{unlabelled, WrittenFields, written_then, name_not_blank}
@@ -183,7 +181,7 @@ fields_written : (rules : Rules) (fields : List (List ℕ)) → Each Shaped fiel
 fields_written rules [] s = WrittenFields.none
 fields_written rules (field ∷ fields) s = written_then (field_written_lem s.0 rules) (fields_written rules fields s.1)
 
-pub header_written_lem : (rules : Rules) (h : List ℕ) → checked_lines h ≡ WellFormed → WrittenFields (header_segments rules h)
+pub header_written_lem : (rules : Rules) (h : List ℕ) → checked_lines h ≡ Ok tt → WrittenFields (header_segments rules h)
 unfolding header_segments
 header_written_lem rules h w = fields_written rules (fields_of h) (fields_shaped h w)
 
@@ -202,7 +200,7 @@ rcpt_label : Label (bytes "Downgraded-Rcpt-To:")
 unfolding bytes name_byte
 rcpt_label = record { name = bytes "Downgraded-Rcpt-To"; is = refl; bytes = tt; some = omega arith; few = omega arith }
 
-pub outgoing_written : (rules : Rules) (e h : List ℕ) (n : ℕ) → checked rules e ≡ Passed n → checked_lines h ≡ WellFormed → WrittenFields (outgoing_segments rules e h)
+pub outgoing_written : (rules : Rules) (e h : List ℕ) (n : ℕ) → checked rules e ≡ Ok n → checked_lines h ≡ Ok tt → WrittenFields (outgoing_segments rules e h)
 unfolding outgoing_segments new_fields
 outgoing_written rules e h n p w =
     written_then

@@ -11,11 +11,9 @@ pub(crate) fn read_number(header: &[u8], k: usize, text: &mut [u8]) -> ReadAnswe
     ensures { observed result text.new ≡ outcome_after header.now 0 text.old k }
 {
     let mut place = 0;
-    let mut left = k;
-    while 0 < left {
+    for _ in 0..k {
         let r = read(header, place, text);
         place = r.next;
-        left -= 1;
     }
     read(header, place, text)
 }

@@ -3,18 +3,14 @@
 
 use std::io;
 
-fn say(rt: &impl Print, words: &[u8]) -> io::Result<()> {
-    rt.write_all(words)
-}
-
 // A field's line.
 fn show(rt: &impl Print, number: u32, text: &[u8]) -> io::Result<()> {
     print!(rt; "{number}")?;
     if number == 0 {
-        say(rt, b" ")?;
-        say(rt, text)?;
+        print!(rt; " ")?;
+        rt.write_all(text)?;
     }
-    say(rt, b"\r\n")
+    print!(rt; "\r\n")
 }
 
 fn show_fields(rt: &impl Print, header: &[u8], buffer: &mut [u8; 2642040]) -> io::Result<()> {

@@ -4,15 +4,6 @@
 
 use std::io;
 
-fn say(rt: &impl Print, words: &[u8]) -> io::Result<()> {
-    rt.write_all(words)
-}
-
-fn number(rt: &impl Print, words: &[u8], n: usize) -> io::Result<()> {
-    say(rt, words)?;
-    print!(rt; "{n}")
-}
-
 // A case in a buffer that is full of #.
 fn show_in(
     rt: &impl Print,
@@ -24,22 +15,21 @@ fn show_in(
     let answer = downgraded_reader::answer(header, place, buffer);
     let no = answer.number;
     let size = answer.length;
-    say(rt, label)?;
-    number(rt, b": ", no as usize)?;
-    number(rt, b" from ", answer.start)?;
-    number(rt, b" to ", answer.next)?;
-    number(rt, b", ", size)?;
+    rt.write_all(label)?;
+    print!(rt; ": {}", no as usize)?;
+    print!(rt; " from {}", answer.start)?;
+    print!(rt; " to {}, {size}", answer.next)?;
     let mut written = 0;
     if no == 0 {
         written = size;
-        say(rt, b" [")?;
-        say(rt, line::part(buffer, 0, size))?;
-        say(rt, b"]")?;
+        print!(rt; " [")?;
+        rt.write_all(line::part(buffer, 0, size))?;
+        print!(rt; "]")?;
     }
     if !case_line::is_untouched(line::part(buffer, written, buffer.len())) {
-        say(rt, b" touched")?;
+        print!(rt; " touched")?;
     }
-    say(rt, b"\r\n")
+    print!(rt; "\r\n")
 }
 
 fn show(rt: &impl Print, label: &[u8], room: usize, header: &[u8], place: usize) -> io::Result<()> {
@@ -60,17 +50,11 @@ fn show_line(rt: &impl Print, line: &[u8]) -> io::Result<()> {
     show(rt, case_line::column(line, 0), room, &header[..n], place)
 }
 
-fn show_lines(rt: &impl Print, cases: &[u8]) -> io::Result<()> {
-    let mut at = 0;
-    while at < cases.len() {
-        let end = case_line::find(cases, at, b'\n');
-        show_line(rt, line::part(cases, at, end))?;
-        at = buffer::place_after(end, 1);
-    }
-    Ok(())
-}
-
+// Kept: one loop for all programs would take a closure, and a public function may not require that it can be called.
 fn main(rt: HostRuntime) -> io::Result<()> {
     let input = program_input::read(rt.alloc(), rt.reader(), 65536)?;
-    show_lines(&rt, &input)
+    for line in input.split(|b| *b == b'\n') {
+        show_line(&rt, line)?;
+    }
+    Ok(())
 }

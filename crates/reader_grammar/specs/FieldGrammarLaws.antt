@@ -15,8 +15,10 @@ use Rattle.header.specs.FieldShape.{without_breaks}
 use Rattle.word_reader.specs.Word.{is_word}
 use Rattle.word_grammar.specs.WordGrammar.{WordShows}
 use Rattle.word_grammar.specs.WordGrammarLaws.{word_shows, shows_word}
-use Rattle.downgraded_field.specs.declared.FieldRead.{FieldRead}
-use Rattle.downgraded_field.specs.declared.FieldRead.TheVariants.{Text, Malformed}
+use Rattle.std.specs.Prelude.{Ok, Err}
+use Rattle.std.specs.declared.result.Result.{Result}
+use Rattle.downgraded_field.specs.declared.FieldFault.{FieldFault}
+use Rattle.downgraded_field.specs.declared.FieldFault.TheVariants.{Malformed}
 use Rattle.downgraded_field.specs.Shown.{is_formed, spacing, solid, Turn, turn_size, turn_at, turns_of, turn_text, shown, word_number, turn_number, lowest, field_turns, field_text, of_number, field_read}
 use Rattle.downgraded_field.specs.ShownLaws.{turn_of, turns_front, turns_nil, low}
 use Rattle.reader_grammar.specs.FieldGrammar.{RunBefore, TextShows, FieldShows}
@@ -279,8 +281,8 @@ field_shown field =
     (λ t. (1, [], FieldShows.malformed (λ l. T_not (is_formed field) t (lines_taken l))))
 
 -- a number and a text, as code tells them
-unfoldable pub read_of : ℕ → List ℕ → FieldRead
-read_of n text = cond (eqb n 0) (Text (length text)) (cond (eqb n 1) Malformed (of_number n 0))
+unfoldable pub read_of : ℕ → List ℕ → Result ℕ FieldFault
+read_of n text = cond (eqb n 0) (Ok (length text)) (cond (eqb n 1) (Err Malformed) (of_number n 0))
 
 of_number_lem : (n size : ℕ) → 2 ≤ n → n < 5 → of_number n size ≡ read_of n []
 unfolding of_number read_of
@@ -290,7 +292,7 @@ of_number_lem n size k l =
     (λ t. by_test (eqb n 3) (λ u. rw (no_false (eqb n 2) t, yes_true (eqb n 3) u) refl)
     (λ u. let four : n ≡ 4 = omega (arith, eqb_no {a = n} {b = 2} t, eqb_no {a = n} {b = 3} u) in rw four refl)))
 
-five_text : (size : ℕ) → of_number 5 size ≡ Text size
+five_text : (size : ℕ) → of_number 5 size ≡ Ok size
 unfolding of_number
 five_text size = refl
 

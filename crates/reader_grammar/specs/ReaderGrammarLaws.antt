@@ -7,10 +7,13 @@ use borrow.Author.Tests.{lt-ltb, le-ltb, le-leb, lt-leb}
 use Rattle.std.proofs.Math.Facts.{ltb_yes, ltb_no, leb_yes, leb_no, eqb_no}
 use Rattle.lists.specs.ListsLaws.{by_test}
 use Rattle.header.specs.Fields.{field_len}
-use Rattle.downgraded_field.specs.declared.FieldRead.{FieldRead}
+use Rattle.std.specs.Prelude.{Some, None, Ok, Err}
+use Rattle.std.specs.declared.option.Option.{Option}
+use Rattle.std.specs.declared.result.Result.{Result}
+use Rattle.downgraded_field.specs.declared.FieldFault.{FieldFault}
 use Rattle.downgraded_field.specs.Shown.{field_read, field_text, of_number}
 use Rattle.downgraded_reader.specs.declared.Found.{Found}
-use Rattle.downgraded_reader.specs.Reader.{field_start, field_at, of_field, reading, left_by, buffer_after, number_of, start_of, next_of, length_of, Outcome, outcome}
+use Rattle.downgraded_reader.specs.Reader.{field_start, field_at, fitting, of_field, reading, text_left, left_by, buffer_after, text_number, number_of, start_of, next_of, text_size, length_of, Outcome, outcome}
 use Rattle.reader_grammar.specs.FieldGrammar.{FieldShows}
 use Rattle.reader_grammar.specs.FieldGrammarLaws.{read_of, text_range, field_shown, field_read_lem}
 use Rattle.reader_grammar.specs.ReaderGrammar.{FirstField, Reads}
@@ -23,13 +26,13 @@ shows_few (FieldShows.refused l s k) = k
 shows_few (FieldShows.text l s) = omega arith
 
 -- an outcome by what is found
-abbrev by : ℕ → Found → List ℕ → List ℕ → Outcome
+abbrev by : ℕ → Option Found → List ℕ → List ℕ → Outcome
 by end r text buffer = record { number = number_of r; start = start_of end r; next = next_of end r; size = length_of r; buffer = left_by r text buffer }
 
 -- a refused field
 refused_by : (end room start next n : ℕ) (text buffer : List ℕ) → 0 < n → n < 5
-    → by end (of_field room start next (read_of n [])) text buffer ≡ record { number = n; start = start; next = next; size = 0; buffer = buffer }
-unfolding read_of of_number of_field number_of start_of next_of length_of left_by
+    → by end (Some (of_field room start next (read_of n []))) text buffer ≡ record { number = n; start = start; next = next; size = 0; buffer = buffer }
+unfolding read_of of_number of_field fitting number_of text_number start_of next_of length_of text_size left_by text_left
 refused_by end room start next n text buffer k l =
     by_test (eqb n 1) (λ t. let e : n ≡ 1 = eqb→eq n 1 t in rw e refl)
     (λ t. by_test (eqb n 2) (λ u. let e : n ≡ 2 = eqb→eq n 2 u in rw e refl)
@@ -39,7 +42,7 @@ refused_by end room start next n text buffer k l =
 module _ (h : List ℕ) (place : ℕ) (buffer : List ℕ) where
   -- where a field is found
   found_by : {start : ℕ} → FirstField h place start
-      → outcome h place buffer ≡ by (length h) (of_field (length buffer) start (start + field_len (drop start h)) (field_read (field_at h start))) (field_text (field_at h start)) buffer
+      → outcome h place buffer ≡ by (length h) (Some (of_field (length buffer) start (start + field_len (drop start h)) (field_read (field_at h start)))) (field_text (field_at h start)) buffer
   unfolding outcome buffer_after reading
   found_by {start} f =
       let e : field_start h place ≡ start = first_once h place f in
@@ -47,7 +50,7 @@ module _ (h : List ℕ) (place : ℕ) (buffer : List ℕ) where
 
   -- the rules give one outcome, that of the call
   pub reads_only : {o : Outcome} → Reads h place buffer o → o ≡ outcome h place buffer
-  unfolding outcome buffer_after reading read_of of_field number_of start_of next_of length_of left_by
+  unfolding outcome buffer_after reading read_of of_field fitting number_of text_number start_of next_of length_of text_size left_by text_left
   reads_only (Reads.none no_field) =
       let past : length h ≤ field_start h place =
       by_test (ltb (field_start h place) (length h))
@@ -62,7 +65,7 @@ module _ (h : List ℕ) (place : ℕ) (buffer : List ℕ) where
       sym (found_by f ∙ rw (r.0, lt-leb (length text) (length buffer) k) refl)
   reads_only (Reads.refused {start} {number} f s k) =
       let r = field_read_lem s in
-      sym (found_by f ∙ ap (λ (x : FieldRead). by (length h) (of_field (length buffer) start (start + field_len (drop start h)) x) (field_text (field_at h start)) buffer) r.0
+      sym (found_by f ∙ ap (λ (x : Result ℕ FieldFault). by (length h) (Some (of_field (length buffer) start (start + field_len (drop start h)) x)) (field_text (field_at h start)) buffer) r.0
       ∙ refused_by (length h) (length buffer) start (start + field_len (drop start h)) number (field_text (field_at h start)) buffer k (shows_few s))
 
   some_shown : {start n : ℕ} {text : List ℕ} → FirstField h place start → FieldShows (field_at h start) n text → (o : Outcome) × Reads h place buffer o

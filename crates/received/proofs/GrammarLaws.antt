@@ -23,49 +23,7 @@ use Rattle.received_token.specs.Tokens.{starts_for, kind_in, received_kind, rece
 use Rattle.received.specs.Received.{Place, clause_segments, clear, becomes, received_front, value_clear, value_segments}
 use Rattle.received.specs.Received.Place.{place}
 use Rattle.received.specs.Grammar.{ReceivedRule, ReceivedValue}
-
--- ---- tokens of other structured fields
-
-clear_same : (what : Kind) (t : List ℕ) → clear (kind_in what) t ≡ field.clear what t
-unfolding clear field.clear
-clear_same token.Comment t = refl
-clear_same token.Quoted t = refl
-clear_same token.White t = refl
-clear_same token.Open t = refl
-clear_same token.Semicolon t = refl
-clear_same token.Plain t = refl
-clear_same token.End t = refl
-
-becomes_same : (what : Kind) (t : List ℕ) → becomes (kind_in what) t ≡ field.becomes what t
-unfolding becomes field.becomes
-becomes_same token.Comment t = refl
-becomes_same token.Quoted t = refl
-becomes_same token.White t = refl
-becomes_same token.Open t = refl
-becomes_same token.Semicolon t = refl
-becomes_same token.Plain t = refl
-becomes_same token.End t = refl
-
-goes_same : (comments : Bool) (what : Kind) → goes_on comments (kind_in what) ≡ tokens.goes_on comments what
-goes_same comments token.Comment = refl
-goes_same comments token.Quoted = refl
-goes_same comments token.White = refl
-goes_same comments token.Open = refl
-goes_same comments token.Semicolon = refl
-goes_same comments token.Plain = refl
-goes_same comments token.End = refl
-
--- a token of other structured fields, after which the value has begun
-abbrev pub begun : Front Bool Segment → Front Place Segment
-begun f = record { size = f.size; clear = f.clear; becomes = f.becomes; next = place f.next false }
-
--- where no for starts
-pub token_front_lem : (comments start : Bool) (s : List ℕ) → starts_for start s ≡ false → received_front (place comments start) s ≡ begun (field.structured_front comments s)
-unfolding received_kind received_size
-token_front_lem comments start s n =
-    let what = kind_of comments s in
-    let t = take (size_of what s) s in
-    rw (n, clear_same what t, becomes_same what t, goes_same comments what)
+use Rattle.received.specs.FrontLaws.{begun, token_front_lem}
 
 -- where one does
 module _ (comments start : Bool) (s : List ℕ) (h : starts_for start s ≡ true) where

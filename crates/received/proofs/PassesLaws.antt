@@ -24,13 +24,13 @@ use Rattle.structured_field.proofs.GrammarLaws.{from_rule}
 use Rattle.structured_field.specs.StructuredField as field
 use Rattle.received_token.specs.Tokens.{goes_on, Took}
 use Rattle.received_token.specs.declared.ReceivedKind.{ReceivedKind}
-use Rattle.received.proofs.CommentLinesLaws.{part_ascii, part_encoded, comment_bytes}
+use Rattle.received.specs.CommentLinesLaws.{part_ascii, part_encoded, comment_bytes}
 use Rattle.received.specs.Grammar.{ReceivedRule}
 use Rattle.received.proofs.GrammarLaws.{value_made}
-use Rattle.received.proofs.LinesLaws.{column_append, line_starts}
+use Rattle.received.specs.LinesLaws.{column_append, line_starts}
 use Rattle.received.specs.Received.{Place, becomes, received_front, value_clear, value_segments, received_field, column_next, column_after, lines_fit, passes}
 use Rattle.received.specs.Received.Place.{place}
-use Rattle.received.proofs.TokenLaws.{bytes_step, bytes_none}
+use Rattle.received.specs.TokenLaws.{bytes_step, bytes_none}
 
 -- ---- what is left of a value, from a column on
 

@@ -13,14 +13,7 @@ use Rattle.structured_field.specs.StructuredField.{part_segments}
 use Rattle.received_token.specs.declared.ReceivedKind.{ReceivedKind}
 use Rattle.received_token.specs.declared.ReceivedKind.TheVariants.{Comment}
 use Rattle.received.specs.Received.{becomes, value_segments, received_field}
-use Rattle.received.proofs.TokenLaws.{bytes_comment}
-
--- a part is no longer than the whole
-pub part_served : (s : List ℕ) (i e room : ℕ) → (length s ≤ 32768) × (2 * length s ≤ room)
-    → (length (take (e - i) (drop i s)) ≤ 32768) × (2 * length (take (e - i) (drop i s)) ≤ room)
-part_served s i e room h =
-    let size : length (take (e - i) (drop i s)) ≤ length s = omega (arith, length-take (e - i) (drop i s), length-drop i s) in
-    (omega (arith, h.0), omega (arith, h.1))
+use Rattle.received.specs.TokenLaws.{bytes_comment}
 
 -- a comment that the scratch serves
 pub token_comment : (what : ReceivedKind) (token : List ℕ) (room : ℕ) {before after : List ℕ} {at r : ℕ} → (length token ≤ 32768) × (2 * length token ≤ room) → what ≡ Comment
@@ -30,9 +23,3 @@ token_comment what token room h e a = capped_same (bytes_comment what token e) (
 -- a clause that is removed
 pub token_removed : {bytes : List ℕ} (before : List ℕ) (at : ℕ) → [] ≡ bytes → at ≤ greatest → AppendedCapped bytes at before before at
 token_removed before at e h = capped_same e (capped_none at before h)
-
-pub field_added : (name value : List ℕ) {before labelled marked valued after : List ℕ} {at n c v r : ℕ} → length before ≤ greatest
-    → AppendedCapped name at before labelled n → AppendedCapped (58 ∷ []) n labelled marked c → AppendedCapped (rendered (value_segments value)) c marked valued v
-    → AppendedCapped (13 ∷ 10 ∷ []) v valued after r → AppendedCapped (rendered (received_field name value)) at before after r
-unfolding received_field
-field_added name value k a b d f = named_added name (value_segments value) k a b d f

@@ -7,6 +7,7 @@ ghost use Rattle.structured_field.specs.StructuredField.{part_segments};
 ghost use Rattle.received.specs.Received.{becomes, value_segments, received_field, column_next, column_after, lines_fit};
 
 use received_token::ReceivedKind;
+use structured_token::Token;
 
 fn column_next(column: usize, b: u8) -> usize
     ensures { result ≡ column_next column b }
@@ -24,10 +25,8 @@ fn column_after(column: usize, s: &[u8]) -> usize
     ensures { result ≡ column_after column s.now }
 {
     let mut at = column;
-    let mut i = 0;
-    while i < s.len() {
-        at = column_next(at, s[i]);
-        i += 1;
+    for b in s {
+        at = column_next(at, *b);
     }
     at
 }
@@ -68,9 +67,9 @@ fn token_column(column: usize, kind: ReceivedKind, token: &[u8]) -> usize
                 column
             }
         }
-        ReceivedKind::BareFor => column_after(column, token),
-        ReceivedKind::Open => column_after(column, token),
-        ReceivedKind::Other => column_after(column, token),
+        ReceivedKind::BareFor | ReceivedKind::Open | ReceivedKind::Other => {
+            column_after(column, token)
+        }
     }
 }
 
@@ -82,9 +81,7 @@ fn value_column(column: usize, value: &[u8]) -> usize
     let mut comments = true;
     let mut i: usize = 0;
     while i < value.len() {
-        let token = received_token::token_at(value, i, comments);
-        let kind = token.kind;
-        let end = token.end;
+        let Token { kind, end } = received_token::token_at(value, i, comments);
         at = token_column(at, kind, &value[i..end]);
         comments = received_token::goes_on(comments, kind);
         i = end;

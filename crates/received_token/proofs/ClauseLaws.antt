@@ -1,6 +1,6 @@
 -- Laws of FOR clauses: as code finds them, and that they lie in the text.
 use borrow.Author.Tests.{ne_eqb, eq-eqb}
-use Rattle.std.specs.Prelude.{◌≡◌, Bool, true, false, ◌&&◌, ◌||◌, cond, List, [], ◌∷◌, ℕ, ◌+◌, ◌-◌, ◌≤◌, ◌<◌, eqb, ltb, take, drop, get_or}
+use Rattle.std.specs.Prelude.{◌≡◌, Bool, true, false, ◌&&◌, ◌||◌, cond, List, [], ◌∷◌, ℕ, ◌+◌, ◌-◌, ◌≤◌, ◌<◌, eqb, ltb, take, drop, get_or, Result, Ok, Err}
 use Rattle.std.proofs.Common.{sym, ap, ◌∙◌, not-suc-le-zero, eqb→eq, length-drop, take_all, get_or-drop}
 use Rattle.std.proofs.Math.Bool.{and-false}
 use native.Mathlib.Omega.{arith}
@@ -12,8 +12,6 @@ use Rattle.lists.specs.ListsLaws.{by_test, cond_has, yes_true, true_yes, no_fals
 use Rattle.letter_case.specs.LetterCase.{bytes, same_any_case}
 use Rattle.address.specs.Address.{later, address_scan}
 use Rattle.address.specs.AddressLaws.{byte_within}
-use Rattle.address.specs.declared.Scan.{Scan}
-use Rattle.address.specs.declared.Scan.TheVariants.{To, Stop}
 use Rattle.received_token.specs.Clause.{white_len, is_for, closed_len, angled_len, clause_len}
 use Rattle.structured_token.specs.Tokens.{is_white}
 
@@ -35,22 +33,22 @@ module _ (s : List ℕ) where
   angled_other h = rw (ne_eqb (get_or s 0 0) 60 h)
 
   module _ (o : get_or s 0 0 ≡ 60) where
-    pub angled_closed : {n : ℕ} → later 1 (address_scan (drop 1 s)) ≡ To n → get_or s n 0 ≡ 62 → n + 1 ≡ angled_len s
+    pub angled_closed : {n : ℕ} → later 1 (address_scan (drop 1 s)) ≡ Ok n → get_or s n 0 ≡ 62 → n + 1 ≡ angled_len s
     unfolding angled_len closed_len
     angled_closed {n} e k = rw (eq-eqb (get_or s 0 0) 60 o, e, eq-eqb (get_or s n 0) 62 k)
 
-    pub angled_open : {n : ℕ} → later 1 (address_scan (drop 1 s)) ≡ To n → (get_or s n 0 ≡ 62 → ⊥) → 0 ≡ angled_len s
+    pub angled_open : {n : ℕ} → later 1 (address_scan (drop 1 s)) ≡ Ok n → (get_or s n 0 ≡ 62 → ⊥) → 0 ≡ angled_len s
     unfolding angled_len closed_len
     angled_open {n} e k = rw (eq-eqb (get_or s 0 0) 60 o, e, ne_eqb (get_or s n 0) 62 k)
 
-    pub angled_none : {n : ℕ} → later 1 (address_scan (drop 1 s)) ≡ Stop n → 0 ≡ angled_len s
+    pub angled_none : {n : ℕ} → later 1 (address_scan (drop 1 s)) ≡ Err n → 0 ≡ angled_len s
     unfolding angled_len closed_len
     angled_none {n} e = rw (eq-eqb (get_or s 0 0) 60 o, e)
 
-  closed_le : (r : Scan) → closed_len r s ≤ length s
+  closed_le : (r : Result ℕ ℕ) → closed_len r s ≤ length s
   unfolding closed_len
-  closed_le (To n) = cond_has (λ k. k ≤ length s) (eqb (get_or s n 0) 62) (n + 1) 0 (λ t. omega (arith, byte_within s n 61 (eqb→eq (get_or s n 0) 62 t))) (λ t. omega arith)
-  closed_le (Stop n) = omega arith
+  closed_le (Ok n) = cond_has (λ k. k ≤ length s) (eqb (get_or s n 0) 62) (n + 1) 0 (λ t. omega (arith, byte_within s n 61 (eqb→eq (get_or s n 0) 62 t))) (λ t. omega arith)
+  closed_le (Err n) = omega arith
 
   pub angled_le : angled_len s ≤ length s
   unfolding angled_len
@@ -156,13 +154,13 @@ clause_le s =
 
 -- ---- a clause ends with `>` (62)
 
-closed_last : (s : List ℕ) (r : Scan) → 0 < closed_len r s → get_or s (closed_len r s - 1) 0 ≡ 62
+closed_last : (s : List ℕ) (r : Result ℕ ℕ) → 0 < closed_len r s → get_or s (closed_len r s - 1) 0 ≡ 62
 unfolding closed_len
-closed_last s (To n) h =
+closed_last s (Ok n) h =
     cond_has (λ k. 0 < k → get_or s (k - 1) 0 ≡ 62) (eqb (get_or s n 0) 62) (n + 1) 0
     (λ t k. let e : n + 1 - 1 ≡ n = omega arith in rw e (eqb→eq (get_or s n 0) 62 t))
     (λ t k. absurd (not-suc-le-zero k)) h
-closed_last s (Stop n) h = absurd (not-suc-le-zero h)
+closed_last s (Err n) h = absurd (not-suc-le-zero h)
 
 angled_last : (s : List ℕ) → 0 < angled_len s → get_or s (angled_len s - 1) 0 ≡ 62
 unfolding angled_len

@@ -1,7 +1,7 @@
 -- `clause_len` takes exactly what the grammar of FOR clauses makes.
 use Rattle.std.proofs.Common.{ne_eqb, sym, ◌∙◌, not-suc-le-zero, length-append, take-add, take_at, drop-cons, drop_at, get_or-append-add}
 use Rattle.std.proofs.lemmas.Bool.{lt-leb}
-use Rattle.std.specs.Prelude.{◌≡◌, refl, true, false, cond, ◌&&◌, ◌||◌, T, eqb, drop}
+use Rattle.std.specs.Prelude.{◌≡◌, refl, true, false, cond, ◌&&◌, ◌||◌, T, eqb, drop, Result, Ok, Err}
 use Rattle.std.proofs.Math.Path.{ap}
 use mathlib.Core.List.{List, [], ◌∷◌, ◌++◌, append_assoc}
 use Prim.Native.Nat.{ℕ, suc, ◌+◌, ◌<◌}
@@ -18,8 +18,6 @@ use Rattle.letter_case.specs.LetterCase.{bytes, lower, same_any_case}
 use Rattle.address.specs.Address.{later, address_scan, is_atom_byte, is_atext}
 use Rattle.address.specs.AddressLaws.{byte_within}
 use Rattle.address.specs.GrammarLaws.{Closed, address_sound, address_complete}
-use Rattle.address.specs.declared.Scan.{Scan}
-use Rattle.address.specs.declared.Scan.TheVariants.{To, Stop}
 use Rattle.received_token.specs.Clause.{white_len, is_for, closed_len, angled_len, clause_len}
 use Rattle.structured_token.specs.Tokens.{is_white}
 use Rattle.received_token.proofs.ClauseLaws.{angled_closed}
@@ -36,7 +34,7 @@ unfolding later
 angled_taken (Angled.angled {address} g) rest =
     let text : (address ++ (62 ∷ [])) ++ rest ≡ address ++ (62 ∷ rest) = append_assoc address (62 ∷ []) rest in
     let whole : List ℕ = 60 ∷ (address ++ (62 ∷ rest)) in
-    let scan : later 1 (address_scan (address ++ (62 ∷ rest))) ≡ To (1 + length address) = rw (address_complete g (62 ∷ rest) (angle_closed rest)) in
+    let scan : later 1 (address_scan (address ++ (62 ∷ rest))) ≡ Ok (1 + length address) = rw (address_complete g (62 ∷ rest) (angle_closed rest)) in
     let next : 1 + length address ≡ suc (length address) = omega arith in
     let last : get_or whole (1 + length address) 0 ≡ 62 = rw next (get_or-append_seam (60 ∷ address) 62 rest 0) in
     let size : length (60 ∷ (address ++ (62 ∷ []))) ≡ 1 + length address + 1 = omega (arith, length-append address (62 ∷ [])) in
@@ -46,10 +44,10 @@ module _ (s : List ℕ) (o : get_or s 0 0 ≡ 60) where
   opened : s ≡ 60 ∷ drop 1 s
   opened = drop-cons s 0 0 (byte_within s 0 59 o) ∙ ap (λ b. b ∷ drop 1 s) o
 
-  closed_angled : (r : Scan) → address_scan (drop 1 s) ≡ r → 0 < closed_len (later 1 r) s → Angled (take (closed_len (later 1 r) s) s)
+  closed_angled : (r : Result ℕ ℕ) → address_scan (drop 1 s) ≡ r → 0 < closed_len (later 1 r) s → Angled (take (closed_len (later 1 r) s) s)
   unfolding later closed_len
-  closed_angled (Stop n) e h = absurd (not-suc-le-zero h)
-  closed_angled (To n) e h =
+  closed_angled (Err n) e h = absurd (not-suc-le-zero h)
+  closed_angled (Ok n) e h =
       cond_has (λ k. 0 < k → Angled (take k s)) (eqb (get_or s (1 + n) 0) 62) (1 + n + 1) 0
       (λ t k.
       let last : get_or s (1 + n) 0 ≡ 62 = eqb→eq (get_or s (1 + n) 0) 62 t in

@@ -16,7 +16,7 @@ use Rattle.structured_token.specs.Tokens as tokens
 use Rattle.received_token.specs.Clause.{white_len, is_for, clause_len}
 use Rattle.received_token.proofs.ClauseLaws.{rest, for_long, clause_le}
 use Rattle.received_token.specs.declared.ReceivedKind.{ReceivedKind}
-use Rattle.received_token.specs.declared.ReceivedKind.TheVariants.{Comment, Clause, BareFor, Open}
+use Rattle.received_token.specs.declared.ReceivedKind.TheVariants.{Clause, BareFor}
 use Rattle.received_token.specs.Tokens.{starts_for, kind_in, received_kind, received_size, Took}
 
 -- ---- a for, by its first byte

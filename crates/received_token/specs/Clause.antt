@@ -1,11 +1,9 @@
 -- FOR clauses of a Received field. GrammarLaws.antt proves that `clause_len` takes exactly what the rules of Grammar.antt make.
-use Rattle.std.specs.Prelude.{Bool, cond, ◌&&◌, ◌||◌, List, ℕ, ◌+◌, eqb, take, drop, get_or}
+use Rattle.std.specs.Prelude.{Bool, cond, ◌&&◌, ◌||◌, List, ℕ, ◌+◌, eqb, take, drop, get_or, Result, Ok, Err}
 use Rattle.lists.specs.Run.{run}
 use Rattle.letter_case.specs.LetterCase.{bytes, same_any_case}
 use Rattle.structured_token.specs.Tokens.{is_white}
 use Rattle.address.specs.Address.{later, address_scan}
-use Rattle.address.specs.declared.Scan.{Scan}
-use Rattle.address.specs.declared.Scan.TheVariants.{To, Stop}
 
 -- "spaces, TABs and folds"
 unfoldable pub white_len : List ℕ → ℕ
@@ -16,9 +14,9 @@ unfoldable pub is_for : List ℕ → Bool
 is_for s = same_any_case (take 3 s) (bytes "for") && (is_white (get_or s 3 0) || eqb (get_or s 3 0) 60)
 
 -- the `>` (62) after an address that ends so far from the front: where it ends, 0 where there is none
-unfoldable pub closed_len : Scan → List ℕ → ℕ
-closed_len (To n) s = cond (eqb (get_or s n 0) 62) (n + 1) 0
-closed_len (Stop n) s = 0
+unfoldable pub closed_len : Result ℕ ℕ → List ℕ → ℕ
+closed_len (Ok n) s = cond (eqb (get_or s n 0) 62) (n + 1) 0
+closed_len (Err n) s = 0
 
 -- "an address of document 01 in angle brackets" at the front: how many bytes it has, 0 where there is none
 unfoldable pub angled_len : List ℕ → ℕ

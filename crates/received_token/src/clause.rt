@@ -1,30 +1,9 @@
 // FOR clauses.
 ghost use Rattle.std.specs.Prelude.{◌≡◌, drop};
-ghost use Rattle.received_token.specs.Clause.{white_len, is_for, angled_len, clause_len};
-ghost use Rattle.structured_token.specs.Tokens.{is_white};
+ghost use Rattle.lists.specs.Lists.{nonzero};
+ghost use Rattle.received_token.specs.Clause.{is_for, angled_len, clause_len};
 
-use address::Scan;
-
-// Whether a byte is a space, a TAB or of a fold.
-fn is_white(b: u8) -> bool
-    ensures { result ≡ is_white b }
-{
-    (b == 32) | (b == 9) | (b == 13) | (b == 10)
-}
-
-// How much white space stands at the front.
-fn white_len(s: &[u8]) -> usize
-    ensures { result ≡ white_len s.now }
-{
-    let mut i = 0;
-    while i < s.len() {
-        if !is_white(s[i]) {
-            return i;
-        }
-        i += 1;
-    }
-    i
-}
+use structured_token::{White, is_white};
 
 // Whether the word for stands at a place.
 pub(crate) fn is_for(s: &[u8], at: usize) -> bool
@@ -44,42 +23,39 @@ fn is_for_there(s: &[u8]) -> bool
     letter_case::same_any_case(line::part(s, 0, 3), b"for") & (is_white(after) | (after == b'<'))
 }
 
-// How long the address in angle brackets is at the front; 0 where there is none.
-fn angled_len(s: &[u8]) -> usize
-    ensures { result ≡ angled_len s.now }
+// How long the address in angle brackets is at the front.
+fn angled_len(s: &[u8]) -> Option<usize>
+    ensures { result ≡ nonzero (angled_len s.now) }
 {
     if line::byte_at(s, 0) != b'<' {
-        return 0;
+        return None;
     }
     match address::address(s, 1) {
-        Scan::To(n) => {
+        Ok(n) => {
             if line::byte_at(s, n) == b'>' {
-                n + 1
+                Some(n + 1)
             } else {
-                0
+                None
             }
         }
-        Scan::Stop(_) => 0,
+        Err(_) => None,
     }
 }
 
-// How long the clause is at the front; 0 where there is none. The word and the byte after it are 4 bytes.
-pub(crate) fn clause_len(s: &[u8]) -> usize
-    ensures { result ≡ clause_len s.now }
+// How long the clause is at the front. The word and the byte after it are 4 bytes.
+pub(crate) fn clause_len(s: &[u8]) -> Option<usize>
+    ensures { result ≡ nonzero (clause_len s.now) }
 {
     if s.len() < 4 {
-        return 0;
+        return None;
     }
-    let white = white_len(s);
+    let white = byte_class::run_end::<White>(s, 0);
     let word = &s[white..];
     if !is_for_there(word) {
-        return 0;
+        return None;
     }
     let more = &word[3..];
-    let blanks = white_len(more);
-    let n = angled_len(&more[blanks..]);
-    if n == 0 {
-        return 0;
-    }
-    white + 3 + blanks + n
+    let blanks = byte_class::run_end::<White>(more, 0);
+    let n = angled_len(&more[blanks..])?;
+    Some(white + 3 + blanks + n)
 }

@@ -3,7 +3,7 @@
 #![tactic(auto)]
 
 // The encoding of a word. RFC 2047, section 4: "Legal values for "encoding" are "Q" and "B"."
-#[derive(Clone, Copy)]
+#[derive(Clone, Copy, Debug, PartialEq, Eq)]
 pub enum Encoding {
     Q,
     B,

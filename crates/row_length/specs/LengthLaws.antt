@@ -1,20 +1,17 @@
 -- A row measured word by word.
-use Rattle.std.specs.Prelude.{◌≡◌, refl, true, ◌&&◌, List, [], ◌∷◌, ◌++◌, ℕ, ◌+◌, ◌-◌, ◌*◌, ◌≤◌, ◌<◌, min, length, take, drop, get_or, leb, ltb}
-use Rattle.std.proofs.Common.{sym, ap, ◌∙◌, arith, length-append, length-take, length-drop, leb-true, ltb-true}
+use Rattle.std.specs.Prelude.{◌≡◌, true, ◌&&◌, List, ◌∷◌, ℕ, ◌+◌, ◌-◌, ◌*◌, ◌≤◌, ◌<◌, min, length, take, drop, get_or, leb, ltb}
+use Rattle.std.proofs.Common.{sym, ap, ◌∙◌, arith, length-append, leb-true, ltb-true}
 use Rattle.utf8.specs.Utf8.{char_len}
 use Rattle.utf8.specs.Utf8Laws.{char_len_some}
-use Rattle.word_spelling.specs.Spelling.{spell}
 use Rattle.word_spelling.specs.Cost.{byte_cost, cost}
-use Rattle.word_spelling.specs.SpellingLaws.{length_spell, cost_one}
+use Rattle.word_spelling.specs.SpellingLaws.{cost_one}
 use Rattle.word_spelling.specs.HighChar.{HighChar}
-use Rattle.word_spelling.specs.HighCharLaws.{both, one_byte, ascii_len, char_cost_lem, char_size, whole_end, whole_take, whole_cost}
-use Rattle.word_spelling.specs.FirstChars.{first_chars, cost_in, costs_in}
+use Rattle.word_spelling.specs.HighCharLaws.{both, one_byte, ascii_len, char_cost_lem, whole_end, whole_take, whole_cost}
+use Rattle.word_spelling.specs.FirstChars.{first_chars, cost_in}
 use Rattle.word_spelling.specs.FirstCharsLaws.{cost_in_lem}
-use Rattle.row.specs.declared.Encoding.{Encoding}
-use Rattle.row.specs.Word.{spell_in, word}
+use Rattle.row.specs.Word.{word}
 use Rattle.row.specs.Row.{row, row_after}
 use Rattle.row.proofs.FitsLaws.{length_word_in}
-use Rattle.row.specs.WordEnd.{Span, WordEnd}
 use Rattle.row.specs.WordEndLaws.{between}
 use Rattle.row.proofs.WordEndLaws.{span_char, span_join, row_end, first_step, first_none}
 use Rattle.row.proofs.RowLaws.{row_after_none}
@@ -56,12 +53,12 @@ stepped_join {s} {i} {left} {e} {e'} p q h k = record {
 pub roomy_four : (left n : ℕ) → leb 12 left && leb 4 n ≡ true → (12 ≤ left) × (4 ≤ n)
 roomy_four left n e = let p = both (leb 12 left) (leb 4 n) e in (leb-true 12 left p.0, leb-true 4 n p.1)
 
--- four that are ASCII, in what holds any four, by the table of first characters
-pub stepped_four : (s first : List ℕ) (i left x y z w : ℕ) → first ≡ first_chars → leb 12 left && leb 4 (length s - i) ≡ true → get_or s i 0 < 128
+-- four that are ASCII, in what holds any four
+pub stepped_bytes : (s : List ℕ) (i left x y z w : ℕ) → leb 12 left && leb 4 (length s - i) ≡ true → get_or s i 0 < 128
     → ltb (get_or s (i + 1) 0) 128 && ltb (get_or s (i + 1 + 1) 0) 128 && ltb (get_or s (i + 1 + 1 + 1) 0) 128 ≡ true
-    → (x ≡ cost_in first (get_or s i 0)) × (x ≤ 3) → (y ≡ cost_in first (get_or s (i + 1) 0)) × (y ≤ 3) → (z ≡ cost_in first (get_or s (i + 1 + 1) 0)) × (z ≤ 3)
-    → (w ≡ cost_in first (get_or s (i + 1 + 1 + 1) 0)) × (w ≤ 3) → Stepped s i left (i + 1 + 1 + 1 + 1) (x + y + z + w)
-stepped_four s first i left x y z w e t a bcd hx hy hz hw =
+    → (x ≡ byte_cost (get_or s i 0)) × (x ≤ 3) → (y ≡ byte_cost (get_or s (i + 1) 0)) × (y ≤ 3) → (z ≡ byte_cost (get_or s (i + 1 + 1) 0)) × (z ≤ 3)
+    → (w ≡ byte_cost (get_or s (i + 1 + 1 + 1) 0)) × (w ≤ 3) → Stepped s i left (i + 1 + 1 + 1 + 1) (x + y + z + w)
+stepped_bytes s i left x y z w t a bcd hx hy hz hw =
     let roomy = (roomy_four left (length s - i) t).0 in
     let h = (roomy_four left (length s - i) t).1 in
     let p = both (ltb (get_or s (i + 1) 0) 128 && ltb (get_or s (i + 1 + 1) 0) 128) (ltb (get_or s (i + 1 + 1 + 1) 0) 128) bcd in
@@ -69,13 +66,30 @@ stepped_four s first i left x y z w e t a bcd hx hy hz hw =
     let b = ltb-true (get_or s (i + 1) 0) 128 q.0 in
     let c = ltb-true (get_or s (i + 1 + 1) 0) 128 q.1 in
     let d = ltb-true (get_or s (i + 1 + 1 + 1) 0) 128 p.1 in
-    let s1 = stepped_ascii s i left x (omega arith) a (cost_in_lem (get_or s i 0) e (omega arith) hx.0) in
-    let s2 = stepped_ascii s (i + 1) left y (omega arith) b (cost_in_lem (get_or s (i + 1) 0) e (omega arith) hy.0) in
-    let s3 = stepped_ascii s (i + 1 + 1) left z (omega arith) c (cost_in_lem (get_or s (i + 1 + 1) 0) e (omega arith) hz.0) in
-    let s4 = stepped_ascii s (i + 1 + 1 + 1) left w (omega arith) d (cost_in_lem (get_or s (i + 1 + 1 + 1) 0) e (omega arith) hw.0) in
+    let s1 = stepped_ascii s i left x (omega arith) a hx.0 in
+    let s2 = stepped_ascii s (i + 1) left y (omega arith) b hy.0 in
+    let s3 = stepped_ascii s (i + 1 + 1) left z (omega arith) c hz.0 in
+    let s4 = stepped_ascii s (i + 1 + 1 + 1) left w (omega arith) d hw.0 in
     let s12 = stepped_join s1 s2 (omega (arith, hx.1, hy.1)) (omega (arith, hx.1, hy.1)) in
     let s123 = stepped_join s12 s3 (omega (arith, hx.1, hy.1, hz.1)) (omega (arith, hx.1, hy.1, hz.1)) in
     stepped_join s123 s4 (omega (arith, hx.1, hy.1, hz.1, hw.1)) (omega (arith, hx.1, hy.1, hz.1, hw.1))
+
+-- the same, by the table of first characters
+pub stepped_four : (s first : List ℕ) (i left x y z w : ℕ) → first ≡ first_chars → leb 12 left && leb 4 (length s - i) ≡ true → get_or s i 0 < 128
+    → ltb (get_or s (i + 1) 0) 128 && ltb (get_or s (i + 1 + 1) 0) 128 && ltb (get_or s (i + 1 + 1 + 1) 0) 128 ≡ true
+    → (x ≡ cost_in first (get_or s i 0)) × (x ≤ 3) → (y ≡ cost_in first (get_or s (i + 1) 0)) × (y ≤ 3) → (z ≡ cost_in first (get_or s (i + 1 + 1) 0)) × (z ≤ 3)
+    → (w ≡ cost_in first (get_or s (i + 1 + 1 + 1) 0)) × (w ≤ 3) → Stepped s i left (i + 1 + 1 + 1 + 1) (x + y + z + w)
+stepped_four s first i left x y z w e t a bcd hx hy hz hw =
+    let p = both (ltb (get_or s (i + 1) 0) 128 && ltb (get_or s (i + 1 + 1) 0) 128) (ltb (get_or s (i + 1 + 1 + 1) 0) 128) bcd in
+    let q = both (ltb (get_or s (i + 1) 0) 128) (ltb (get_or s (i + 1 + 1) 0) 128) p.0 in
+    let b = ltb-true (get_or s (i + 1) 0) 128 q.0 in
+    let c = ltb-true (get_or s (i + 1 + 1) 0) 128 q.1 in
+    let d = ltb-true (get_or s (i + 1 + 1 + 1) 0) 128 p.1 in
+    stepped_bytes s i left x y z w t a bcd
+    (cost_in_lem (get_or s i 0) e (omega arith) hx.0, hx.1)
+    (cost_in_lem (get_or s (i + 1) 0) e (omega arith) hy.0, hy.1)
+    (cost_in_lem (get_or s (i + 1 + 1) 0) e (omega arith) hz.0, hz.1)
+    (cost_in_lem (get_or s (i + 1 + 1 + 1) 0) e (omega arith) hw.0, hw.1)
 
 -- ---- the row
 

@@ -4,7 +4,7 @@
 ghost use Rattle.std.specs.Prelude.{◌≡◌};
 ghost use Rattle.rules.specs.Rules.{setting_rules, allows_alternative};
 
-#[derive(Clone, Copy)]
+#[derive(Clone, Copy, Debug, PartialEq, Eq)]
 pub enum Rules {
     Spool,
     Current,
@@ -15,19 +15,23 @@ pub enum Rules {
 pub fn of_setting(setting: u64) -> Rules
     ensures { result ≡ setting_rules setting }
 {
-    if setting == 0 {
-        return Rules::Spool;
+    Rules::from(setting)
+}
+
+impl From<u64> for Rules {
+    ghost from_gives = { λ x y. y ≡ setting_rules x };
+
+    fn from(setting: u64) -> Rules {
+        if setting == 0 {
+            return Rules::Spool;
+        }
+        Rules::Current
     }
-    Rules::Current
 }
 
 // Whether an address may have an alternative, in the envelope and in a field.
 pub fn allows_alternative(rules: Rules) -> bool
     ensures { result ≡ allows_alternative rules }
 {
-    match rules {
-        Rules::Spool => true,
-        Rules::Current => false,
-        Rules::Mailbox => false,
-    }
+    matches!(rules, Rules::Spool)
 }

@@ -1,5 +1,3 @@
-pub mod CalmLaws
 pub mod GrammarLaws
 pub mod StructuredFieldLaws
 pub mod ValueLaws
-pub mod WritingLaws

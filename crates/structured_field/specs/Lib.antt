@@ -1,2 +1,4 @@
 pub mod StructuredField
 pub mod Grammar
+pub mod CalmLaws
+pub mod WritingLaws

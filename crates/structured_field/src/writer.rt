@@ -1,13 +1,18 @@
 // What a structured field becomes, written part by part.
-ghost use Rattle.std.specs.Prelude.{◌≡◌, map, ◌≤◌, length};
+ghost use Rattle.std.specs.Prelude.{◌≡◌, true, refl, ⊤, map, ◌≤◌, length, drop};
 ghost use Rattle.lists.specs.Lists.{joined};
 ghost use Rattle.buffer.specs.Buffer.{AppendedCapped};
 ghost use Rattle.encoded_word.specs.Segments.{rendered};
 ghost use Rattle.comment.specs.Parts.{parts};
 ghost use Rattle.piece.specs.Piece.{fitting};
-ghost use Rattle.structured_field.specs.StructuredField.{part_segments, becomes, value_segments, structured_field};
+ghost use Rattle.structured_token.specs.Tokens.{goes_on, calm_len, Took};
+ghost use Rattle.structured_token.specs.Walk.{clear_all, becoming};
+ghost use Rattle.structured_field.specs.StructuredField.{part_segments, clear, becomes, structured_front, structured_field};
+ghost use Rattle.structured_field.specs.WritingLaws.{outside_none, outside_step, value_none, value_step_lem, value_calm};
 
-use structured_token::Kind;
+use crate::held::is_clear;
+use crate::rule::{ValueRule, add_named};
+use structured_token::{Kind, Token};
 
 // A parenthesis or a run of a comment. The text of a run is made in the scratch.
 fn add_part(out: &mut [u8], at: usize, part: &[u8], scratch: &mut [u8]) -> usize
@@ -46,34 +51,87 @@ fn add_token(out: &mut [u8], at: usize, kind: Kind, token: &[u8], scratch: &mut 
     buffer::add_slice(out, at, token)
 }
 
-fn add_value(out: &mut [u8], at: usize, value: &[u8], scratch: &mut [u8]) -> usize
-    requires { (length value.now ≤ 32768) × (length value.now ≤ length scratch.old) }
-    ensures { AppendedCapped (rendered (value_segments value.now)) at out.old out.new result }
-{
-    let mut next = at;
-    let mut comments = true;
-    let mut i: usize = 0;
-    while i < value.len() {
-        let token = structured_token::token_at(value, i, comments);
-        let kind = token.kind;
-        let end = token.end;
-        let calm = structured_token::calm_end(value, end);
-        let begun = add_token(out, next, kind, &value[i..end], scratch);
-        next = buffer::add_slice(out, begun, &value[end..calm]);
-        comments = structured_token::goes_on(comments, kind);
-        i = calm;
-    }
-    next
-}
+// The rule of structured fields. The state is whether a comment may start.
+pub(crate) struct Structured;
 
-fn add_fitting(out: &mut [u8], at: usize, name: &[u8], value: &[u8], scratch: &mut [u8]) -> usize
-    requires { (length value.now ≤ 32768) × (length value.now ≤ length scratch.old) }
-    ensures { AppendedCapped (rendered (structured_field name.now value.now)) at out.old out.new result }
-{
-    let colon = buffer::add_slice(out, at, name);
-    let start = buffer::add_byte(out, colon, b':');
-    let end = add_value(out, start, value, scratch);
-    buffer::add_slice(out, end, b"\r\n")
+impl ValueRule for Structured {
+    type State = bool;
+
+    type Kind = Kind;
+
+    ghost begun = { true };
+
+    ghost next = { goes_on };
+
+    ghost took = { Took };
+
+    ghost passed = { calm_len };
+
+    ghost fits = { λ _ _. ⊤ };
+
+    ghost clear = { clear };
+
+    ghost clear_from = { λ comments s i. clear_all structured_front comments (drop i s) };
+
+    ghost can_test = { λ _ _. ⊤ };
+
+    ghost tested = { λ n _. n };
+
+    ghost bytes = { λ _ kind token _. rendered (becomes kind token) };
+
+    ghost segments_from = { λ comments s i. becoming structured_front comments (drop i s) };
+
+    fn begin() -> bool {
+        true
+    }
+
+    fn next_state(comments: bool, kind: Kind) -> bool {
+        structured_token::goes_on(comments, kind)
+    }
+
+    fn part_at(value: &[u8], at: usize, comments: bool) -> Token<Kind> {
+        structured_token::token_at(value, at, comments)
+    }
+
+    fn passed_end(value: &[u8], at: usize) -> usize {
+        structured_token::calm_end(value, at)
+    }
+
+    fn tested_len(n: usize, _room: usize) -> usize {
+        n
+    }
+
+    fn is_clear(kind: Kind, token: &[u8], _scratch: &mut [u8]) -> bool {
+        is_clear(kind, token)
+    }
+
+    fn add_part(
+        out: &mut [u8],
+        at: usize,
+        _comments: bool,
+        kind: Kind,
+        token: &[u8],
+        _after: &[u8],
+        scratch: &mut [u8],
+    ) -> usize {
+        add_token(out, at, kind, token, scratch)
+    }
+
+    ghost fits_part = { λ _ _ _ _ _ _ _. tt };
+
+    ghost tested_all = { λ _ _ _. refl };
+
+    ghost can_less = { λ _ _ _ _ _. tt };
+
+    ghost clear_none = { outside_none };
+
+    ghost clear_step = { λ comments s i kind e k h t q. outside_step h t refl k q refl };
+
+    ghost bytes_none = { value_none };
+
+    ghost bytes_step = { λ comments s i kind e h t. value_step_lem h t refl };
+
+    ghost bytes_passed = { λ comments s i kind e k h t q. value_calm h t refl k q };
 }
 
 // Writes what a structured field becomes from a place on, as far as it fits; answers the place after it. The scratch is where the text
@@ -82,8 +140,7 @@ fn add_fitting(out: &mut [u8], at: usize, name: &[u8], value: &[u8], scratch: &m
 pub fn add_field(out: &mut [u8], at: usize, name: &[u8], value: &[u8], scratch: &mut [u8]) -> usize
     ensures { AppendedCapped (rendered (structured_field name.now (fitting (length scratch.old) value.now))) at out.old out.new result }
 {
-    let end = piece::fitting_len(scratch.len(), value.len());
-    add_fitting(out, at, name, &value[..end], scratch)
+    add_named::<Structured>(out, at, name, value, scratch)
 }
 
 // Writes what a comment becomes from a place on, as far as it fits; answers the place after it. The scratch is as for a field: a comment

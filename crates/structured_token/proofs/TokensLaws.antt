@@ -4,7 +4,7 @@ use Rattle.std.specs.Prelude.{◌≡◌, Bool, true, false, not, cond, ◌&&◌,
 use Rattle.std.proofs.Math.Path.{refl}
 use Rattle.std.proofs.Common.{sym, ◌∙◌, eqb→eq, drop_of_length-le, drop-cons, get_or-drop}
 use Rattle.std.proofs.Math.Bool.{and-false}
-use Prim.Native.Nat.{ℕ, suc, ◌+◌, ◌-◌, ◌≤◌, ◌<◌, min}
+use Prim.Native.Nat.{ℕ, suc, ◌+◌, ◌≤◌, ◌<◌, min}
 use native.Mathlib.Omega.{arith}
 use Rattle.std.proofs.Math.Facts.{or_no, eqb_no, ltb_yes, ltb_no}
 use Rattle.std.proofs.Math.ListN.{drop, get_or, length-drop}
@@ -188,7 +188,3 @@ calm_le (b ∷ s) = let ih = calm_le s in cond_has (λ n. n ≤ suc (length s)) 
 -- they lie in the text
 pub calm_within : (s : List ℕ) (e : ℕ) {k : ℕ} → k ≡ e + calm_len (drop e s) → e ≤ length s → k ≤ length s
 calm_within s e q h = omega (arith, calm_le (drop e s), length-drop e s)
-
--- less of the text is left after them
-pub calm_less : (s : List ℕ) (i e : ℕ) {k : ℕ} → i < length s → i < e → k ≡ e + calm_len (drop e s) → length s - k < length s - i
-calm_less s i e h l q = omega arith

@@ -5,7 +5,7 @@ use Rattle.lists.specs.ListsLaws.{yes_true}
 use Rattle.structured_token.specs.declared.Kind.{Kind}
 use Rattle.structured_token.specs.Tokens.{token_front as front_of}
 use Rattle.structured_token.specs.Grammar.{TokenRule}
-use Rattle.structured_token.proofs.GrammarLaws.{Taken, token_taken, found}
+use Rattle.structured_token.proofs.GrammarLaws.{token_taken, found}
 use Rattle.structured_token.specs.Walk.{Front}
 use Rattle.structured_token.proofs.WalkLaws as walks
 

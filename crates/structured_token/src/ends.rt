@@ -1,13 +1,26 @@
-// Where tokens end. Each loop runs to the next byte that matters.
+// Where tokens end.
 ghost use Rattle.std.specs.Prelude.{◌≡◌, ◌+◌, ◌<◌, length, drop, get_or};
-ghost use Rattle.lists.specs.Run.{run};
 ghost use Rattle.comment.specs.Comment.{is_text};
 ghost use Rattle.structured_token.specs.Tokens.{is_white, is_quote, is_plain, is_plain_ascii, ends_space, is_calm, calm_len, string_len};
 
-pub(crate) fn is_white(b: u8) -> bool
+use byte_class::Class;
+
+// Whether a byte is a space, a TAB or of a fold.
+pub fn is_white(b: u8) -> bool
     ensures { result ≡ is_white b }
 {
     (b == 32) | (b == 9) | (b == 13) | (b == 10)
+}
+
+// Spaces, TABs and the bytes of folds.
+pub struct White;
+
+impl Class for White {
+    ghost member = { is_white };
+
+    fn holds(b: u8) -> bool {
+        is_white(b)
+    }
 }
 
 pub(crate) fn is_plain(b: u8) -> bool
@@ -16,50 +29,26 @@ pub(crate) fn is_plain(b: u8) -> bool
     !((b == 32) | (b == 9) | (b == 13) | (b == 10) | (b == 34) | (b == 40) | (b == 59))
 }
 
-// Whether a byte of a quoted string neither closes it nor escapes the next.
-fn is_text(b: u8) -> bool
-    ensures { result ≡ is_text is_quote b }
-{
-    !((b == 34) | (b == 92))
+// The bytes of plain runs.
+pub(crate) struct Plain;
+
+impl Class for Plain {
+    ghost member = { is_plain };
+
+    fn holds(b: u8) -> bool {
+        is_plain(b)
+    }
 }
 
-pub(crate) fn white_end(s: &[u8], at: usize) -> usize
-    ensures { result ≡ at + run is_white (drop at s.now) }
-{
-    let mut i = at;
-    while i < s.len() {
-        if !is_white(s[i]) {
-            return i;
-        }
-        i += 1;
-    }
-    i
-}
+// The bytes of a quoted string that neither close it nor escape the next.
+struct QuotedText;
 
-pub(crate) fn plain_end(s: &[u8], at: usize) -> usize
-    ensures { result ≡ at + run is_plain (drop at s.now) }
-{
-    let mut i = at;
-    while i < s.len() {
-        if !is_plain(s[i]) {
-            return i;
-        }
-        i += 1;
-    }
-    i
-}
+impl Class for QuotedText {
+    ghost member = { is_text is_quote };
 
-fn text_end(s: &[u8], at: usize) -> usize
-    ensures { result ≡ at + run (is_text is_quote) (drop at s.now) }
-{
-    let mut i = at;
-    while i < s.len() {
-        if !is_text(s[i]) {
-            return i;
-        }
-        i += 1;
+    fn holds(b: u8) -> bool {
+        !((b == 34) | (b == 92))
     }
-    i
 }
 
 // Where the quoted string ends whose first quote stands at `at`.
@@ -69,7 +58,7 @@ pub(crate) fn string_end(s: &[u8], at: usize) -> usize
 {
     let mut i = at + 1;
     while i < s.len() {
-        let p = text_end(s, i);
+        let p = byte_class::run_end::<QuotedText>(s, i);
         if s.len() <= p {
             return s.len();
         }
@@ -109,12 +98,13 @@ fn is_calm(s: &[u8], at: usize) -> bool
 pub fn calm_end(s: &[u8], at: usize) -> usize
     ensures { result ≡ at + calm_len (drop at s.now) }
 {
-    let mut i = at;
-    while i < s.len() {
+    if s.len() <= at {
+        return at;
+    }
+    for i in at..s.len() {
         if !is_calm(s, i) {
             return i;
         }
-        i += 1;
     }
-    i
+    s.len()
 }

@@ -7,10 +7,10 @@ mod ends;
 ghost use Rattle.std.specs.Prelude.{◌≡◌, ◌<◌, length, get_or};
 ghost use Rattle.structured_token.specs.Tokens.{Took, comment_kind, open_kind, white_kind, goes_on};
 
-use crate::ends::{is_plain, is_white, plain_end, string_end, white_end};
-pub use ends::calm_end;
+use crate::ends::{Plain, is_plain, string_end};
+pub use ends::{White, calm_end, is_white};
 
-#[derive(Clone, Copy)]
+#[derive(Clone, Copy, Debug, PartialEq, Eq)]
 pub enum Kind {
     Comment,
     Quoted,
@@ -21,77 +21,63 @@ pub enum Kind {
     End,
 }
 
-// What stands at a place of a value, and where it ends.
+// What stands at a place of a value, and where it ends. Each kind of field has kinds of tokens of its own.
 #[derive(Clone, Copy)]
-pub struct Token {
-    pub kind: Kind,
+pub struct Token<K> {
+    pub kind: K,
     pub end: usize,
 }
 
 // A parenthesis: a comment, where one may start and it is closed.
-fn opened(value: &[u8], at: usize, comments: bool) -> Token
+fn opened(value: &[u8], at: usize, comments: bool) -> Token<Kind>
     requires { (at < length value.now) × (get_or value.now at 0 ≡ 40) }
     ensures { Took comments value.now at result.kind result.end }
 {
-    let after = at + 1;
+    let open = Token {
+        kind: Kind::Open,
+        end: at + 1,
+    };
     if !comments {
-        return Token {
-            kind: Kind::Open,
-            end: after,
-        };
+        return open;
     }
-    let end = comment::comment_end(value, at);
-    if end == at {
-        return Token {
-            kind: Kind::Open,
-            end: after,
-        };
-    }
-    Token {
-        kind: Kind::Comment,
-        end: end,
+    match comment::comment_end(value, at) {
+        Some(end) => {
+            let kind = Kind::Comment;
+            Token { kind, end }
+        }
+        None => open,
     }
 }
 
 // The token at a place of a value. A parenthesis that nothing closes is a token by itself, `Open`: "nothing after it is a comment", so
 // the caller goes on with `comments` false.
-pub fn token_at(value: &[u8], at: usize, comments: bool) -> Token
+pub fn token_at(value: &[u8], at: usize, comments: bool) -> Token<Kind>
     ensures { Took comments value.now at result.kind result.end }
 {
     if value.len() <= at {
-        return Token {
-            kind: Kind::End,
-            end: at,
-        };
+        let kind = Kind::End;
+        return Token { kind, end: at };
     }
     let b = value[at];
     if is_plain(b) {
-        let end = plain_end(value, at);
-        return Token {
-            kind: Kind::Plain,
-            end: end,
-        };
+        let kind = Kind::Plain;
+        let end = byte_class::run_end::<Plain>(value, at);
+        return Token { kind, end };
     }
     if is_white(b) {
-        let end = white_end(value, at);
-        return Token {
-            kind: Kind::White,
-            end: end,
-        };
+        let kind = Kind::White;
+        let end = byte_class::run_end::<White>(value, at);
+        return Token { kind, end };
     }
     if b == b'"' {
+        let kind = Kind::Quoted;
         let end = string_end(value, at);
-        return Token {
-            kind: Kind::Quoted,
-            end: end,
-        };
+        return Token { kind, end };
     }
     if b == b';' {
+        let kind = Kind::Semicolon;
         let end = at + 1;
-        return Token {
-            kind: Kind::Semicolon,
-            end: end,
-        };
+        return Token { kind, end };
     }
     opened(value, at, comments)
 }
@@ -99,56 +85,24 @@ pub fn token_at(value: &[u8], at: usize, comments: bool) -> Token
 pub fn is_comment(kind: Kind) -> bool
     ensures { result ≡ comment_kind kind }
 {
-    match kind {
-        Kind::Comment => true,
-        Kind::Quoted => false,
-        Kind::White => false,
-        Kind::Open => false,
-        Kind::Semicolon => false,
-        Kind::Plain => false,
-        Kind::End => false,
-    }
+    matches!(kind, Kind::Comment)
 }
 
 pub fn is_open(kind: Kind) -> bool
     ensures { result ≡ open_kind kind }
 {
-    match kind {
-        Kind::Comment => false,
-        Kind::Quoted => false,
-        Kind::White => false,
-        Kind::Open => true,
-        Kind::Semicolon => false,
-        Kind::Plain => false,
-        Kind::End => false,
-    }
+    matches!(kind, Kind::Open)
 }
 
 pub fn is_white_space(kind: Kind) -> bool
     ensures { result ≡ white_kind kind }
 {
-    match kind {
-        Kind::Comment => false,
-        Kind::Quoted => false,
-        Kind::White => true,
-        Kind::Open => false,
-        Kind::Semicolon => false,
-        Kind::Plain => false,
-        Kind::End => false,
-    }
+    matches!(kind, Kind::White)
 }
 
 // Whether a comment may start after a token.
 pub fn goes_on(comments: bool, kind: Kind) -> bool
     ensures { result ≡ goes_on comments kind }
 {
-    match kind {
-        Kind::Comment => comments,
-        Kind::Quoted => comments,
-        Kind::White => comments,
-        Kind::Open => false,
-        Kind::Semicolon => comments,
-        Kind::Plain => comments,
-        Kind::End => comments,
-    }
+    comments & !is_open(kind)
 }

@@ -1,7 +1,8 @@
 -- Laws of windows: a text is UTF-8 exactly if every byte is placed well after the three before it and the last character is whole.
-use Rattle.std.specs.Prelude.{◌≡◌, Bool, true, false, not, cond, ◌&&◌, ◌||◌, T, leb, eqb, length, drop, get_or}
+use Rattle.std.specs.Prelude.{◌≡◌, Bool, true, false, not, cond, ◌&&◌, ◌||◌, T, leb, eqb, length, take, drop, get_or}
 use Rattle.std.proofs.Math.Path.{refl, sym, ap}
-use Rattle.std.proofs.Common.{◌∙◌, eqb→eq, le→leb, lt→ltb, zero-add, not-suc-le-zero, drop_of_length-le}
+use Rattle.std.proofs.Common.{◌∙◌, eqb→eq, lt→ltb, zero-add, not-suc-le-zero, drop_of_length-le, length-drop, length-take, drop-drop, take_all}
+use Rattle.std.proofs.lemmas.List.{get_or-take, get_or-drop}
 use Rattle.std.proofs.Math.Bool.{and-true, and-false, and_assoc, or-true, or-false}
 use mathlib.Core.List.{List, [], ◌∷◌}
 use Prim.Native.Nat.{ℕ, zero, suc, ◌+◌, ◌-◌, ◌≤◌, ◌<◌}
@@ -12,13 +13,13 @@ use Rattle.std.proofs.Math.Nat.{add-zero}
 use Rattle.std.proofs.Math.Seq.{drop-cons}
 use borrow.Author.Tests.{lt-ltb, le-ltb, le-leb, lt-leb, ne_eqb}
 use Rattle.std.proofs.Math.Numerals.{add-one}
-use Rattle.std.proofs.Math.Facts.{and_yes, yes_and, ltb_yes, ltb_no, leb_yes, leb_no, eqb_no}
+use Rattle.std.proofs.Math.Facts.{and_yes, yes_and, ltb_yes, ltb_no, leb_no, eqb_no}
 use Rattle.lists.specs.Lists.{all}
 use Rattle.lists.specs.ListsLaws.{by_test, yes_true, true_yes, no_false}
 use Rattle.lists.specs.Byte.{within, is_ascii}
 use Rattle.lists.specs.ByteLaws.{within_low, within_high, to_within, all_below, below, implies, same_test, agree}
 use Rattle.utf8.specs.Utf8.{char_len, continues, second_low, second_high, is_char, utf8}
-use Rattle.utf8.specs.Utf8Laws.{chars_cons, second_low_lem, second_high_lem, utf8_right, utf8_ascii, utf8_of}
+use Rattle.utf8.specs.Utf8Laws.{chars_cons, second_high_lem, utf8_right, utf8_ascii, utf8_of}
 use Rattle.utf8.specs.Utf8AtLaws.{utf8_stop}
 use Rattle.utf8.specs.CharAtLaws.{char_at_none}
 use Rattle.utf8.specs.Window.{placed, placed3, whole, placed_all, window_at, all_at, placed_from, starts}
@@ -414,6 +415,41 @@ module _ {p : ℕ → Bool} {i : ℕ} where
   pub seen_all : {n : ℕ} {ok : Bool} (m : ℕ) → n ≡ m → Seen p i n ok → ok ≡ all_at p i m
   seen_all m e t = rw e at t.is
 
+-- a loop over the bytes from the fourth on, as code tests them
+module _ (f : ℕ → ℕ → ℕ → ℕ → Bool) (s : List ℕ) {ok : Bool} (i : ℕ) where
+  pub window_more : {r : Bool} → 3 ≤ i → ok ≡ all_at (window_at f s) 0 (i - 3)
+      → r ≡ f (get_or s (i - 3) 0) (get_or s (i - 2) 0) (get_or s (i - 1) 0) (get_or s i 0) → ok && r ≡ all_at (window_at f s) 0 (i + 1 - 3)
+  unfolding all_at
+  window_more h e k =
+      let next : i + 1 - 3 ≡ suc (i - 3) = omega arith in
+      let second : i - 3 + 1 ≡ i - 2 = omega arith in
+      let third : i - 3 + 2 ≡ i - 1 = omega arith in
+      let fourth : i - 3 + 3 ≡ i = omega arith in
+      rw (next, zero-add (i - 3), second, third, fourth, e, k)
+
+  pub window_done : 3 ≤ i → length s ≤ i → i ≤ 3 + (length s - 3) → ok ≡ all_at (window_at f s) 0 (i - 3) → ok ≡ all_at (window_at f s) 0 (length s - 3)
+  window_done h k l e = let n : i - 3 ≡ length s - 3 = omega arith in rw n at e
+
+-- two tests that agree at each of n places
+all_at_same : (p q : ℕ → Bool) (i j n : ℕ) → ((k : ℕ) → k < n → p (i + k) ≡ q (j + k)) → all_at p i n ≡ all_at q j n
+unfolding all_at
+all_at_same p q i j zero f = refl
+all_at_same p q i j (suc n) f = rw (all_at_same p q i j n (λ k h. f k (omega arith)), f n (omega arith))
+
+-- the windows of a part of a text are the text's from the part's place on
+pub window_part : (f : ℕ → ℕ → ℕ → ℕ → Bool) (s : List ℕ) (at n : ℕ) → all_at (window_at f (take (n + 3) (drop at s))) 0 n ≡ all_at (window_at f s) at n
+window_part f s at n = all_at_same (window_at f (take (n + 3) (drop at s))) (window_at f s) 0 at n each
+  where
+    byte : (k i : ℕ) → k < n → i < 4 → get_or (take (n + 3) (drop at s)) (0 + k + i) 0 ≡ get_or s (at + k + i) 0
+    byte k i h l =
+        let e : at + (0 + k + i) ≡ at + k + i = omega arith in
+        get_or-take (n + 3) (drop at s) (0 + k + i) 0 (omega arith) ∙ get_or-drop at s (0 + k + i) 0 ∙ ap (λ (m : ℕ). get_or s m 0) e
+
+    each : (k : ℕ) → k < n → window_at f (take (n + 3) (drop at s)) (0 + k) ≡ window_at f s (at + k)
+    each k h =
+        let zeroth : get_or (take (n + 3) (drop at s)) (0 + k) 0 ≡ get_or s (at + k) 0 = rw (add-zero, add-zero) at (byte k 0 h (omega arith)) in
+        rw (zeroth, byte k 1 h (omega arith), byte k 2 h (omega arith), byte k 3 h (omega arith))
+
 -- what a loop over blocks has found up to a place: every window before it passes
 pub record Clear (p : ℕ → Bool) (at : ℕ) : Type 0 where
   pub here : (k : ℕ) → k < at → T (p k)
@@ -442,6 +478,33 @@ module _ {p : ℕ → Bool} where
   pub clear_block : {at : ℕ} (n : ℕ) → Clear p at → all_at p at n ≡ true → Clear p (at + n)
   clear_block {at} n c e = clear_over at n (omega arith) c (true_yes (all_at p at n) e)
 
+-- what a loop over the blocks of a text has found where `rest` is left of it
+pub record Passed (f : ℕ → ℕ → ℕ → ℕ → Bool) (s rest : List ℕ) : Type 0 where
+  pub few : length rest ≤ length s
+  pub is : rest ≡ drop (length s - length rest) s
+  pub clear : Clear (window_at f s) (length s - length rest)
+
+module _ {f : ℕ → ℕ → ℕ → ℕ → Bool} {s : List ℕ} where
+  pub passed_none : Passed f s s
+  passed_none = let e : length s - length s ≡ 0 = omega arith in record { few = omega arith; is = rw e; clear = rw e clear_none }
+
+  -- a block of n bytes after three
+  module _ {rest block : List ℕ} (g : Passed f s rest) (n : ℕ) (h : n + 3 ≤ length rest) (b : block ≡ take (n + 3) rest) where
+    pub passed_part : all_at (window_at f block) 0 (length block - 3) ≡ all_at (window_at f s) (length s - length rest) n
+    passed_part =
+        let size : length (take (n + 3) rest) - 3 ≡ n = rw length-take (omega arith) in
+        rw (b, size) (rw (← g.is) at (window_part f s (length s - length rest) n))
+
+    pub passed_more : {more : List ℕ} → more ≡ drop n rest → all_at (window_at f block) 0 (length block - 3) ≡ true → Passed f s more
+    passed_more {more} e t =
+        let size : length more ≡ length rest - n = rw (e, length-drop) in
+        let at : length s - length more ≡ length s - length rest + n = omega (arith, g.few) in
+        record {
+          few = omega (arith, g.few);
+          is = rw at (e ∙ ap (drop n) g.is ∙ drop-drop n (length s - length rest) s);
+          clear = rw at (clear_block n g.clear (sym passed_part ∙ t));
+        }
+
 -- a block that does not pass
 pub block_fails : (p : ℕ → Bool) (at n m : ℕ) → at + n ≤ m → all_at p at n ≡ false → false ≡ all_at p 0 m
 block_fails p at n m h e =
@@ -456,6 +519,17 @@ module _ {p : ℕ → Bool} where
       by_test (all_at p from n)
       (λ t. k ∙ yes_true (all_at p from n) t ∙ sym (yes_true (all_at p 0 m) (clear_all_lem (rw e at (clear_over from n h c t)))))
       (λ t. let f = no_false (all_at p from n) t in k ∙ f ∙ block_fails p from n m (omega arith) f)
+
+-- the last n bytes and the three before them, as a slice
+pub passed_last : {f : ℕ → ℕ → ℕ → ℕ → Bool} {s rest block : List ℕ} {r : Bool} → Passed f s rest → (n : ℕ) → n + 3 ≤ length s → length rest < n + 3
+    → block ≡ take (length s - (length s - (n + 3))) (drop (length s - (n + 3)) s) → r ≡ all_at (window_at f block) 0 (length block - 3) → r ≡ all_at (window_at f s) 0 (length s - 3)
+passed_last {f} {s} {rest} {block} {r} g n h l b e =
+    let from = length s - (n + 3) in
+    let size : length s - from ≡ n + 3 = omega arith in
+    let is : block ≡ take (n + 3) (drop from s) = rw size at b in
+    let count : length block - 3 ≡ n = rw (is, length-take, length-drop) (omega arith) in
+    let part : all_at (window_at f block) 0 n ≡ all_at (window_at f s) from n = rw is (window_part f s from n) in
+    block_last from n (length s - 3) r (omega (arith, g.few)) (omega arith) g.clear (rw count at e ∙ part)
 
 module _ (s : List ℕ) where
   from_step : (k : ℕ) → k + 3 < length s → placed_from s k ≡ window_at placed s k && placed_from s (k + 1)

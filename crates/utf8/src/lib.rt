@@ -1,10 +1,12 @@
 #![tactic(auto)]
 
-ghost use Rattle.std.specs.Prelude.{◌≡◌, ◌+◌, ◌-◌, ◌≤◌, length, take, drop, get_or};
+ghost use Rattle.std.specs.Prelude.{◌≡◌, ℕ, Bool, ◌+◌, ◌-◌, ◌≤◌, length, drop, get_or};
 ghost use Rattle.lists.specs.Lists.{all};
 ghost use Rattle.lists.specs.Byte.{is_ascii};
 ghost use Rattle.utf8.specs.Utf8.{char_len, second_low, second_high, continues, char_at, ascii_run, utf8};
 ghost use Rattle.utf8.specs.Window.{placed, placed3, whole, starts, window_at, all_at};
+
+use byte_class::Class;
 
 // A character's length in bytes, by its first byte.
 pub fn char_len(b: u8) -> usize
@@ -42,7 +44,7 @@ pub fn second_high(a: u8) -> u8
 }
 
 // Whether a byte continues a character.
-fn is_tail(b: u8) -> bool
+pub fn is_tail(b: u8) -> bool
     ensures { result ≡ continues b }
 {
     (128 <= b) & (b <= 191)
@@ -83,33 +85,15 @@ pub fn char_at(s: &[u8], at: usize) -> usize
     4
 }
 
-// Whether the 32 bytes from `at` are ASCII. Without an early exit, so that it is compiled to a few vector instructions.
-fn ascii32(s: &[u8], at: usize) -> bool
-    requires { at + 32 ≤ length s.now }
-    ensures { result ≡ all is_ascii (take 32 (drop at s.now)) }
-{
-    let mut ok = true;
-    let mut j: usize = 0;
-    while j < 32 {
-        ok = ok & (s[at + j] < 128);
-        j += 1;
-    }
-    ok
-}
+// The bytes of ASCII.
+struct Ascii;
 
-// The end of the blocks of 32 ASCII bytes from `at`: a place in the run of ASCII bytes from `at`, or its end.
-fn ascii_blocks(s: &[u8], at: usize) -> usize
-    requires { at ≤ length s.now }
-    ensures { (result ≤ length s.now) × (at + ascii_run (drop at s.now) ≡ result + ascii_run (drop result s.now)) }
-{
-    let mut i = at;
-    while 32 <= s.len() - i {
-        if !ascii32(s, i) {
-            return i;
-        }
-        i += 32;
+impl Class for Ascii {
+    ghost member = { is_ascii };
+
+    fn holds(b: u8) -> bool {
+        b < 128
     }
-    i
 }
 
 // Where the run of ASCII bytes from `at` ends. A block costs more than a test of the first byte, which ends most runs in text
@@ -123,27 +107,14 @@ pub fn ascii_end(s: &[u8], at: usize) -> usize
     if 128 <= s[at] {
         return at;
     }
-    let mut i = ascii_blocks(s, at);
-    while i < s.len() {
-        if 128 <= s[i] {
-            return i;
-        }
-        i += 1;
-    }
-    i
+    byte_class::long_run_end::<Ascii>(s, at)
 }
 
 // Whether every byte is ASCII. Without an early exit: most texts are ASCII to their end.
 pub fn is_ascii(s: &[u8]) -> bool
     ensures { result ≡ all is_ascii s.now }
 {
-    let mut ok = true;
-    let mut i = 0;
-    while i < s.len() {
-        ok = ok & (s[i] < 128);
-        i += 1;
-    }
-    ok
+    byte_class::long_are_all::<Ascii>(s)
 }
 
 // Whether the byte d may stand after a, b and c in UTF-8. Without branches, so that a loop over it is compiled to vector instructions.
@@ -175,19 +146,36 @@ pub fn is_placed3(a: u8, b: u8, c: u8, d: u8) -> bool
         & (a < 240)
 }
 
-// Whether 32 bytes are placed well: those after the three at `at`.
-fn placed32(s: &[u8], at: usize) -> bool
-    requires { at + 35 ≤ length s.now }
-    ensures { result ≡ all_at (window_at placed s.now) at 32 }
+// A test of a byte beside the three before it. Without branches, as in `is_placed`.
+pub trait Window {
+    ghost passes: { ℕ → ℕ → ℕ → ℕ → Bool };
+
+    fn holds(a: u8, b: u8, c: u8, d: u8) -> bool
+        ensures { result ≡ passes a b c d };
+}
+
+// Whether all bytes from the fourth on pass. Without an early exit, so that it is compiled to vector instructions for a slice
+// of known length.
+#[inline]
+pub fn all_windows<W: Window>(s: &[u8]) -> bool
+    ensures { result ≡ all_at (window_at W.passes s.now) 0 (length s.now - 3) }
 {
     let mut ok = true;
-    let mut j: usize = 0;
-    while j < 32 {
-        let k = at + j;
-        ok = ok & is_placed(s[k], s[k + 1], s[k + 2], s[k + 3]);
-        j += 1;
+    for i in 3..s.len() {
+        ok = ok & W::holds(s[i - 3], s[i - 2], s[i - 1], s[i]);
     }
     ok
+}
+
+// Bytes that are placed well.
+struct Placed;
+
+impl Window for Placed {
+    ghost passes = { placed };
+
+    fn holds(a: u8, b: u8, c: u8, d: u8) -> bool {
+        is_placed(a, b, c, d)
+    }
 }
 
 // Whether the three bytes from `at` end a character.
@@ -203,23 +191,23 @@ fn starts_well(s: &[u8]) -> bool
     requires { 3 ≤ length s.now }
     ensures { result ≡ starts s.now }
 {
-    is_placed(0, 0, 0, s[0]) & is_placed(0, 0, s[0], s[1]) & is_placed(0, s[0], s[1], s[2])
+    all_windows::<Placed>(&[0, 0, 0, s[0], s[1], s[2]])
 }
 
-// Whether all blocks of 32 bytes pass, from the fourth byte on, the last of which ends the text and may overlap the one before it.
+// Whether all bytes from the fourth on are placed well, 32 at a time, each 32 beside the three before them. The last 32 end the
+// text and may overlap those before them.
 fn blocks_placed(s: &[u8]) -> bool
     requires { 35 ≤ length s.now }
     ensures { result ≡ all_at (window_at placed s.now) 0 (length s.now - 3) }
 {
-    let last = s.len() - 35;
-    let mut at: usize = 0;
-    while at < last {
-        if !placed32(s, at) {
+    let mut rest = s;
+    while let Some(block) = rest.first_chunk::<35>() {
+        if !all_windows::<Placed>(block) {
             return false;
         }
-        at += 32;
+        rest = &rest[32..];
     }
-    placed32(s, last)
+    all_windows::<Placed>(&s[s.len() - 35..])
 }
 
 // Whether a text is UTF-8, character by character.

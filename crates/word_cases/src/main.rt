@@ -4,19 +4,12 @@
 
 use std::io;
 
-fn say(rt: &impl Print, words: &[u8]) -> io::Result<()> {
-    rt.write_all(words)
-}
-
-fn number(rt: &impl Print, n: usize) -> io::Result<()> {
-    print!(rt; "{n}")
-}
-
+// Kept: two lines; a public function that prints would have to say what it prints.
 fn verdict(rt: &impl Print, ok: bool) -> io::Result<()> {
     if ok {
-        say(rt, b"the same")
+        print!(rt; "the same")
     } else {
-        say(rt, b"OTHER")
+        print!(rt; "OTHER")
     }
 }
 
@@ -33,15 +26,13 @@ fn show(rt: &impl Print, label: &[u8], text: &[u8]) -> io::Result<()> {
     let mut spare = [b'#'; 2049];
     let n = encoded_word::write(&mut out, text);
     let row = line::part(&out, 0, n);
-    say(rt, label)?;
-    say(rt, row)?;
-    say(rt, b"\r\n")?;
-    number(rt, n)?;
-    say(rt, b", len ")?;
+    rt.write_all(label)?;
+    rt.write_all(row)?;
+    print!(rt; "\r\n{n}, len ")?;
     verdict(rt, encoded_word::len(text) == n)?;
-    say(rt, b", exact buffer ")?;
+    print!(rt; ", exact buffer ")?;
     verdict(rt, exact(&mut spare, text, row))?;
-    say(rt, b"\r\n")
+    print!(rt; "\r\n")
 }
 
 // A case for each front of a text, from a length on and each time by a step longer.
@@ -57,9 +48,8 @@ fn show_fronts(
     }
     let mut end = first;
     while end <= text.len() {
-        say(rt, label)?;
-        say(rt, b", ")?;
-        number(rt, end)?;
+        rt.write_all(label)?;
+        print!(rt; ", {end}")?;
         show(rt, b" bytes", line::part(text, 0, end))?;
         if text.len() - end < step {
             return Ok(());
@@ -74,28 +64,25 @@ fn show_fronts(
 fn show_buffer(rt: &impl Print, out: &mut [u8], text: &[u8], size: usize) -> io::Result<()> {
     let end = case_line::room(size, out);
     let n = encoded_word::write(&mut out[..end], text);
-    say(rt, b"buffer of ")?;
-    number(rt, end)?;
-    say(rt, b": ")?;
-    say(rt, out)?;
-    say(rt, b"\r\n")?;
-    number(rt, n)?;
-    say(rt, b", guard ")?;
+    print!(rt; "buffer of {end}: ")?;
+    rt.write_all(out)?;
+    print!(rt; "\r\n{n}, guard ")?;
     verdict(rt, line::byte_at(out, end) == b'#')?;
-    say(rt, b"\r\n")
+    print!(rt; "\r\n")
 }
 
 // A text in base64.
 fn show_digits(rt: &impl Print, label: &[u8], text: &[u8]) -> io::Result<()> {
     let mut out = [0u8; 2048];
     let n = base64_digits::add(&mut out, 0, text);
-    say(rt, label)?;
-    say(rt, b": ")?;
-    say(rt, line::part(&out, 0, n))?;
-    say(rt, b"\r\n")
+    rt.write_all(label)?;
+    print!(rt; ": ")?;
+    rt.write_all(line::part(&out, 0, n))?;
+    print!(rt; "\r\n")
 }
 
 // A line of the input; where it is a case, the first letter of its kind tells what is shown.
+// Kept: the letter is the case's own column, and each kind takes other columns.
 fn show_line(rt: &impl Print, line: &[u8]) -> io::Result<()> {
     if !case_line::is_case(line) {
         return Ok(());
@@ -112,21 +99,15 @@ fn show_line(rt: &impl Print, line: &[u8]) -> io::Result<()> {
         b'f' => show_fronts(rt, label, text, first, step),
         b'b' => show_buffer(rt, &mut out, text, first),
         b'd' => show_digits(rt, label, text),
-        _ => say(rt, b"NO KIND OF CASE\r\n"),
+        _ => print!(rt; "NO KIND OF CASE\r\n"),
     }
 }
 
-fn show_lines(rt: &impl Print, cases: &[u8]) -> io::Result<()> {
-    let mut at = 0;
-    while at < cases.len() {
-        let end = case_line::find(cases, at, b'\n');
-        show_line(rt, line::part(cases, at, end))?;
-        at = buffer::place_after(end, 1);
-    }
-    Ok(())
-}
-
+// Kept: one loop for all programs would take a closure, and a public function may not require that it can be called.
 fn main(rt: HostRuntime) -> io::Result<()> {
     let input = program_input::read(rt.alloc(), rt.reader(), 65536)?;
-    show_lines(&rt, &input)
+    for line in input.split(|b| *b == b'\n') {
+        show_line(&rt, line)?;
+    }
+    Ok(())
 }

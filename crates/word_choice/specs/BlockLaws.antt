@@ -1,14 +1,14 @@
 -- What the first bytes of a text tell: how many of them are of a kind, and where characters start.
 use Rattle.std.specs.Prelude.{◌≡◌, Bool, true, false, not, cond, ◌&&◌, ◌||◌, ℕ, zero, suc, ◌+◌, ◌-◌, ◌*◌, ◌≤◌, ◌<◌, T, leb, ltb, eqb, length, take, drop, get_or}
 use Rattle.std.proofs.Math.Path.{refl}
-use Rattle.std.proofs.Common.{sym, ap, ◌∙◌, ⊎_elim, not-suc-le-zero, add-one, T_not, leb→le, le→leb, eqb→eq, ltb→lt, length-append, length-take, take-suc, take-add, take_all}
+use Rattle.std.proofs.Common.{ap, ◌∙◌, ⊎_elim, add-one, leb→le, eqb→eq, length-append, take-suc, take-add, take_all}
 use mathlib.Core.List.{List, [], ◌∷◌, ◌++◌}
-use Rattle.std.proofs.Math.Numerals.{unary_clauses}
 use native.Mathlib.Omega.{arith}
-use Rattle.std.proofs.Math.Facts.{and_yes, or_yes, ltb_yes, no_eqb, eqb_no}
+use Rattle.std.proofs.Math.Facts.{or_yes, no_eqb, eqb_no}
+use Rattle.std.specs.Int.{from_bool}
 use Rattle.lists.specs.Byte.{within}
-use Rattle.lists.specs.ListsLaws.{by_test, cond_yes, cond_no, yes_true, true_yes, no_false}
-use Rattle.lists.specs.ByteLaws.{within_low, within_high}
+use Rattle.lists.specs.ListsLaws.{by_test, yes_true, true_yes, no_false}
+use Rattle.lists.specs.ByteLaws.{within_high}
 use Rattle.utf8.specs.Utf8.{continues}
 use Rattle.word_spelling.specs.Spelling.{bare, spell_byte, spell}
 use Rattle.word_spelling.specs.Cost.{byte_cost, cost}
@@ -16,6 +16,15 @@ use Rattle.word_choice.specs.Block.{bit, count, plain, other}
 use Rattle.word_spelling.specs.SpellingLaws.{spell_bare, spell_space, spell_hex, spell_byte_some, length_spell_byte, length_spell_append}
 
 -- ---- bytes counted
+
+-- a bit as code turns a test into a number
+pub from_bit : (t : Bool) → from_bool t ≡ bit t
+from_bit true = refl
+from_bit false = refl
+
+pub bit_le : (t : Bool) → bit t ≤ 1
+bit_le true = omega arith
+bit_le false = omega arith
 
 module _ (f : ℕ → Bool) where
   count_append : (a b : List ℕ) → count f (a ++ b) ≡ count f a + count f b

@@ -1,5 +1,5 @@
 -- Laws of the choice: what tells that Q holds whatever B holds, and that a word in B ends.
-use Rattle.std.specs.Prelude.{◌≡◌, refl, Bool, not, ℕ, ◌+◌, ◌-◌, ◌*◌, ◌/◌, ◌≤◌, ◌<◌, min, T, take, drop}
+use Rattle.std.specs.Prelude.{◌≡◌, refl, ℕ, ◌+◌, ◌-◌, ◌*◌, ◌/◌, ◌≤◌, ◌<◌, min, T, take, drop}
 use Rattle.std.proofs.Common.{sym, ap, ◌∙◌, arith, leb→le, le→leb, lt→ltb, length-append, length-take, length-drop, take_all}
 use Rattle.std.proofs.Math.Bool.{true, false}
 use mathlib.Core.List.{List, [], ◌∷◌, ◌++◌, append-nil, nil≢cons}
@@ -7,17 +7,17 @@ use Rattle.std.proofs.Math.Dec.{leb, ltb}
 use Rattle.std.proofs.Math.Facts.{no_leb, no_ltb}
 use Rattle.std.proofs.Math.ListN.{length, get_or}
 use Rattle.lists.specs.Lists.{joined}
-use Rattle.lists.specs.ListsLaws.{by_test, yes_true, no_false}
+use Rattle.lists.specs.ListsLaws.{yes_true, no_false}
 use Rattle.utf8.specs.Utf8.{char_len, chars}
 use Rattle.utf8.specs.Utf8Laws.{chars_at, chars_end, chars_joined, char_len_some}
 use Rattle.base64_digits.proofs.Base64Laws.{length_base64}
 use Rattle.word_spelling.specs.Cost.{cost}
 use Rattle.word_spelling.specs.SpellingLaws.{length_spell}
-use Rattle.row.specs.declared.Encoding.TheVariants.{Q, B}
+use Rattle.row.specs.declared.Encoding.TheVariants.{B}
 use Rattle.row.specs.Row.{holds}
 use Rattle.row.specs.WordEnd.{Span, WordEnd}
 use Rattle.row.specs.WordEndLaws.{between}
-use Rattle.row.proofs.WordEndLaws.{span_none, span_char, span_join, length_span, word_end_b}
+use Rattle.row.proofs.WordEndLaws.{span_char, span_join, length_span, word_end_b}
 use Rattle.word_choice.specs.Choice.{AlsoInQ}
 use Rattle.word_choice.specs.Block.{other, count, surely_in_q}
 use Rattle.word_choice.specs.BlockLaws.{count_front, others_cost, highs_cost, cost_front}

@@ -1,5 +1,5 @@
 -- What callers rely on determines the choice: it is the one of the sentence.
-use Rattle.std.specs.Prelude.{◌≡◌, ℕ, zero, suc, ◌+◌, ◌-◌, min, T, length, drop}
+use Rattle.std.specs.Prelude.{◌≡◌, ℕ, zero, suc, ◌+◌, ◌-◌, min, length, drop}
 use Rattle.std.proofs.Math.Path.{refl, sym}
 use Rattle.std.proofs.Common.{ap, ◌∙◌, T_not, length-append, length-take, take_at, drop-drop}
 use mathlib.Core.List.{List, [], ◌∷◌, ◌++◌, nil≢cons}

@@ -1,7 +1,7 @@
 -- A word in Q, as a scan by characters finds where it ends, and the row of a text word by word, each at the front of what is left.
-use Rattle.std.specs.Prelude.{◌≡◌, refl, ℕ, ◌+◌, ◌-◌, ◌*◌, ◌/◌, ◌≤◌, ◌<◌, min, T, leb, length, take, drop, get_or}
-use Rattle.std.proofs.Common.{sym, ap, ◌∙◌, arith, leb→le, le→leb, length-append, length-take, length-drop, take-add, take_all, drop-drop}
-use mathlib.Core.List.{List, [], ◌∷◌, ◌++◌, nil≢cons}
+use Rattle.std.specs.Prelude.{◌≡◌, refl, ℕ, ◌+◌, ◌-◌, ◌*◌, ◌/◌, ◌≤◌, ◌<◌, min, leb, length, take, drop, get_or}
+use Rattle.std.proofs.Common.{sym, ap, ◌∙◌, arith, leb→le, le→leb, length-take, length-drop, take-add, take_all, drop-drop}
+use mathlib.Core.List.{List, ◌∷◌, ◌++◌, nil≢cons}
 use Rattle.std.proofs.Math.Facts.{leb_no}
 use Rattle.lists.specs.ListsLaws.{by_test}
 use Rattle.utf8.specs.Utf8.{char_len, chars}
@@ -14,7 +14,7 @@ use Rattle.word_spelling.specs.HighCharLaws.{char_cut}
 use Rattle.row.specs.declared.Encoding.{Encoding}
 use Rattle.row.specs.declared.Encoding.TheVariants.{Q, B}
 use Rattle.row.specs.Word.{spell_in, word}
-use Rattle.row.specs.Row.{holds, row, row_after}
+use Rattle.row.specs.Row.{row}
 use Rattle.row.specs.WordEnd.{Span, WordEnd}
 use Rattle.row.specs.WordEndLaws.{between}
 use Rattle.row.proofs.WordEndLaws.{span_none, span_char, span_join, word_end_q, word_small, line_step, line_more}

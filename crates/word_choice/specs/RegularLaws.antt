@@ -1,12 +1,12 @@
 -- In a text whose first bytes are regular, the characters that a word in B holds end where a step back finds a start.
-use Rattle.std.specs.Prelude.{◌≡◌, refl, Bool, true, false, not, cond, ◌&&◌, ◌||◌, ◌⊎◌, List, [], ◌∷◌, ◌++◌, ℕ, zero, suc, ◌+◌, ◌-◌, ◌*◌, ◌≤◌, ◌<◌, min, T, leb, ltb, eqb, length, take, drop, get_or}
-use Rattle.std.proofs.Common.{sym, ap, ◌∙◌, inl, inr, ⊎_elim, add-one, arith, T_not, leb→le, le→leb, eqb→eq, ltb→lt, length-take, length-drop}
+use Rattle.std.specs.Prelude.{◌≡◌, Bool, true, false, not, cond, ◌&&◌, ◌||◌, List, ◌∷◌, ℕ, zero, suc, ◌+◌, ◌-◌, ◌*◌, ◌≤◌, ◌<◌, T, leb, ltb, eqb, length, take, drop, get_or}
+use Rattle.std.proofs.Common.{sym, ap, ◌∙◌, ⊎_elim, arith, T_not, leb→le, le→leb, eqb→eq, ltb→lt, length-take, length-drop}
 use Rattle.std.specs.Int.Count.{count_leading_zeros}
 use Rattle.std.proofs.Math.Facts.{or_yes, leb_no, ltb_no, eqb_no}
 use Rattle.lists.specs.Byte.{within}
 use Rattle.lists.specs.ListsLaws.{by_test, cond_yes, cond_no, cond_has}
-use Rattle.lists.specs.ByteLaws.{within_low, within_high, to_within, below, implies}
-use Rattle.utf8.specs.Utf8.{char_len, continues, chars}
+use Rattle.lists.specs.ByteLaws.{within_high, to_within, below, implies}
+use Rattle.utf8.specs.Utf8.{char_len, continues}
 use Rattle.utf8.specs.Utf8Laws.{chars_at}
 use Rattle.row.specs.declared.Encoding.TheVariants.{B}
 use Rattle.row.specs.WordEnd.{Span, WordEnd}

@@ -1,9 +1,11 @@
 // Tests of the first bytes of a text, all of them, without an early exit.
 ghost use Rattle.std.specs.Prelude.{◌≡◌, true, ◌||◌, ◌≤◌, ◌<◌, leb, eqb, length, take};
 ghost use Rattle.word_spelling.specs.Spelling.{bare};
-ghost use Rattle.utf8.specs.Utf8.{continues};
-ghost use Rattle.word_choice.specs.Block.{bit, count, plain, other};
+ghost use Rattle.word_choice.specs.Block.{count, plain, other};
 ghost use Rattle.word_choice.specs.BlockLaws.{dear, placed, Regular, step_back};
+
+use byte_class::Class;
+use utf8::is_tail;
 
 // Whether a byte is a letter, a digit or a space.
 fn is_plain(b: u8) -> bool
@@ -27,65 +29,57 @@ fn single(b: u8) -> bool
         | (b == 32)
 }
 
-fn one_if(t: bool) -> u8
-    ensures { (result ≡ bit t) × (result ≤ 1) }
-{
-    if t { 1 } else { 0 }
+// The bytes that are neither letters, digits nor spaces.
+struct Other;
+
+impl Class for Other {
+    ghost member = { other };
+
+    fn holds(b: u8) -> bool {
+        !is_plain(b)
+    }
 }
 
-fn wide(b: u8) -> usize
-    ensures { result ≡ b }
-{
-    b as usize
+// The bytes that take three characters of a word in Q.
+pub(crate) struct Escaped;
+
+impl Class for Escaped {
+    ghost member = { dear };
+
+    fn holds(b: u8) -> bool {
+        !single(b)
+    }
 }
 
-// How many of the first 48 bytes are neither letters, digits nor spaces.
+// The bytes that are not ASCII.
+pub(crate) struct High;
+
+impl Class for High {
+    ghost member = { λ b. leb 128 b };
+
+    fn holds(b: u8) -> bool {
+        128 <= b
+    }
+}
+
+// How many bytes of a short text are of a class. It counts in a byte, so that a vector holds 16 counts (`byte_class::count` counts in 8 bytes).
+pub(crate) fn count<C: Class>(s: &[u8]) -> usize
+    requires { length s.now ≤ 48 }
+    ensures { (result ≡ count C.member s.now) × (result ≤ 48) }
+{
+    let mut n = 0u8;
+    for b in s {
+        n += u8::from(C::holds(*b));
+    }
+    usize::from(n)
+}
+
+// How many of the first 48 bytes are neither letters, digits nor spaces: a fixed count of bytes.
 pub(crate) fn others(s: &[u8]) -> usize
     requires { 48 ≤ length s.now }
     ensures { (result ≡ count other (take 48 s.now)) × (result ≤ 48) }
 {
-    let mut n = 0u8;
-    let mut k = 0;
-    while k < 48 {
-        n += one_if(!is_plain(s[k]));
-        k += 1;
-    }
-    wide(n)
-}
-
-// How many of 45 bytes at most take three characters of a word in Q.
-pub(crate) fn escaped(s: &[u8]) -> usize
-    requires { length s.now ≤ 45 }
-    ensures { (result ≡ count dear s.now) × (result ≤ 45) }
-{
-    let mut n = 0u8;
-    let mut k = 0;
-    while k < s.len() {
-        n += one_if(!single(s[k]));
-        k += 1;
-    }
-    wide(n)
-}
-
-// How many of 45 bytes at most are not ASCII.
-pub(crate) fn highs(s: &[u8]) -> usize
-    requires { length s.now ≤ 45 }
-    ensures { (result ≡ count (λ b. leb 128 b) s.now) × (result ≤ 45) }
-{
-    let mut n = 0u8;
-    let mut k = 0;
-    while k < s.len() {
-        n += one_if(128 <= s[k]);
-        k += 1;
-    }
-    wide(n)
-}
-
-// Whether a byte continues a character.
-fn is_tail(b: u8) -> bool
-    ensures { result ≡ continues b }
-{
-    (128 <= b) & (b <= 191)
+    count::<Other>(&s[..48])
 }
 
 // Whether a byte c after a and b continues a character just where one of them asks for it, and starts none of more than three bytes.
@@ -110,12 +104,10 @@ pub(crate) fn regular(s: &[u8]) -> bool
         return false;
     }
     let mut ok = true;
-    let mut k = 2;
-    while k < 50 {
+    for k in 2..50 {
         let i = k - 2;
         let j = k - 1;
         ok = ok & is_placed(s[i], s[j], s[k]);
-        k += 1;
     }
     ok
 }
@@ -128,5 +120,5 @@ pub(crate) fn step_back(s: &[u8], limit: usize) -> usize
     let before = limit - 1;
     let inside = is_tail(s[limit]);
     let further = inside & is_tail(s[before]);
-    limit - wide(one_if(inside)) - wide(one_if(further))
+    limit - usize::from(inside) - usize::from(further)
 }

@@ -11,10 +11,10 @@ ghost use Rattle.word_choice.specs.Block.{surely_in_q};
 ghost use Rattle.word_choice.specs.declared.Choice.TheVariants.{InQ};
 ghost use Rattle.word_choice.specs.ChoiceLaws.{bytes_in_b, FullInB};
 
-use block::{escaped, highs, others, regular, step_back};
+use block::{Escaped, High, count, others, regular, step_back};
 
 // The encoding of a word, and in B the place where it ends. In Q it ends where the next character does not fit.
-#[derive(Clone, Copy)]
+#[derive(Clone, Copy, Debug, PartialEq, Eq)]
 pub enum Choice {
     InQ,
     InB(usize),
@@ -25,7 +25,7 @@ fn costs(text: &[u8]) -> usize
     requires { length text.now ≤ 45 }
     ensures { result ≡ cost text.now }
 {
-    text.len() + 2 * escaped(text)
+    text.len() + 2 * count::<Escaped>(text)
 }
 
 // A text that a word in B holds whole.
@@ -36,7 +36,7 @@ fn whole(text: &[u8], room: usize) -> Choice
     if 3 * text.len() <= room {
         return Choice::InQ;
     }
-    if room < text.len() + 2 * highs(text) {
+    if room < text.len() + 2 * count::<High>(text) {
         return Choice::InB(text.len());
     }
     if costs(text) <= room {
@@ -80,7 +80,7 @@ fn by_block(text: &[u8], room: usize) -> Choice
     ensures { Chosen room text.now result }
 {
     let limit = room / 4 * 3;
-    if room < 32 + 2 * highs(&text[..32]) {
+    if room < 32 + 2 * count::<High>(&text[..32]) {
         if 34 <= limit {
             if regular(text) {
                 return Choice::InB(step_back(text, limit));

@@ -1,4 +1,5 @@
 pub mod Each
 pub mod EachLaws
 pub mod Word
+pub mod WordFaults
 pub mod WordLaws

@@ -1,10 +1,10 @@
 -- Laws of encoded words read by a function, as code reads them.
-use Rattle.std.specs.Prelude.{◌≡◌, Bool, true, not, cond, ◌&&◌, List, [], ◌∷◌, ◌++◌, ℕ, zero, suc, ◌+◌, ◌-◌, ◌*◌, ◌/◌, ◌%◌, ◌≤◌, ◌<◌, min, T, leb, take, drop, get_or}
+use Rattle.std.specs.Prelude.{◌≡◌, Bool, true, not, cond, ◌&&◌, List, [], ◌∷◌, ◌++◌, ℕ, zero, suc, ◌+◌, ◌-◌, ◌*◌, ◌/◌, ◌%◌, ◌≤◌, ◌<◌, min, T, leb, take, drop, get_or, Ok, Err}
 use Rattle.std.proofs.Math.Path.{refl, sym}
 use Rattle.std.proofs.Common.{ap, ◌∙◌, not-suc-le-zero, add-zero, le→leb, length-take, drop-drop}
 use Rattle.std.proofs.Math.Bool.{false, and_assoc, and-true}
 use native.Mathlib.Omega.{arith}
-use Rattle.std.proofs.Math.Dec.{eqb}
+use Rattle.std.proofs.Math.Dec.{eqb, eqb→eq}
 use Rattle.std.proofs.Math.ListN.{length, length-drop, drop_of_length-le}
 use Rattle.std.proofs.Math.Seq.{get_or-drop}
 use borrow.Author.Tests.{eq-eqb, ne_eqb}
@@ -23,6 +23,9 @@ use Rattle.base64_digits.specs.Reading.{is_digit64, value64}
 use Rattle.word_reader.specs.Each.{each}
 use Rattle.word_reader.specs.EachLaws.{each_nil, each_front, each_few}
 use Rattle.word_reader.specs.Word.{unit_size, is_any_hex, any_hex, unit_byte, unit_ok, q_text, q_ok, first_of, second_of, third_of, quad_ok, last_ok, last_text, b_text, b_ok, is_word, inner, not_question, charset_len, is_parted, letter, standing, text_ok, text_of, is_utf8_charset, added, form_number}
+use Rattle.word_reader.specs.declared.WordFault.{WordFault}
+use Rattle.word_reader.specs.declared.WordFault.TheVariants.{Malformed, Charset}
+use Rattle.word_reader.specs.WordFaults.{number_of}
 
 -- ---- units of Q
 
@@ -105,56 +108,7 @@ module _ {s : List ℕ} {at : ℕ} {before mid : List ℕ} {i next : ℕ} {ok : 
       let none = drop_of_length-le s {i = i} h in
       (sym (u.fine ∙ rw (none, each_nil unit_size unit_ok) (and-true ok)), capped_end u.text (rw (none, each_nil unit_size unit_byte) refl))
 
--- the value of a hex digit, by the tests that code makes
-module _ (b : ℕ) where
-  in_range : (lo hi : ℕ) → within lo hi b ≡ true → (lo ≤ b) × (b ≤ hi)
-  in_range lo hi e = let t = true_yes (within lo hi b) e in (within_low lo hi b t, within_high lo hi b t)
-
-  pub range_low : (lo hi : ℕ) → within lo hi b ≡ true → lo ≤ b
-  range_low lo hi e = (in_range lo hi e).0
-
-  pub range_high : (lo hi : ℕ) → within lo hi b ≡ true → b ≤ hi
-  range_high lo hi e = (in_range lo hi e).1
-
-  pub hex_decimal : within 48 57 b ≡ true → (b - 48 ≡ any_hex b) × (b - 48 < 16)
-  unfolding any_hex
-  hex_decimal e = (rw e, omega (arith, in_range 48 57 e))
-
-  pub hex_capital : within 48 57 b ≡ false → within 65 70 b ≡ true → (b - 55 ≡ any_hex b) × (b - 55 < 16)
-  unfolding any_hex
-  hex_capital n e = (rw (n, e), omega (arith, in_range 65 70 e))
-
-  pub hex_small : within 48 57 b ≡ false → within 65 70 b ≡ false → within 97 102 b ≡ true → (b - 87 ≡ any_hex b) × (b - 87 < 16)
-  unfolding any_hex
-  hex_small n m e = (rw (n, m, e), omega (arith, in_range 97 102 e))
-
-  pub hex_other : within 48 57 b ≡ false → within 65 70 b ≡ false → within 97 102 b ≡ false → (0 ≡ any_hex b) × (0 < 16)
-  unfolding any_hex
-  hex_other n m o = (rw (n, m, o), omega arith)
-
 -- ---- base64
-
--- the value of a digit, by the tests that code makes
-module _ (b : ℕ) where
-  pub value_capital : within 65 90 b ≡ true → (b - 65 ≡ value64 b) × (b - 65 < 64)
-  unfolding value64
-  value_capital e = (rw e, omega (arith, in_range b 65 90 e))
-
-  pub value_small : within 65 90 b ≡ false → within 97 122 b ≡ true → (b - 97 + 26 ≡ value64 b) × (b - 97 + 26 < 64)
-  unfolding value64
-  value_small n e = (rw (n, e), omega (arith, in_range b 97 122 e))
-
-  pub value_decimal : within 65 90 b ≡ false → within 97 122 b ≡ false → within 48 57 b ≡ true → (b - 48 + 52 ≡ value64 b) × (b - 48 + 52 < 64)
-  unfolding value64
-  value_decimal n m e = (rw (n, m, e), omega (arith, in_range b 48 57 e))
-
-  pub value_plus : b ≡ 43 → (62 ≡ value64 b) × (62 < 64)
-  unfolding value64
-  value_plus e = (rw e, omega arith)
-
-  pub value_other : within 65 90 b ≡ false → within 97 122 b ≡ false → within 48 57 b ≡ false → (b ≡ 43 → ⊥) → (63 ≡ value64 b) × (63 < 64)
-  unfolding value64
-  value_other n m o k = (rw (n, m, o, ne_eqb b 43 k), omega arith)
 
 pub first_by : (w x : ℕ) {a b : ℕ} → a ≡ value64 w → b ≡ value64 x → a * 4 + b / 16 ≡ first_of w x
 unfolding first_of
@@ -200,37 +154,38 @@ module _ (w x y z : ℕ) where
   unfolding last_ok last_text
   last_quad hz he u = (rw (ne_eqb z 61 hz) he, capped_same (rw (ne_eqb z 61 hz) refl) u)
 
--- four bytes or fewer
-pub rest_four : (s : List ℕ) → length s ≡ 4 → (b_ok s ≡ last_ok (get_or s 0 0) (get_or s 1 0) (get_or s 2 0) (get_or s 3 0)) × (b_text s ≡ last_text (get_or s 0 0) (get_or s 1 0) (get_or s 2 0) (get_or s 3 0))
+-- the four bytes of a group, by their list
+abbrev pub ok_of_quad : List ℕ → Bool
+ok_of_quad q = quad_ok (get_or q 0 0) (get_or q 1 0) (get_or q 2 0) (get_or q 3 0)
+
+abbrev pub text_of_quad : List ℕ → List ℕ
+text_of_quad q = first_of (get_or q 0 0) (get_or q 1 0) ∷ second_of (get_or q 1 0) (get_or q 2 0) ∷ third_of (get_or q 2 0) (get_or q 3 0) ∷ []
+
+abbrev pub ok_of_last : List ℕ → Bool
+ok_of_last q = last_ok (get_or q 0 0) (get_or q 1 0) (get_or q 2 0) (get_or q 3 0)
+
+abbrev pub text_of_last : List ℕ → List ℕ
+text_of_last q = last_text (get_or q 0 0) (get_or q 1 0) (get_or q 2 0) (get_or q 3 0)
+
+-- fewer than four bytes; four; more
+few_left : (s : List ℕ) → length s < 4 → (eqb (length s) 0 ≡ b_ok s) × ([] ≡ b_text s)
 unfolding b_ok b_text
-rest_four [] h = absurd (omega arith)
-rest_four (w ∷ []) h = absurd (omega arith)
-rest_four (w ∷ x ∷ []) h = absurd (omega arith)
-rest_four (w ∷ x ∷ y ∷ []) h = absurd (omega arith)
-rest_four (w ∷ x ∷ y ∷ z ∷ []) h = (refl, refl)
-rest_four (w ∷ x ∷ y ∷ z ∷ v ∷ s) h = absurd (omega arith)
+few_left [] h = (refl, refl)
+few_left (w ∷ []) h = (refl, refl)
+few_left (w ∷ x ∷ []) h = (refl, refl)
+few_left (w ∷ x ∷ y ∷ []) h = (refl, refl)
+few_left (w ∷ x ∷ y ∷ z ∷ s) h = absurd (omega arith)
 
-pub rest_other : (s : List ℕ) → length s ≤ 4 → (length s ≡ 4 → ⊥) → (eqb (length s) 0 ≡ b_ok s) × ([] ≡ b_text s)
+last_left : (s : List ℕ) → length s ≡ 4 → (b_ok s ≡ ok_of_last (take 4 s)) × (b_text s ≡ text_of_last (take 4 s))
 unfolding b_ok b_text
-rest_other [] h n = (refl, refl)
-rest_other (w ∷ []) h n = (refl, refl)
-rest_other (w ∷ x ∷ []) h n = (refl, refl)
-rest_other (w ∷ x ∷ y ∷ []) h n = (refl, refl)
-rest_other (w ∷ x ∷ y ∷ z ∷ []) h n = absurd (n refl)
-rest_other (w ∷ x ∷ y ∷ z ∷ v ∷ s) h n = absurd (omega arith)
+last_left [] h = absurd (omega arith)
+last_left (w ∷ []) h = absurd (omega arith)
+last_left (w ∷ x ∷ []) h = absurd (omega arith)
+last_left (w ∷ x ∷ y ∷ []) h = absurd (omega arith)
+last_left (w ∷ x ∷ y ∷ z ∷ []) h = (refl, refl)
+last_left (w ∷ x ∷ y ∷ z ∷ v ∷ s) h = absurd (omega arith)
 
-pub rest_end : (s : List ℕ) {at n : ℕ} {o o' : List ℕ} {e : Bool} → length s ≡ 4
-    → (e ≡ last_ok (get_or s 0 0) (get_or s 1 0) (get_or s 2 0) (get_or s 3 0)) × AppendedCapped (last_text (get_or s 0 0) (get_or s 1 0) (get_or s 2 0) (get_or s 3 0)) at o o' n
-    → (e ≡ b_ok s) × AppendedCapped (b_text s) at o o' n
-rest_end s h a = let f = rest_four s h in (a.0 ∙ sym f.0, capped_same (sym f.1) a.1)
-
-pub rest_none : (s : List ℕ) (at : ℕ) (o : List ℕ) → at ≤ greatest → length s ≤ 4 → (length s ≡ 4 → ⊥) → (eqb (length s) 0 ≡ b_ok s) × AppendedCapped (b_text s) at o o at
-rest_none s at o k h n = let f = rest_other s h n in (f.0, capped_same f.1 (capped_none at o k))
-
--- four bytes, and more
-quad_front : (t : List ℕ) → 4 < length t
-    → (b_ok t ≡ quad_ok (get_or t 0 0) (get_or t 1 0) (get_or t 2 0) (get_or t 3 0) && b_ok (drop 4 t))
-    × (b_text t ≡ first_of (get_or t 0 0) (get_or t 1 0) ∷ second_of (get_or t 1 0) (get_or t 2 0) ∷ third_of (get_or t 2 0) (get_or t 3 0) ∷ b_text (drop 4 t))
+quad_front : (s : List ℕ) → 4 < length s → (b_ok s ≡ ok_of_quad (take 4 s) && b_ok (drop 4 s)) × (b_text s ≡ text_of_quad (take 4 s) ++ b_text (drop 4 s))
 unfolding b_ok b_text
 quad_front [] h = absurd (omega arith)
 quad_front (w ∷ []) h = absurd (omega arith)
@@ -239,45 +194,40 @@ quad_front (w ∷ x ∷ y ∷ []) h = absurd (omega arith)
 quad_front (w ∷ x ∷ y ∷ z ∷ []) h = absurd (omega arith)
 quad_front (w ∷ x ∷ y ∷ z ∷ v ∷ s) h = (refl, refl)
 
+not_none : (n : ℕ) → eqb n 0 ≡ false → 0 < n
+not_none zero e = absurd (true_yes false (sym e))
+not_none (suc n) e = omega arith
+
 -- a loop over groups
-pub record Groups (s : List ℕ) (at : ℕ) (before after : List ℕ) (i next : ℕ) (ok : Bool) : Type 0 where
-  pub inside : i ≤ length s
-  pub text : ReachedCapped (b_text s) (b_text (drop i s)) at before after next
-  pub fine : b_ok s ≡ ok && b_ok (drop i s)
+pub record Groups (s : List ℕ) (at : ℕ) (before after rest : List ℕ) (next : ℕ) (ok : Bool) : Type 0 where
+  pub text : ReachedCapped (b_text s) (b_text rest) at before after next
+  pub fine : b_ok s ≡ ok && b_ok rest
 
-pub groups_start : (s : List ℕ) (at : ℕ) (before : List ℕ) → at ≤ greatest → Groups s at before before 0 at true
-groups_start s at before h = record { inside = omega arith; text = capped_start (b_text s) at before h; fine = refl }
+pub groups_start : (s : List ℕ) (at : ℕ) (before : List ℕ) → at ≤ greatest → Groups s at before before s at true
+groups_start s at before h = record { text = capped_start (b_text s) at before h; fine = refl }
 
-module _ {s : List ℕ} {at : ℕ} {before mid : List ℕ} {i next : ℕ} {ok : Bool} (g : Groups s at before mid i next ok) where
+module _ {s : List ℕ} {at : ℕ} {before mid rest : List ℕ} {next : ℕ} {ok : Bool} (g : Groups s at before mid rest next ok) where
   pub length_groups : length mid ≡ length before
   length_groups = length_capped g.text
 
-  pub groups_next : {good : Bool} {after : List ℕ} {m : ℕ} → i + 4 < length s → length before ≤ greatest
-      → good ≡ quad_ok (get_or s i 0) (get_or s (i + 1) 0) (get_or s (i + 1 + 1) 0) (get_or s (i + 1 + 1 + 1) 0)
-      → AppendedCapped (first_of (get_or s i 0) (get_or s (i + 1) 0) ∷ second_of (get_or s (i + 1) 0) (get_or s (i + 1 + 1) 0) ∷ third_of (get_or s (i + 1 + 1) 0) (get_or s (i + 1 + 1 + 1) 0) ∷ []) next mid after m
-      → Groups s at before after (i + 1 + 1 + 1 + 1) m (ok && good)
-  groups_next {good} h fits e a =
-      let two : i + 1 + 1 ≡ i + 2 = omega arith in
-      let three : i + 1 + 1 + 1 ≡ i + 3 = omega arith in
-      let four : i + 1 + 1 + 1 + 1 ≡ i + 4 = omega arith in
-      let q = quad_front (drop i s) (rw length-drop (omega arith)) in
-      record {
-        inside = omega arith;
-        text = capped_turn g.text (q.1 ∙ rw (first s i, get_or-drop i s 1 0, get_or-drop i s 2 0, get_or-drop i s 3 0, drop-drop, four, three, two) refl) a fits;
-        fine = g.fine ∙ rw (q.0, first s i, get_or-drop i s 1 0, get_or-drop i s 2 0, get_or-drop i s 3 0, drop-drop, four) (rest (rw (three, two) at e));
-      }
-    where
-      rest : good ≡ quad_ok (get_or s i 0) (get_or s (i + 1) 0) (get_or s (i + 2) 0) (get_or s (i + 3) 0)
-          → ok && (quad_ok (get_or s i 0) (get_or s (i + 1) 0) (get_or s (i + 2) 0) (get_or s (i + 3) 0) && b_ok (drop (i + 4) s)) ≡ ok && good && b_ok (drop (i + 4) s)
-      rest k = rw (← k) (sym (and_assoc ok good (b_ok (drop (i + 4) s))))
+  module _ {quad more : List ℕ} (front : quad ≡ take 4 rest) (left : more ≡ drop 4 rest) {good : Bool} {after : List ℕ} {m : ℕ} (size : length more + 4 ≡ length rest) {e : Bool} (empty : e ≡ eqb (length more) 0) (fits : length before ≤ greatest) where
+    pub groups_next : e ≡ false → good ≡ ok_of_quad quad → AppendedCapped (text_of_quad quad) next mid after m → Groups s at before after more m (ok && good)
+    groups_next n e a =
+        let some : 0 < length more = not_none (length more) (sym empty ∙ n) in
+        let q = quad_front rest (omega arith) in
+        record {
+          text = capped_turn g.text (rw (front, left) q.1) a fits;
+          fine = g.fine ∙ rw (q.0, e, front, left) (sym (and_assoc ok (ok_of_quad (take 4 rest)) (b_ok (drop 4 rest))));
+        }
 
-  pub groups_end : {last : Bool} {after : List ℕ} {m : ℕ} → length before ≤ greatest
-      → (last ≡ b_ok (take (length s - i) (drop i s))) × AppendedCapped (b_text (take (length s - i) (drop i s))) next mid after m
-      → (ok && last ≡ b_ok s) × AppendedCapped (b_text s) at before after m
-  groups_end fits a = (
-    rw (a.0, part_rest s i) (sym g.fine),
-    capped_same (sym g.text.joins) (capped_then g.text.wrote (capped_same (ap b_text (part_rest s i)) a.1) fits),
-  )
+    pub groups_last : e ≡ true → (good ≡ ok_of_last quad) × AppendedCapped (text_of_last quad) next mid after m → (ok && good ≡ b_ok s) × AppendedCapped (b_text s) at before after m
+    groups_last n a =
+        let none : length more ≡ 0 = eqb→eq (length more) 0 (true_yes (eqb (length more) 0) (sym empty ∙ n)) in
+        let q = last_left rest (omega arith) in
+        (rw (a.0, front) (sym (g.fine ∙ ap (λ (b : Bool). ok && b) q.0)), capped_same (sym g.text.joins) (capped_then g.text.wrote (capped_same (rw front (sym q.1)) a.1) fits))
+
+  pub groups_end : {e : Bool} → length rest < 4 → e ≡ eqb (length rest) 0 → (ok && e ≡ b_ok s) × AppendedCapped (b_text s) at before mid next
+  groups_end h k = let f = few_left rest h in (rw (k, f.0) (sym g.fine), capped_end g.text (sym f.1))
 
 -- ---- a word
 
@@ -291,25 +241,9 @@ module _ (w : List ℕ) where
   unfolding is_word
   word_ends h = rw (yes_true (leb 4 (length w)) (le→leb 4 (length w) h)) refl
 
--- the charset, as a loop finds its end
-module _ (s : List ℕ) where
-  pub charset_start : charset_len s ≡ 0 + run not_question (drop 0 s)
-  unfolding charset_len
-  charset_start = omega arith
-
-  module _ (i : ℕ) (e : charset_len s ≡ i + run not_question (drop i s)) where
-    pub charset_here : i < length s → get_or s i 0 ≡ 63 → i ≡ charset_len s
-    charset_here h k = sym (e ∙ run_stop not_question s i h (rw k refl))
-
-    pub charset_next : i < length s → (get_or s i 0 ≡ 63 → ⊥) → charset_len s ≡ i + 1 + run not_question (drop (i + 1) s)
-    charset_next h k = e ∙ run_step not_question s i h (rw (ne_eqb (get_or s i 0) 63 k) refl)
-
-    pub charset_end : length s ≤ i → i ≡ charset_len s
-    charset_end h = sym (e ∙ run_end not_question s i h)
-
-  pub charset_le : charset_len s ≤ length s
-  unfolding charset_len
-  charset_le = run_le not_question s
+pub charset_le : (s : List ℕ) → charset_len s ≤ length s
+unfolding charset_len
+charset_le s = run_le not_question s
 
 pub charset_within : (w s : List ℕ) (n k : ℕ) → s ≡ take k (drop 2 w) → n ≡ charset_len s → n ≤ length w
 charset_within w s n k e f = omega (arith, charset_le s, ap length e, length-take k (drop 2 w), length-drop 2 w)
@@ -339,7 +273,7 @@ module _ (w : List ℕ) {s : List ℕ} {n k : ℕ} (k_is : k ≡ min 2 (length w
   inner_is = let m : length w - k ≡ length w - 2 = omega arith in sym (rw m at s_is)
 
   pub not_parted : (a b : ℕ) (at : ℕ) (o : List ℕ) → at ≤ greatest → a ≡ get_or s n 0 → b ≡ get_or s (n + 2) 0 → eqb a 63 && eqb b 63 ≡ false
-      → (2 ≡ form_number w) × AppendedCapped (added w) at o o at
+      → (number_of (Err Malformed) ≡ form_number w) × AppendedCapped (added w) at o o at
   unfolding form_number added is_parted
   not_parted a b at o h p q e =
       let no : eqb (get_or s (charset_len s) 0) 63 && eqb (get_or s (charset_len s + 2) 0) 63 ≡ false = rw (← n_is, ← p, ← q) e in
@@ -366,15 +300,15 @@ module _ (w : List ℕ) {s : List ℕ} {n k : ℕ} (k_is : k ≡ min 2 (length w
     ok_is : text_ok (letter s) (standing s) ≡ ok
     ok_is = rw (letter_is, standing_is) (sym d.0)
 
-    pub text_bad : ok ≡ false → (2 ≡ form_number w) × AppendedCapped (added w) at o o' next
+    pub text_bad : ok ≡ false → (number_of (Err Malformed) ≡ form_number w) × AppendedCapped (added w) at o o' next
     unfolding form_number
     text_bad k = (rw (inner_is, is_parted_lem, ok_is, k) refl, added_is)
 
-    pub text_utf8 : {u : Bool} → ok ≡ true → u ≡ is_utf8_charset s → u ≡ true → (0 ≡ form_number w) × AppendedCapped (added w) at o o' next
+    pub text_utf8 : {u : Bool} → ok ≡ true → u ≡ is_utf8_charset s → u ≡ true → (number_of (Ok tt) ≡ form_number w) × AppendedCapped (added w) at o o' next
     unfolding form_number
     text_utf8 k v t = (rw (inner_is, is_parted_lem, ok_is, k, ← v, t) refl, added_is)
 
-    pub text_other : {u : Bool} → ok ≡ true → u ≡ is_utf8_charset s → u ≡ false → (3 ≡ form_number w) × AppendedCapped (added w) at o o' next
+    pub text_other : {u : Bool} → ok ≡ true → u ≡ is_utf8_charset s → u ≡ false → (number_of (Err Charset) ≡ form_number w) × AppendedCapped (added w) at o o' next
     unfolding form_number
     text_other k v t = (rw (inner_is, is_parted_lem, ok_is, k, ← v, t) refl, added_is)
 

@@ -6,19 +6,30 @@ mod q_text;
 
 ghost use Rattle.std.specs.Prelude.{◌≡◌};
 ghost use Rattle.buffer.specs.Buffer.{AppendedCapped};
-ghost use Rattle.word_reader.specs.Word.{is_word, charset_len, is_utf8_charset, text_ok, text_of, added, form_number};
+ghost use Rattle.word_reader.specs.Word.{is_word, not_question, charset_len, is_utf8_charset, text_ok, text_of, added, form_number};
+ghost use Rattle.word_reader.specs.WordFaults.{number_of};
+
+use byte_class::{Class, run_end};
 
 // What reading a text finds: whether it has no fault, and the place after the bytes that it adds.
+// Kept: a text with a fault adds bytes too, so that both are read whatever the flag says.
 #[derive(Clone, Copy)]
 pub(crate) struct Added {
     ok: bool,
     next: usize,
 }
 
-// What reading a word finds: 2 where it is malformed, 3 where it has another charset, else 0; and the place after the bytes that it adds.
-#[derive(Clone, Copy)]
+// Why a word has no text.
+#[derive(Clone, Copy, Debug, PartialEq, Eq)]
+pub enum WordFault {
+    Malformed,
+    Charset,
+}
+
+// What reading a word finds: whether it has a text, and the place after the bytes that it adds. A word with a fault may add some.
+#[derive(Clone, Copy, Debug, PartialEq, Eq)]
 pub struct WordRead {
-    pub number: u8,
+    pub form: Result<(), WordFault>,
     pub next: usize,
 }
 
@@ -34,18 +45,22 @@ pub fn is_word(w: &[u8]) -> bool
     (w[0] == 61) & (w[1] == 63) & (w[before] == 63) & (w[last] == 61)
 }
 
+struct NotQuestion;
+
+impl Class for NotQuestion {
+    ghost member = { not_question };
+
+    fn holds(b: u8) -> bool {
+        b != 63
+    }
+}
+
 // Where the charset ends: at the first `?`.
+#[tactic(auto, unfolding(crate::specs::Word::charset_len))]
 fn charset_len(s: &[u8]) -> usize
     ensures { result ≡ charset_len s.now }
 {
-    let mut i = 0;
-    while i < s.len() {
-        if s[i] == 63 {
-            return i;
-        }
-        i += 1;
-    }
-    i
+    run_end::<NotQuestion>(s, 0)
 }
 
 fn is_utf8_charset(s: &[u8]) -> bool
@@ -55,43 +70,44 @@ fn is_utf8_charset(s: &[u8]) -> bool
 }
 
 // Adds the bytes of a word's text, by the small letter of its encoding.
+#[tactic(auto, using(buffer::specs::BufferLaws::capped_none), unfolding(crate::specs::Word::text_ok, crate::specs::Word::text_of))]
 fn add_text(out: &mut [u8], at: usize, letter: u8, s: &[u8]) -> Added
     ensures { (result.ok ≡ text_ok letter s.now) × AppendedCapped (text_of letter s.now) at out.old out.new result.next }
 {
-    if letter == 113 {
-        return q_text::add(out, at, s);
-    }
-    if letter == 98 {
-        return base64_text::add(out, at, s);
-    }
-    Added {
-        ok: false,
-        next: at,
+    match letter {
+        b'q' => q_text::add(out, at, s),
+        b'b' => base64_text::add(out, at, s),
+        _ => Added {
+            ok: false,
+            next: at,
+        },
     }
 }
 
-// Adds the bytes of a word from a place on, as far as they fit. Where 2 is answered it may have added some.
+// Adds the bytes of a word from a place on, as far as they fit.
 pub fn add(out: &mut [u8], at: usize, w: &[u8]) -> WordRead
-    ensures { (result.number ≡ form_number w.now) × AppendedCapped (added w.now) at out.old out.new result.next }
+    ensures { (number_of result.form ≡ form_number w.now) × AppendedCapped (added w.now) at out.old out.new result.next }
 {
     let end = w.len() - buffer::clip(2, w.len());
     let s = line::part(w, 2, end);
     let n = charset_len(s);
     if !((line::byte_at(s, n) == 63) & (line::byte_at(s, n + 2) == 63)) {
         return WordRead {
-            number: 2,
+            form: Err(WordFault::Malformed),
             next: at,
         };
     }
     let letter = letter_case::lower(line::byte_at(s, n + 1));
-    let t = add_text(out, at, letter, line::part(s, n + 3, s.len()));
-    let ok = t.ok;
-    let next = t.next;
-    if !ok {
-        return WordRead { number: 2, next };
+    let text = add_text(out, at, letter, line::part(s, n + 3, s.len()));
+    let form = if !text.ok {
+        Err(WordFault::Malformed)
+    } else if is_utf8_charset(s) {
+        Ok(())
+    } else {
+        Err(WordFault::Charset)
+    };
+    WordRead {
+        form,
+        next: text.next,
     }
-    if is_utf8_charset(s) {
-        return WordRead { number: 0, next };
-    }
-    WordRead { number: 3, next }
 }

@@ -1,34 +1,29 @@
 // A text in Q: `_` adds the space, `=` and two hex digits a byte, any other byte itself.
-ghost use Rattle.std.specs.Prelude.{◌≡◌, ◌<◌, length};
+ghost use Rattle.std.specs.Prelude.{◌≡◌, ◌<◌, length, is_some};
+ghost use Rattle.std.specs.Option.{unwrap_or};
 ghost use Rattle.buffer.specs.Buffer.{AppendedCapped};
 ghost use Rattle.word_reader.specs.Word.{is_any_hex, any_hex, q_text, q_ok};
 ghost use Rattle.word_reader.specs.WordLaws.{UnitAt};
 
 use crate::Added;
 
-fn is_any_hex(b: u8) -> bool
-    ensures { result ≡ is_any_hex b }
+// The value of a hex digit in any case.
+#[tactic(auto, unfolding(crate::specs::Word::is_any_hex, crate::specs::Word::any_hex))]
+fn hex_value(b: u8) -> Option<u8>
+    ensures digit { is_some result ≡ is_any_hex b }
+    ensures value { unwrap_or result 0 ≡ any_hex b }
+    ensures small { unwrap_or result 0 < 16 }
 {
-    (48 <= b) & (b <= 57) | (65 <= b) & (b <= 70) | (97 <= b) & (b <= 102)
-}
-
-// The value of a hex digit in any case; of any other byte 0.
-fn any_hex(b: u8) -> u8
-    ensures { (result ≡ any_hex b) × (result < 16) }
-{
-    if (48 <= b) & (b <= 57) {
-        return b - 48;
+    match b {
+        b'0'..=b'9' => Some(b - b'0'),
+        b'A'..=b'F' => Some(b - b'A' + 10),
+        b'a'..=b'f' => Some(b - b'a' + 10),
+        _ => None,
     }
-    if (65 <= b) & (b <= 70) {
-        return b - 55;
-    }
-    if (97 <= b) & (b <= 102) {
-        return b - 87;
-    }
-    0
 }
 
 // A unit: the byte that it adds, whether it is no fault, and its size.
+// Kept: a unit with a fault adds its byte too, so that all three are read whatever the flag says.
 #[derive(Clone, Copy)]
 struct Unit {
     byte: u8,
@@ -42,11 +37,11 @@ fn unit_at(s: &[u8], i: usize) -> Unit
 {
     let b = s[i];
     if b == 61 {
-        let first = line::byte_at(s, i + 1);
-        let second = line::byte_at(s, i + 2);
+        let first = hex_value(line::byte_at(s, i + 1));
+        let second = hex_value(line::byte_at(s, i + 2));
         return Unit {
-            byte: any_hex(first) * 16 + any_hex(second),
-            ok: is_any_hex(first) & is_any_hex(second),
+            byte: first.unwrap_or(0) * 16 + second.unwrap_or(0),
+            ok: first.is_some() & second.is_some(),
             size: 3,
         };
     }
@@ -72,12 +67,9 @@ pub(crate) fn add(out: &mut [u8], at: usize, s: &[u8]) -> Added
     let mut i: usize = 0;
     while i < s.len() {
         let u = unit_at(s, i);
-        let good = u.ok;
-        let byte = u.byte;
-        let size = u.size;
-        ok = ok & good;
-        next = buffer::add_byte(out, next, byte);
-        i += size;
+        ok = ok & u.ok;
+        next = buffer::add_byte(out, next, u.byte);
+        i += u.size;
     }
     Added { ok, next }
 }

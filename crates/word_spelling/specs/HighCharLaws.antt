@@ -1,5 +1,5 @@
 -- The bytes of a character by its place, and characters of which no byte is ASCII.
-use Rattle.std.specs.Prelude.{◌≡◌, refl, Bool, true, not, cond, ◌&&◌, List, [], ◌∷◌, ◌++◌, ℕ, zero, suc, ◌+◌, ◌-◌, ◌*◌, ◌≤◌, ◌<◌, min, ltb, take, drop}
+use Rattle.std.specs.Prelude.{◌≡◌, refl, Bool, true, not, ◌&&◌, List, [], ◌∷◌, ◌++◌, ℕ, zero, suc, ◌+◌, ◌-◌, ◌*◌, ◌≤◌, ◌<◌, min, ltb, take, drop, Option, Some}
 use Rattle.std.proofs.Math.Path.{sym}
 use Rattle.std.proofs.Common.{ap, ◌∙◌, append-nil, not-suc-le-zero, add-one, arith, lt→ltb, le→leb, drop-cons, take-suc, get_or-take}
 use Rattle.std.proofs.Math.Bool.{false}
@@ -9,8 +9,8 @@ use Rattle.std.proofs.Math.ListN.{length, get_or, length-take, length-drop, get_
 use Rattle.std.proofs.Math.Seq.{get_or-drop}
 use Rattle.std.proofs.Math.Facts.{ltb_yes, ltb_no, yes_and}
 use borrow.Author.Tests.{leb-true, not-true, not-false}
-use Rattle.lists.specs.Lists.{all}
-use Rattle.lists.specs.ListsLaws.{by_test, cond_yes, cond_no, all_append, all_at_lem}
+use Rattle.lists.specs.Lists.{all, nonzero}
+use Rattle.lists.specs.ListsLaws.{some_nonzero, by_test, cond_yes, cond_no, all_append, all_at_lem}
 use Rattle.lists.specs.ByteLaws.{within_low, to_within}
 use Rattle.lists.specs.Byte.{within}
 use Rattle.utf8.specs.Utf8.{char_len}
@@ -86,6 +86,16 @@ module _ (s : List ℕ) (i : ℕ) where
 -- what code answers, by the definition and by what callers rely on
 abbrev pub Sized : List ℕ → ℕ → ℕ → Type 0
 Sized s i r = (r ≡ high_size s i) × HighChar s i r
+
+-- the same of a length as the option of one
+abbrev pub SizedAs : List ℕ → ℕ → Option ℕ → Type 0
+SizedAs s i o = (o ≡ nonzero (high_size s i)) × HighChar s i (high_size s i)
+
+pub as_option : {s : List ℕ} {i r : ℕ} → Sized s i r → SizedAs s i (nonzero r)
+as_option p = rw (← p.0) (refl, p.1)
+
+pub some_size : {s : List ℕ} {i n r : ℕ} {o : Option ℕ} → SizedAs s i o → o ≡ Some n → n ≡ r → HighChar s i r
+some_size {s} {i} {n} p e d = let same = (some_nonzero (high_size s i) n (sym p.0 ∙ e)).1 in rw (← same, d) at p.1
 
 no_and : (a b : Bool) → T (not b) → T (not (a && b))
 no_and true b t = t

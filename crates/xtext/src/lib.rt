@@ -1,10 +1,10 @@
 // xtext, and the address that an ALT-ADDRESS value stands for.
 #![tactic(auto)]
 
-ghost use Rattle.std.specs.Prelude.{◌≡◌, ◌<◌, length};
+ghost use Rattle.std.specs.Prelude.{◌≡◌, ◌<◌, length, is_ok};
 ghost use Rattle.buffer.specs.Buffer.{Wrote};
 ghost use Rattle.xtext.specs.Xtext.{is_xchar, is_xtext, decoded, is_alt_address};
-ghost use Rattle.xtext.specs.XtextLaws.{UnitAt};
+ghost use Rattle.xtext.specs.XtextLaws.{UnitFound, size_of};
 
 use address::is_ascii_address;
 
@@ -18,65 +18,51 @@ fn is_xchar(b: u8) -> bool
     (33 <= b) & (b <= 126) & !(b == b'+') & !(b == b'=')
 }
 
-// An xchar or a hexchar: its length, 0 where there is none, and the byte that it stands for.
-#[derive(Clone, Copy)]
-struct Unit {
-    pub size: usize,
-    pub byte: u8,
+// An xchar or a hexchar: its length, and the byte that it stands for.
+#[derive(Clone, Copy, Debug, PartialEq, Eq)]
+struct EncodedByte {
+    size: usize,
+    byte: u8,
 }
 
-fn unit_at(s: &[u8], at: usize) -> Unit
+// The xchar or hexchar at a place.
+fn unit_at(s: &[u8], at: usize) -> Option<EncodedByte>
     requires { at < length s.now }
-    ensures { UnitAt s.now at result.size result.byte }
+    ensures { UnitFound s.now at result }
 {
     let b = s[at];
     if is_xchar(b) {
-        return Unit { size: 1, byte: b };
+        return Some(EncodedByte { size: 1, byte: b });
     }
     if s.len() - at < 3 {
-        return Unit { size: 0, byte: 0 };
+        return None;
     }
     let high = hex_digit::value(s[at + 1]);
     let low = hex_digit::value(s[at + 2]);
     if !((b == b'+') & (high < 16) & (low < 16)) {
-        return Unit { size: 0, byte: 0 };
+        return None;
     }
-    Unit {
+    Some(EncodedByte {
         size: 3,
         byte: high * 16 + low,
-    }
+    })
 }
 
-// How many bytes a value decodes to, up to its fault, and whether it has none.
-#[derive(Clone, Copy)]
-struct Decoded {
-    pub size: usize,
-    pub whole: bool,
-}
-
-// Writes the decoded bytes of a value to the front of out, as far as they fit.
-fn decode(out: &mut [u8], value: &[u8]) -> Decoded
-    ensures { Wrote (decoded value.now) out.old out.new result.size × (result.whole ≡ is_xtext value.now) }
+// Writes the decoded bytes of a value to the front of out, as far as they fit. Answers how many they are: of xtext as Ok, of another
+// text, up to its fault, as Err.
+fn decode(out: &mut [u8], value: &[u8]) -> Result<usize, usize>
+    ensures { Wrote (decoded value.now) out.old out.new (size_of result) × (is_ok result ≡ is_xtext value.now) }
 {
     let mut n: usize = 0;
     let mut i = 0;
     while i < value.len() {
-        let u = unit_at(value, i);
-        let size = u.size;
-        let byte = u.byte;
-        if size == 0 {
-            return Decoded {
-                size: n,
-                whole: false,
-            };
-        }
-        n = buffer::add_byte(out, n, byte);
-        i += size;
+        let Some(unit) = unit_at(value, i) else {
+            return Err(n);
+        };
+        n = buffer::add_byte(out, n, unit.byte);
+        i += unit.size;
     }
-    Decoded {
-        size: n,
-        whole: true,
-    }
+    Ok(n)
 }
 
 // Writes the decoded bytes of a value to the front of out, as far as they fit; answers how many they are. What is not xtext is
@@ -84,8 +70,9 @@ fn decode(out: &mut [u8], value: &[u8]) -> Decoded
 pub fn put_decoded(out: &mut [u8], value: &[u8]) -> usize
     ensures { Wrote (decoded value.now) out.old out.new result }
 {
-    let d = decode(out, value);
-    d.size
+    match decode(out, value) {
+        Ok(n) | Err(n) => n,
+    }
 }
 
 // Whether a value is xtext of an ASCII address. The decoded bytes are tested.
@@ -96,10 +83,8 @@ pub fn is_alt_address(value: &[u8]) -> bool
         return false;
     }
     let mut bytes = [0u8; LIMIT];
-    let d = decode(&mut bytes, value);
-    let n = d.size;
-    if !d.whole {
+    let Ok(n) = decode(&mut bytes, value) else {
         return false;
-    }
+    };
     is_ascii_address(&bytes[..n])
 }

@@ -1,7 +1,6 @@
 use Rattle.address.specs.AddressLaws.{byte_within, byte_then_lem, byte_other}
 use mathlib.Core.Path.{sym, ◌∙◌}
 use native.Mathlib.Omega.{arith}
-use borrow.Author.Rules.{rules}
 use Rattle.address.proofs.at_domain.Goals as goal
 
 pub returns-then-byte_at-ne64 : goal.returns-then-byte_at-ne64

@@ -1,10 +1,9 @@
 use Rattle.address.specs.AddressLaws.{ascii_address}
 use mathlib.Core.Path.{sym, ◌∙◌}
-use borrow.Author.Rules.{rules}
 use Rattle.address.proofs.is_ascii_address.Goals as goal
 
-pub returns-in-To : goal.returns-in-To
-returns-in-To c = rw c.is_ascii.ensures (ascii_address _ _ (sym c.in-To.is ∙ c.address.ensures))
+pub returns-in-Ok : goal.returns-in-Ok
+returns-in-Ok c = rw c.is_ascii.ensures (ascii_address _ _ (sym c.in-Ok.is ∙ c.address.ensures))
 
-pub returns-in-Stop : goal.returns-in-Stop
-returns-in-Stop c = ascii_address _ _ (sym c.in-Stop.is ∙ c.address.ensures)
+pub returns-in-Err : goal.returns-in-Err
+returns-in-Err c = ascii_address _ _ (sym c.in-Err.is ∙ c.address.ensures)

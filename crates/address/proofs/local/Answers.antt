@@ -1,6 +1,5 @@
 use Rattle.address.specs.AddressLaws.{local_quoted, local_atoms}
 use mathlib.Core.Path.{sym, ◌∙◌}
-use borrow.Author.Rules.{rules}
 use Rattle.address.proofs.local.Goals as goal
 
 pub returns-then-byte_at-eq34 : goal.returns-then-byte_at-eq34

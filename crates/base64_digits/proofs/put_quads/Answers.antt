@@ -17,18 +17,9 @@ pub put_quad-fifth-requires : goal.put_quad-fifth-requires
 unfolding in_base64
 put_quad-fifth-requires c = search rules
 
-pub bounds-bytes-12 : goal.bounds-bytes-12
-bounds-bytes-12 c = omega (arith, c.requires.1)
-
-pub bounds-bytes-13 : goal.bounds-bytes-13
-bounds-bytes-13 c = omega (arith, c.requires.1)
-
-pub bounds-bytes-14 : goal.bounds-bytes-14
-bounds-bytes-14 c = omega (arith, c.requires.1)
-
 pub put_quad-requires : goal.put_quad-requires
 unfolding in_base64
-put_quad-requires c = (c.requires.0, omega (arith, c.requires.2, c.put_quad-fifth.ensures.place, c.put_quad-fourth.ensures.place, c.put_quad-third.ensures.place, c.put_quad-second.ensures.place, length_appended c.put_quad-fifth.ensures, length_appended c.put_quad-fourth.ensures, length_appended c.put_quad-third.ensures, length_appended c.put_quad-second.ensures))
+put_quad-requires c = omega (arith, c.requires, c.put_quad-fifth.ensures.place, c.put_quad-fourth.ensures.place, c.put_quad-third.ensures.place, c.put_quad-second.ensures.place, length_appended c.put_quad-fifth.ensures, length_appended c.put_quad-fourth.ensures, length_appended c.put_quad-third.ensures, length_appended c.put_quad-second.ensures)
 
 pub returns : goal.returns
-returns c = five_quads c.args.bytes.now c.requires.1 c.put_quad-second.ensures c.put_quad-third.ensures c.put_quad-fourth.ensures c.put_quad-fifth.ensures c.put_quad.ensures
+returns c = five_quads c.args.bytes.now (search rules) c.put_quad-second.ensures c.put_quad-third.ensures c.put_quad-fourth.ensures c.put_quad-fifth.ensures c.put_quad.ensures

@@ -1,5 +1,4 @@
 use Rattle.buffer.specs.BufferLaws.{added_by}
-use borrow.Author.Rules.{rules}
 use Rattle.buffer.proofs.add_slice.Goals as goal
 
 pub returns : goal.returns

@@ -1,7 +1,6 @@
 use Rattle.buffer.specs.BufferLaws.{wrote_from, wrote_empty, appended_byte}
 use mathlib.Core.Path.{refl}
 use native.Mathlib.Omega.{arith}
-use borrow.Author.Rules.{rules}
 use Rattle.buffer.proofs.put_byte.Goals as goal
 
 pub returns-then-out-gt0 : goal.returns-then-out-gt0

@@ -10,7 +10,7 @@ pub returns-then-header-gt32768 : goal.returns-then-header-gt32768
 returns-then-header-gt32768 c = refused_observed _ _ _ _ _ (header_over _ _ _ _ _ c.if-envelope-gt16384.false c.if-header-gt32768.true) c.refused-then-header-gt32768.ensures
 
 pub downgrade_checked-requires : goal.downgrade_checked-requires
-downgrade_checked-requires c = to_ready c.if-envelope-gt16384.false c.if-header-gt32768.false c.check.ensures c.in-Passed.is refl
+downgrade_checked-requires c = to_ready c.if-envelope-gt16384.false c.if-header-gt32768.false c.check.ensures c.in-Ok.is refl
 
-pub returns-in-Refused : goal.returns-in-Refused
-returns-in-Refused c = refused_observed _ _ _ _ _ (envelope_line_lem _ _ _ _ _ c.if-envelope-gt16384.false c.if-header-gt32768.false _ _ _ (sym c.check.ensures.answer ∙ c.in-Refused.is) c.of_fault-offset.ensures) c.refused-in-Refused.ensures
+pub returns-in-Err : goal.returns-in-Err
+returns-in-Err c = refused_observed _ _ _ _ _ (envelope_line_lem _ _ _ _ _ c.if-envelope-gt16384.false c.if-header-gt32768.false _ _ _ (sym c.check.ensures.answer ∙ c.in-Err.is) c.of_fault-offset.ensures) c.refused-in-Err.ensures

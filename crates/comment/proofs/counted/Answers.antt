@@ -1,9 +1,10 @@
-use Prim.Native.Nat.{◌-◌, ◌≤◌}
+use Prim.Native.Nat.{◌+◌, ◌-◌, ◌≤◌}
 use mathlib.Core.Logic.{⊎_elim}
 use mathlib.Core.Path.{◌≡◌, refl, sym, ◌∙◌}
 use lib.ListN.{length}
 use native.Mathlib.Omega.{arith}
 use borrow.Author.Rules.{rules}
+use Rattle.lists.specs.NonzeroLaws.{none_of, some_of}
 use Rattle.comment.specs.CommentLaws.{close_at}
 use Rattle.comment.proofs.CommentLaws.{close_end, run_unclosed, run_opens, run_closes, run_closes_last}
 use Rattle.comment.proofs.counted.Goals as goal
@@ -13,10 +14,10 @@ pub loop-i-init : goal.loop-i-init
 loop-i-init c = (refl, omega arith)
 
 pub returns-then-s-p : goal.returns-then-s-p
-returns-then-s-p c = sym (c.loop-i.invariant.0 ∙ run_unclosed _ _ _ _ c.run_end-p.ensures c.if-s-p.true)
+returns-then-s-p c = none_of (c.loop-i.invariant.0 ∙ run_unclosed _ _ _ _ c.run_end-p.ensures c.if-s-p.true)
 
 pub returns-then-deeper-eq0 : goal.returns-then-deeper-eq0
-returns-then-deeper-eq0 c = sym (c.loop-i.invariant.0 ∙ run_closes_last _ _ _ _ c.run_end-p.ensures c.if-s-p.false c.if-s-p-eq41.true c.if-deeper-eq0.true)
+returns-then-deeper-eq0 c = some_of (c.run_end-p.result + 1) (c.loop-i.invariant.0 ∙ run_closes_last _ _ _ _ c.run_end-p.ensures c.if-s-p.false c.if-s-p-eq41.true c.if-deeper-eq0.true) (λ z. omega arith)
 
 pub loop-i-preserved : goal.loop-i-preserved
 loop-i-preserved c = elim c.if-s-p-eq41.branch [
@@ -25,4 +26,4 @@ loop-i-preserved c = elim c.if-s-p-eq41.branch [
 ]
 
 pub returns : goal.returns
-returns c = sym (c.loop-i.invariant.0 ∙ close_end _ _ _ c.loop-i-test.false)
+returns c = none_of (c.loop-i.invariant.0 ∙ close_end _ _ _ c.loop-i-test.false)

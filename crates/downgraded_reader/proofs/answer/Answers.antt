@@ -3,4 +3,4 @@ use borrow.Author.Rules.{rules}
 use Rattle.downgraded_reader.proofs.answer.Goals as goal
 
 pub returns : goal.returns
-returns c = outcome_is _ _ _ c.read-r.ensures c.numbered.ensures
+returns c = outcome_is _ _ _ c.read-found.ensures c.numbered.ensures

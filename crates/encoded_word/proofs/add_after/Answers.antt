@@ -1,5 +1,4 @@
 use Rattle.buffer.specs.BufferLaws.{added_by}
-use borrow.Author.Rules.{rules}
 use Rattle.encoded_word.proofs.add_after.Goals as goal
 
 pub returns : goal.returns

@@ -1,7 +1,6 @@
 use Rattle.row.specs.Row.{bounded}
 use lib.Dec.{lit≤}
 use Rattle.row.proofs.RowLaws.{row_after_none}
-use borrow.Author.Rules.{rules}
 use Rattle.encoded_word.proofs.write.Goals as goal
 
 pub returns : goal.returns

@@ -1,7 +1,6 @@
 use Rattle.encoded_word.specs.WritingLaws.{row_written}
 use Rattle.row.proofs.RowLaws.{row_after_long, bounded_short}
 use Rattle.buffer.specs.BufferLaws.{wrote_empty, wrote_nothing}
-use borrow.Author.Rules.{rules}
 use Rattle.encoded_word.proofs.write_after.Goals as goal
 
 pub returns-then-out-eq0 : goal.returns-then-out-eq0

@@ -1,5 +1,4 @@
 use Rattle.field_text.specs.TextLaws.{fold_short, fold_here}
-use borrow.Author.Rules.{rules}
 use Rattle.field_text.proofs.fold_at.Goals as goal
 
 pub returns-then-s-i-lt3 : goal.returns-then-s-i-lt3

@@ -1,9 +1,5 @@
 use mathlib.Core.Path.{sym, ◌∙◌}
-use Prim.Native.Nat.{◌-◌}
-use native.Mathlib.Omega.{arith}
-use borrow.Author.Rules.{rules}
-use lib.ListN.{length}
-use Rattle.field_text.specs.TextLaws.{Unbroken, unbroken_none, unbroken_more, unbroken_run, piece_fold, piece_end}
+use Rattle.field_text.specs.TextLaws.{unbroken_none, unbroken_more, unbroken_run, piece_fold}
 use Rattle.field_text.proofs.next_fold.Goals as goal
 
 pub loop-i-init : goal.loop-i-init
@@ -12,11 +8,5 @@ loop-i-init c = unbroken_run (unbroken_none c.requires) c.next_cr-i.ensures
 pub returns-then-fold_at : goal.returns-then-fold_at
 returns-then-fold_at c = piece_fold c.loop-i.invariant (sym c.fold_at.ensures ∙ c.if-fold_at.true)
 
-pub loop-i-smaller : goal.loop-i-smaller
-loop-i-smaller c = omega (arith, c.next_cr-i-in-loop-i.ensures)
-
 pub loop-i-preserved : goal.loop-i-preserved
 loop-i-preserved c = unbroken_run (unbroken_more c.loop-i.invariant c.loop-i-test.true (sym c.fold_at.ensures ∙ c.if-fold_at.false)) c.next_cr-i-in-loop-i.ensures
-
-pub returns : goal.returns
-returns c = piece_end c.loop-i.invariant c.loop-i-test.false

@@ -1,9 +1,6 @@
-use mathlib.Core.Path.{sym, ◌∙◌}
 use Prim.Native.Nat.{◌-◌}
-use native.Mathlib.Omega.{arith}
-use borrow.Author.Rules.{rules}
 use lib.ListN.{length}
-use Rattle.field_text.specs.TextLaws.{Unbroken, unbroken_none, unbroken_more, unbroken_run, piece_fold, piece_end}
+use Rattle.field_text.specs.TextLaws.{Unbroken}
 use Rattle.field_text.proofs.next_fold.Given as goal
 
 abbrev pub invariant-loop-i : goal.invariant-loop-i

@@ -1,7 +1,6 @@
 use native.Mathlib.Omega.{arith}
 use Rattle.field_text.specs.TextLaws.{text_empty, text_value}
 use Rattle.header.specs.FieldLaws.{name_le}
-use borrow.Author.Rules.{rules}
 use Rattle.field_text.proofs.put.Goals as goal
 
 pub overflow_sub-field : goal.overflow_sub-field

@@ -1,7 +1,5 @@
-use Rattle.field_text.specs.TextLaws.{Unfolding, unfolding_start, unfolding_next, unfolding_end, length_unfolding}
+use Rattle.field_text.specs.TextLaws.{Unfolding}
 use lib.ListN.{length}
-use borrow.Author.Rules.{rules}
-use native.Mathlib.Omega.{arith}
 use Prim.Native.Nat.{◌-◌}
 use Rattle.field_text.proofs.put_unfolded.Given as goal
 

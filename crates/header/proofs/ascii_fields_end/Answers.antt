@@ -1,5 +1,4 @@
 use Rattle.header.specs.AsciiFieldsLaws.{ascii_rest, ascii_up_to}
-use borrow.Author.Rules.{rules}
 use Rattle.header.proofs.ascii_fields_end.Goals as goal
 
 pub returns-then-h-high : goal.returns-then-h-high

@@ -1,5 +1,4 @@
 use Rattle.header.specs.FieldLaws.{ends_not, ends_by}
-use borrow.Author.Rules.{rules}
 use Rattle.header.proofs.ends_at.Goals as goal
 
 pub returns-then-h-i-ne13 : goal.returns-then-h-i-ne13

@@ -1,23 +1,12 @@
-use mathlib.Core.Path.{◌≡◌, sym, ◌∙◌}
-use borrow.Author.Rules.{rules}
-use Prim.Native.Nat.{◌+◌, ◌-◌}
-use native.Mathlib.Omega.{arith}
-use lib.ListN.{length, drop}
+use mathlib.Core.Path.{sym, ◌∙◌}
 use Rattle.header.specs.FieldLaws.{field_run, field_stop, field_step, field_none}
-use Rattle.header.specs.Fields.{field_len}
 use Rattle.header.proofs.field_end.Goals as goal
-
-pub returns-then-h-at : goal.returns-then-h-at
-returns-then-h-at c = sym (field_none c.args.h.now c.args.at c.if-h-at.true)
 
 pub loop-i-init : goal.loop-i-init
 loop-i-init c = field_run _ _ _ c.next_cr-i.ensures
 
 pub returns-then-ends_at : goal.returns-then-ends_at
 returns-then-ends_at c = sym (c.loop-i.invariant ∙ field_stop _ _ c.loop-i-test.true (sym c.ends_at.ensures ∙ c.if-ends_at.true))
-
-pub loop-i-smaller : goal.loop-i-smaller
-loop-i-smaller c = omega (arith, c.next_cr-i-in-loop-i.ensures)
 
 pub loop-i-preserved : goal.loop-i-preserved
 loop-i-preserved c = c.loop-i.invariant ∙ field_step _ _ c.loop-i-test.true (sym c.ends_at.ensures ∙ c.if-ends_at.false) ∙ field_run _ _ _ c.next_cr-i-in-loop-i.ensures

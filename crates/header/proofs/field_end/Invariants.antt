@@ -1,9 +1,6 @@
-use mathlib.Core.Path.{◌≡◌, sym, ◌∙◌}
-use borrow.Author.Rules.{rules}
+use mathlib.Core.Path.{◌≡◌}
 use Prim.Native.Nat.{◌+◌, ◌-◌}
-use native.Mathlib.Omega.{arith}
 use lib.ListN.{length, drop}
-use Rattle.header.specs.FieldLaws.{field_run, field_stop, field_step, field_none}
 use Rattle.header.specs.Fields.{field_len}
 use Rattle.header.proofs.field_end.Given as goal
 

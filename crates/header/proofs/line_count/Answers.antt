@@ -1,17 +1,7 @@
 use mathlib.Core.Path.{sym, ◌∙◌}
-use borrow.Author.Rules.{rules}
-use Prim.Native.Nat.{◌-◌}
-use native.Mathlib.Omega.{arith}
-use lib.ListN.{length}
-use Rattle.header.specs.FieldLaws.{Counted, counted_none, counted_yes, counted_no, counted_end}
+use Rattle.header.specs.FieldLaws.{counted_yes, counted_no, counted_end}
 use Rattle.header.proofs.line_count.Goals as goal
 use Rattle.header.proofs.line_count.Goals.{then-crlf_at, else-crlf_at}
-
-pub loop-i-init : goal.loop-i-init
-loop-i-init c = counted_none _
-
-pub overflow_add-n : goal.overflow_add-n
-overflow_add-n c = omega (arith, c.loop-i.invariant.few)
 
 pub loop-i-preserved : goal.loop-i-preserved
 loop-i-preserved c = elim c.if-crlf_at.branch [

@@ -1,7 +1,6 @@
 use Rattle.header.specs.FieldLaws.{value_none, value_part, name_le}
 use native.Mathlib.Omega.{arith}
 use mathlib.Core.Path.{◌∙◌}
-use borrow.Author.Rules.{rules}
 use Rattle.header.proofs.value.Goals as goal
 
 pub overflow_add-n : goal.overflow_add-n

@@ -1,11 +1,6 @@
-use Rattle.header_line.specs.CleanLaws.{Lines, lines_all, lines_skip, line_inside, lines_bad, lines_next}
-use Rattle.header_line.specs.LineLaws.{left_end}
+use Rattle.header_line.specs.CleanLaws.{Lines}
 use lib.ListN.{length}
-use native.Mathlib.Omega.{arith}
 use Prim.Native.Nat.{◌+◌, ◌-◌}
-use mathlib.Core.Path.{sym, ◌∙◌}
-use borrow.Author.Tests.{not-true, not-false}
-use borrow.Author.Rules.{rules}
 use Rattle.header_line.proofs.check_clean.Given as goal
 
 abbrev pub invariant-loop-at : goal.invariant-loop-at

@@ -1,8 +1,6 @@
-use borrow.Author.Rules.{rules}
 use Prim.Native.Nat.{◌-◌}
-use native.Mathlib.Omega.{arith}
 use lib.ListN.{length}
-use Rattle.header_line.specs.LineLaws.{Left, left_all, left_end, left_bad, left_next}
+use Rattle.header_line.specs.LineLaws.{Left}
 use Rattle.header_line.proofs.check_slowly.Given as goal
 
 abbrev pub invariant-loop-at : goal.invariant-loop-at

@@ -1,7 +1,6 @@
 use mathlib.Core.Path.{sym, ◌∙◌, ap}
 use Rattle.line.specs.Line.{blank}
 use Rattle.header_line.specs.LineLaws.{start_blank, start_name}
-use borrow.Author.Rules.{rules}
 use Rattle.header_line.proofs.starts_well.Goals as goal
 
 pub returns-then-is_blank : goal.returns-then-is_blank

@@ -1,6 +1,5 @@
 use Rattle.header_line.specs.NameLaws.{stops_by}
 use native.Mathlib.Omega.{arith}
-use borrow.Author.Rules.{rules}
 use Rattle.header_line.proofs.stops8.Goals as goal
 
 pub returns : goal.returns

@@ -1,12 +1,6 @@
-use mathlib.Core.Path.{sym, ◌∙◌}
-use borrow.Author.Rules.{rules}
-use Prim.Native.Nat.{◌-◌}
-use native.Mathlib.Omega.{arith}
-use Rattle.header_name.specs.NameTableLaws.{row, Sought, sought_start, sought_found, sought_next, sought_end}
+use Rattle.std.proofs.Common.{◌≡◌, map, drop}
+use Rattle.header_name.specs.NameTable.{kind_in}
 use Rattle.header_name.proofs.kind_in.Given as goal
 
-abbrev pub invariant-loop-k : goal.invariant-loop-k
-invariant-loop-k l = Sought l.name l.k
-
-abbrev pub decreases-loop-k : goal.decreases-loop-k
-decreases-loop-k l = 32 - l.k
+abbrev pub invariant-loop-n : goal.invariant-loop-n
+invariant-loop-n l = kind_in (map (λ e. (e.0.now, e.1)) (drop l.n-index l.table)) l.name ≡ kind_in (map (λ e. (e.0.now, e.1)) l.table) l.name

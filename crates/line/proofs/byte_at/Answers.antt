@@ -1,7 +1,5 @@
-use mathlib.Core.Path.{sym}
-use lib.ListN.{get_or-eq_default}
-use borrow.Author.Rules.{rules}
+use Rattle.line.specs.LineLaws.{item_or}
 use Rattle.line.proofs.byte_at.Goals as goal
 
-pub returns-else-at-s : goal.returns-else-at-s
-returns-else-at-s c = sym (get_or-eq_default c.args.s.now 0 c.if-at-s.false)
+pub returns : goal.returns
+returns c = rw (c.unwrap_or.ensures, c.copied.ensures) (item_or c.args.s.now c.args.at c.get.result c.get.ensures.lookup)

@@ -1,9 +1,5 @@
 use mathlib.Core.Path.{sym}
-use mathlib.Core.Bool.{◌&&◌}
-use lib.Dec.{eqb}
-use lib.ListN.{get_or}
 use Rattle.line.specs.LineLaws.{crlf_at_lem, crlf_past}
-use borrow.Author.Rules.{rules}
 use Rattle.line.proofs.crlf_at.Goals as goal
 
 pub returns-then-s-at : goal.returns-then-s-at

@@ -1,5 +1,4 @@
 use Rattle.line.specs.CrLaws.{step_last, step_first}
-use borrow.Author.Rules.{rules}
 use Rattle.line.proofs.first_cr.Goals as goal
 
 pub returns-then-s-e : goal.returns-then-s-e

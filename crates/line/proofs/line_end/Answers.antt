@@ -1,11 +1,7 @@
 use native.Mathlib.Omega.{arith}
-use Prim.Native.Nat.{◌+◌, ◌-◌, ◌<◌}
-use mathlib.Core.Path.{◌≡◌, sym, ◌∙◌}
-use lib.ListN.{length, drop, get_or}
-use borrow.Author.Rules.{rules}
+use mathlib.Core.Path.{sym, ◌∙◌}
 use borrow.Author.Tests.{eq-eqb, ne_eqb}
 use Rattle.line.specs.LineLaws.{line_past, line_next_cr, cr_there, line_here, line_lone_cr}
-use Rattle.line.specs.Line.{line_len}
 use Rattle.line.proofs.line_end.Goals as goal
 
 pub returns-then-s-at : goal.returns-then-s-at

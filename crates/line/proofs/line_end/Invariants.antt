@@ -1,10 +1,6 @@
-use native.Mathlib.Omega.{arith}
 use Prim.Native.Nat.{◌+◌, ◌-◌, ◌<◌}
-use mathlib.Core.Path.{◌≡◌, sym, ◌∙◌}
+use mathlib.Core.Path.{◌≡◌}
 use lib.ListN.{length, drop, get_or}
-use borrow.Author.Rules.{rules}
-use borrow.Author.Tests.{eq-eqb, ne_eqb}
-use Rattle.line.specs.LineLaws.{line_past, line_next_cr, cr_there, line_here, line_lone_cr}
 use Rattle.line.specs.Line.{line_len}
 use Rattle.line.proofs.line_end.Given as goal
 

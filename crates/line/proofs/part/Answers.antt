@@ -1,5 +1,4 @@
 use Rattle.line.specs.LineLaws.{part_clipped}
-use borrow.Author.Rules.{rules}
 use Rattle.line.proofs.part.Goals as goal
 
 pub returns : goal.returns

@@ -4,7 +4,7 @@ use borrow.Author.Rules.{rules}
 use Rattle.outgoing_header.proofs.downgrade.Goals as goal
 
 pub fill-requires : goal.fill-requires
-fill-requires c = content_passes _ _ (sym c.of_content.ensures ∙ c.in-Passes.is)
+fill-requires c = content_passes _ _ (sym c.of_content.ensures ∙ c.in-Ok.is)
 
-pub returns-in-Fails : goal.returns-in-Fails
-returns-in-Fails c = refused_observed _ _ _ (content_refused _ _ _ (with_fails _ _ (sym c.of_content.ensures ∙ c.in-Fails.is))) c.refused.ensures
+pub returns-in-Err : goal.returns-in-Err
+returns-in-Err c = refused_observed _ _ _ (content_refused _ _ _ (with_fails _ _ (sym c.of_content.ensures ∙ c.in-Err.is))) c.refused.ensures

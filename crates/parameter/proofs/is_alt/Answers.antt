@@ -1,7 +1,6 @@
 use Rattle.parameter.specs.ParameterLaws.{named}
 use Rattle.parameter.specs.Parameter.{is_alt}
 use Rattle.letter_case.specs.LetterCase.{bytes}
-use borrow.Author.Rules.{rules}
 use Rattle.parameter.proofs.is_alt.Goals as goal
 
 pub returns : goal.returns

@@ -1,7 +1,6 @@
 use Rattle.parameter.specs.ParameterLaws.{value_part, orcpt_other, orcpt_value}
 use borrow.Author.Tests.{not-true, not-false}
 use mathlib.Core.Path.{sym, ◌∙◌}
-use borrow.Author.Rules.{rules}
 use Rattle.parameter.proofs.is_orcpt_clean.Goals as goal
 
 pub returns-then-not-is_orcpt : goal.returns-then-not-is_orcpt

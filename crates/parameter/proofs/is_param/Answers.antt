@@ -1,6 +1,5 @@
 use Rattle.parameter.specs.ParameterLaws.{keyword_le, param_empty, param_hyphen, param_bare, param_unequal, param_no_value, param_value}
 use native.Mathlib.Omega.{arith}
-use borrow.Author.Rules.{rules}
 use Rattle.parameter.proofs.is_param.Goals as goal
 
 pub returns-then-k-eq0 : goal.returns-then-k-eq0

@@ -1,6 +1,5 @@
 use Rattle.parameter.specs.ParameterLaws.{value_from}
 use native.Mathlib.Omega.{arith}
-use borrow.Author.Rules.{rules}
 use Rattle.parameter.proofs.value_start.Goals as goal
 
 pub returns : goal.returns

@@ -1,7 +1,6 @@
 use Rattle.row_length.specs.LengthLaws.{begins_none, begins_empty, begins_word}
 use Rattle.word_choice.specs.EndInQLaws.{word_at_small}
 use native.Mathlib.Omega.{arith}
-use borrow.Author.Rules.{rules}
 use Rattle.row_length.proofs.first_line.Goals as goal
 
 pub returns-then-column-ge63 : goal.returns-then-column-ge63

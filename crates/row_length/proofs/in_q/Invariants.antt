@@ -1,9 +1,6 @@
-use Rattle.word_choice.specs.EndInQLaws.{SoFarInQ, q_start, q_on, q_full, q_end}
-use borrow.Author.Rules.{rules}
-use native.Mathlib.Omega.{arith}
+use Rattle.word_choice.specs.EndInQLaws.{SoFarInQ}
 use lib.ListN.{length}
 use Prim.Native.Nat.{◌-◌}
-use mathlib.Core.Path.{refl}
 use Rattle.row_length.proofs.in_q.Given as goal
 
 abbrev pub invariant-loop-e : goal.invariant-loop-e

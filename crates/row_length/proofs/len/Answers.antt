@@ -2,7 +2,6 @@ use mathlib.Core.Path.{ap, ◌∙◌}
 use lib.ListN.{length}
 use lib.Dec.{lit≤}
 use Rattle.row.proofs.RowLaws.{row_after_none}
-use borrow.Author.Rules.{rules}
 use Rattle.row_length.proofs.len.Goals as goal
 
 pub returns : goal.returns

@@ -1,34 +1,19 @@
 use Rattle.row_length.specs.LengthLaws.{measured_on, measured_more, measured_within, measured_all}
 use Rattle.word_choice.specs.EndInQLaws.{word_at_small}
 use Rattle.row.proofs.RowLaws.{bounded_short, row_after_long}
-use Rattle.row.specs.Row.{row, row_after}
-use borrow.Author.Rules.{rules}
 use native.Mathlib.Omega.{arith}
-use lib.ListN.{length, drop}
-use Prim.Native.Nat.{◌+◌, ◌-◌, ◌*◌, ◌≤◌}
-use mathlib.Core.Path.{◌≡◌, refl, sym, ap, ◌∙◌}
+use lib.ListN.{length}
+use mathlib.Core.Path.{sym, ap}
 use Rattle.row_length.proofs.len_after.Goals as goal
 
 pub returns-then-text-gt-LIMIT : goal.returns-then-text-gt-LIMIT
 returns-then-text-gt-LIMIT c = sym (ap length (row_after_long _ _ c.if-text-gt-LIMIT.true))
-
-pub first_line-begun-requires : goal.first_line-begun-requires
-first_line-begun-requires c = c.first_chars-first.ensures
-
-pub loop-i-init : goal.loop-i-init
-loop-i-init c = (c.first_line-begun.ensures.within, c.first_line-begun.ensures.small, c.first_line-begun.ensures.size)
-
-pub word_at-w-requires : goal.word_at-w-requires
-word_at-w-requires c = (c.first_chars-first.ensures, omega arith)
 
 pub overflow_add-n : goal.overflow_add-n
 overflow_add-n c = omega (arith, word_at_small c.word_at-w.ensures)
 
 pub overflow_add-n-in-loop-i : goal.overflow_add-n-in-loop-i
 overflow_add-n-in-loop-i c = omega (arith, word_at_small c.word_at-w.ensures, c.loop-i.invariant.1)
-
-pub overflow_add-i : goal.overflow_add-i
-overflow_add-i c = omega (arith, measured_within c.args.text.now c.loop-i.i c.loop-i-test.true c.word_at-w.ensures)
 
 pub loop-i-smaller : goal.loop-i-smaller
 loop-i-smaller c = omega (arith, measured_within c.args.text.now c.loop-i.i c.loop-i-test.true c.word_at-w.ensures, measured_more c.args.text.now c.loop-i.i c.loop-i-test.true c.word_at-w.ensures)

@@ -1,12 +1,7 @@
-use Rattle.row_length.specs.LengthLaws.{measured_on, measured_more, measured_within, measured_all}
-use Rattle.word_choice.specs.EndInQLaws.{word_at_small}
-use Rattle.row.proofs.RowLaws.{bounded_short, row_after_long}
 use Rattle.row.specs.Row.{row, row_after}
-use borrow.Author.Rules.{rules}
-use native.Mathlib.Omega.{arith}
 use lib.ListN.{length, drop}
 use Prim.Native.Nat.{◌+◌, ◌-◌, ◌*◌, ◌≤◌}
-use mathlib.Core.Path.{◌≡◌, refl, sym, ap, ◌∙◌}
+use mathlib.Core.Path.{◌≡◌}
 use Rattle.row_length.proofs.len_after.Given as goal
 
 abbrev pub invariant-loop-i : goal.invariant-loop-i

@@ -1,20 +1,23 @@
-use Rattle.utf8.specs.WindowLaws.{Clear, clear_none, clear_block, block_fails, block_last}
+use Rattle.std.proofs.Common.{◌-◌, length, arith, sym, ◌∙◌, refl}
+use Rattle.std.proofs.lemmas.List.{take_rest}
 use Rattle.utf8.specs.Window.{placed, window_at}
-use native.Mathlib.Omega.{arith}
-use Prim.Native.Nat.{◌-◌, ◌≤◌, ◌+◌}
-use mathlib.Core.Path.{sym, ◌∙◌}
-use borrow.Author.Tests.{not-true, not-false}
-use borrow.Author.Rules.{rules}
+use Rattle.utf8.specs.WindowLaws.{passed_none, passed_part, passed_more, passed_last, block_fails}
 use Rattle.utf8.proofs.blocks_placed.Goals as goal
 
-pub loop-at-init : goal.loop-at-init
-loop-at-init c = (omega arith, clear_none)
+pub loop-block-init : goal.loop-block-init
+loop-block-init c = passed_none
 
-pub returns-then-not-placed32 : goal.returns-then-not-placed32
-returns-then-not-placed32 c = block_fails (window_at placed c.args.s.now) c.loop-at.at 32 _ (omega arith) (sym c.placed32.ensures ∙ not-true _ c.if-not-placed32.true-raw)
+pub returns-then-not-all_windows : goal.returns-then-not-all_windows
+returns-then-not-all_windows c =
+    let h = c.in-Some.ensures.cases in
+    let g = c.loop-block.invariant in
+    block_fails (window_at placed c.args.s.now) (length c.args.s.now - length c.loop-block.rest.now) 32 _ (omega (arith, g.few, h.enough))
+    (sym (passed_part g 32 h.enough h.same) ∙ sym c.all_windows.ensures ∙ c.if-not-all_windows.true)
 
-pub loop-at-preserved : goal.loop-at-preserved
-loop-at-preserved c = (omega arith, clear_block 32 c.loop-at.invariant.1 (sym c.placed32.ensures ∙ not-false _ c.if-not-placed32.false-raw))
+pub loop-block-preserved : goal.loop-block-preserved
+loop-block-preserved c =
+    let h = c.in-Some.ensures.cases in
+    passed_more c.loop-block.invariant 32 h.enough h.same (take_rest c.loop-block.rest.now 32) (sym c.all_windows.ensures ∙ c.if-not-all_windows.false)
 
 pub returns : goal.returns
-returns c = block_last _ 32 _ _ c.loop-at-test.false (omega arith) c.loop-at.invariant.1 c.placed32-2.ensures
+returns c = passed_last c.loop-block.invariant 32 c.requires c.in_default.ensures.cases refl c.all_windows-2.ensures

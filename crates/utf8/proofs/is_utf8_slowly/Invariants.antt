@@ -1,13 +1,7 @@
-use Rattle.utf8.specs.Utf8AtLaws.{char_at_within, utf8_run, utf8_step, utf8_stop, utf8_end}
-use Rattle.utf8.specs.Utf8.{utf8, ascii_run}
-use Rattle.lists.specs.RunLaws.{run_step}
-use Rattle.lists.specs.Byte.{is_ascii}
-use borrow.Author.Tests.{lt-ltb}
-use lib.ListN.{length, length-drop, drop}
-use mathlib.Core.Path.{◌≡◌, refl, sym, ◌∙◌}
+use Rattle.utf8.specs.Utf8.{utf8}
+use lib.ListN.{length, drop}
+use mathlib.Core.Path.{◌≡◌}
 use Prim.Native.Nat.{◌-◌}
-use native.Mathlib.Omega.{arith}
-use borrow.Author.Rules.{rules}
 use Rattle.utf8.proofs.is_utf8_slowly.Given as goal
 
 abbrev pub invariant-loop-i : goal.invariant-loop-i

@@ -1,6 +1,5 @@
 use Rattle.utf8.specs.Window.{whole}
 use mathlib.Core.Path.{refl}
-use borrow.Author.Rules.{rules}
 use Rattle.utf8.proofs.is_whole.Goals as goal
 
 pub returns : goal.returns

@@ -1,14 +1,6 @@
 use Rattle.word_choice.specs.ChoiceLaws.{full_end, full_stop, span_on, char_more}
-use Rattle.row.proofs.WordEndLaws.{span_none}
-use Rattle.row.specs.WordEnd.{Span}
-use borrow.Author.Rules.{rules}
 use native.Mathlib.Omega.{arith}
-use lib.ListN.{length}
-use Prim.Native.Nat.{ℕ, ◌-◌, ◌≤◌}
 use Rattle.word_choice.proofs.b_end.Goals as goal
-
-pub loop-e-init : goal.loop-e-init
-loop-e-init c = (span_none _ _ (omega arith), omega arith)
 
 pub returns-then-limit-next : goal.returns-then-limit-next
 returns-then-limit-next c = full_stop c.loop-e.invariant.0 _ c.loop-e-test.true c.char_end-next.ensures _ c.loop-e.invariant.1 c.if-limit-next.true

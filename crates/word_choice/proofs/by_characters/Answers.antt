@@ -1,6 +1,5 @@
 use Rattle.word_choice.specs.ChoiceLaws.{also_full, word_in_b}
 use native.Mathlib.Omega.{arith}
-use borrow.Author.Rules.{rules}
 use Rattle.word_choice.proofs.by_characters.Goals as goal
 
 pub returns-then-costs-room : goal.returns-then-costs-room

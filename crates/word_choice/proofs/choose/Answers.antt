@@ -1,5 +1,4 @@
 use Rattle.word_choice.specs.ChoiceOfLaws.{chosen_both}
-use borrow.Author.Rules.{rules}
 use Rattle.word_choice.proofs.choose.Goals as goal
 
 pub returns-then-text-room : goal.returns-then-text-room

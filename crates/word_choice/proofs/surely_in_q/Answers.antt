@@ -3,7 +3,6 @@ use Rattle.word_choice.specs.BlockLaws.{untrue}
 use borrow.Author.Tests.{leb-true}
 use Prim.Native.Nat.{◌+◌, ◌*◌, ◌/◌}
 use native.Mathlib.Omega.{arith}
-use borrow.Author.Rules.{rules}
 use Rattle.word_choice.proofs.surely_in_q.Goals as goal
 
 pub returns-then-text-lt48 : goal.returns-then-text-lt48

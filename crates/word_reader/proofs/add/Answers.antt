@@ -3,14 +3,13 @@ use Prim.Native.Nat.{◌-◌}
 use lib.ListN.{length}
 use borrow.Author.Tests.{not-true, not-false}
 use native.Mathlib.Omega.{arith}
-use borrow.Author.Rules.{rules}
 use Rattle.word_reader.proofs.add.Goals as goal
 
 pub overflow_add-n : goal.overflow_add-n
 overflow_add-n c = omega (arith, charset_within c.args.w.now _ _ (length c.args.w.now - c.clip.result - 2) c.part-s.ensures c.charset_len-n.ensures)
 
 pub returns-then-not-byte_at : goal.returns-then-not-byte_at
-returns-then-not-byte_at c = not_parted _ c.clip.ensures c.part-s.ensures c.charset_len-n.ensures _ _ _ _ (omega arith) c.byte_at.ensures c.byte_at-2.ensures (not-true _ c.if-not-byte_at.true-raw)
+returns-then-not-byte_at c = not_parted _ c.clip.ensures c.part-s.ensures c.charset_len-n.ensures _ _ _ _ (omega arith) c.byte_at.ensures c.byte_at-2.ensures c.if-not-byte_at.true
 
 pub overflow_add-n-2 : goal.overflow_add-n-2
 overflow_add-n-2 c = omega (arith, charset_within c.args.w.now _ _ (length c.args.w.now - c.clip.result - 2) c.part-s.ensures c.charset_len-n.ensures)
@@ -18,11 +17,11 @@ overflow_add-n-2 c = omega (arith, charset_within c.args.w.now _ _ (length c.arg
 pub overflow_add-n-3 : goal.overflow_add-n-3
 overflow_add-n-3 c = omega (arith, charset_within c.args.w.now _ _ (length c.args.w.now - c.clip.result - 2) c.part-s.ensures c.charset_len-n.ensures)
 
-pub returns-then-not-ok : goal.returns-then-not-ok
-returns-then-not-ok c = text_bad _ c.clip.ensures c.part-s.ensures c.charset_len-n.ensures c.byte_at.ensures c.byte_at-2.ensures (not-false _ c.if-not-byte_at.false-raw) c.byte_at-3.ensures c.lower-letter.ensures c.part.ensures c.add_text-t.ensures (not-true _ c.if-not-ok.true-raw)
+pub returns-then-not-text : goal.returns-then-not-text
+returns-then-not-text c = text_bad _ c.clip.ensures c.part-s.ensures c.charset_len-n.ensures c.byte_at.ensures c.byte_at-2.ensures c.if-not-byte_at.false c.byte_at-3.ensures c.lower-letter.ensures c.part.ensures c.add_text-text.ensures (not-true _ c.if-not-text.true)
 
 pub returns-then-is_utf8_charset : goal.returns-then-is_utf8_charset
-returns-then-is_utf8_charset c = text_utf8 _ c.clip.ensures c.part-s.ensures c.charset_len-n.ensures c.byte_at.ensures c.byte_at-2.ensures (not-false _ c.if-not-byte_at.false-raw) c.byte_at-3.ensures c.lower-letter.ensures c.part.ensures c.add_text-t.ensures (not-false _ c.if-not-ok.false-raw) c.is_utf8_charset.ensures c.if-is_utf8_charset.true
+returns-then-is_utf8_charset c = text_utf8 _ c.clip.ensures c.part-s.ensures c.charset_len-n.ensures c.byte_at.ensures c.byte_at-2.ensures c.if-not-byte_at.false c.byte_at-3.ensures c.lower-letter.ensures c.part.ensures c.add_text-text.ensures (not-false _ c.if-not-text.false) c.is_utf8_charset.ensures c.if-is_utf8_charset.true
 
-pub returns : goal.returns
-returns c = text_other _ c.clip.ensures c.part-s.ensures c.charset_len-n.ensures c.byte_at.ensures c.byte_at-2.ensures (not-false _ c.if-not-byte_at.false-raw) c.byte_at-3.ensures c.lower-letter.ensures c.part.ensures c.add_text-t.ensures (not-false _ c.if-not-ok.false-raw) c.is_utf8_charset.ensures c.if-is_utf8_charset.false
+pub returns-else-is_utf8_charset : goal.returns-else-is_utf8_charset
+returns-else-is_utf8_charset c = text_other _ c.clip.ensures c.part-s.ensures c.charset_len-n.ensures c.byte_at.ensures c.byte_at-2.ensures c.if-not-byte_at.false c.byte_at-3.ensures c.lower-letter.ensures c.part.ensures c.add_text-text.ensures (not-false _ c.if-not-text.false) c.is_utf8_charset.ensures c.if-is_utf8_charset.false

@@ -2,7 +2,6 @@ use Rattle.word_spelling.specs.FirstChars.{cost_in}
 use borrow.Author.Tests.{ne_eqb}
 use mathlib.Core.Path.{refl}
 use lib.Dec.{lit≤}
-use borrow.Author.Rules.{rules}
 use Rattle.word_spelling.proofs.byte_cost.Goals as goal
 
 pub returns-then-first_char-eq61 : goal.returns-then-first_char-eq61

@@ -1,18 +1,8 @@
 use Rattle.word_spelling.specs.FirstCharsLaws.{costs_next, costs_end}
-use Rattle.word_spelling.specs.FirstChars.{costs_in}
 use Rattle.utf8.specs.Utf8Laws.{char_len_le}
-use borrow.Author.Rules.{rules}
 use native.Mathlib.Omega.{arith}
-use Prim.Native.Nat.{◌+◌, ◌-◌, ◌*◌, ◌≤◌}
-use lib.ListN.{take, drop, get_or}
-use mathlib.Core.Path.{◌≡◌}
+use lib.ListN.{get_or}
 use Rattle.word_spelling.proofs.char_cost.Goals as goal
-
-pub loop-j-init : goal.loop-j-init
-loop-j-init c = (omega arith, omega arith, omega arith, omega arith)
-
-pub bounds-s-j : goal.bounds-s-j
-bounds-s-j c = omega (arith, c.char_end-end.ensures)
 
 pub loop-j-preserved : goal.loop-j-preserved
 loop-j-preserved c = let i = c.args.i in

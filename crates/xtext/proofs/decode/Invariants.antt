@@ -1,8 +1,6 @@
-use Rattle.xtext.proofs.XtextLaws.{DecodedTo, decoded_none, decoded_more, decoded_fault, decoded_whole, length_decoded}
+use Rattle.xtext.proofs.XtextLaws.{DecodedTo}
 use lib.ListN.{length}
 use Prim.Native.Nat.{◌-◌}
-use borrow.Author.Rules.{rules}
-use native.Mathlib.Omega.{arith}
 use Rattle.xtext.proofs.decode.Given as goal
 
 abbrev pub invariant-loop-i : goal.invariant-loop-i

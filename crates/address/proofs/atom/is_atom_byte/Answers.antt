@@ -1,5 +1,4 @@
 use Rattle.address.specs.AtomBits.{by_bits, by_bits_lem}
-use native.Mathlib.Omega.{arith}
 use borrow.Author.Rules.{rules}
 use Rattle.address.proofs.atom.is_atom_byte.Goals as goal
 

@@ -1,7 +1,6 @@
 use Rattle.address.specs.AddressLaws.{byte_within, domain_literal, domain_atoms}
 use mathlib.Core.Path.{sym, ◌∙◌}
 use native.Mathlib.Omega.{arith}
-use borrow.Author.Rules.{rules}
 use Rattle.address.proofs.domain.domain.Goals as goal
 
 pub overflow_add-at : goal.overflow_add-at

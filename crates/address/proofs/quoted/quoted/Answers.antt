@@ -2,7 +2,6 @@ use Rattle.address.specs.AddressLaws.{byte_within, byte_then_lem, byte_other}
 use Rattle.address.specs.Address.{quoted_scan}
 use mathlib.Core.Path.{sym, ◌∙◌}
 use native.Mathlib.Omega.{arith}
-use borrow.Author.Rules.{rules}
 use Rattle.address.proofs.quoted.quoted.Goals as goal
 
 pub returns-then-byte_at-ne34 : goal.returns-then-byte_at-ne34

@@ -4,17 +4,16 @@ use Rattle.encoded_word.specs.Segments.{rendered}
 use Rattle.rules.specs.Rules.{removal_start}
 use Rattle.letter_case.specs.LetterCase.{bytes}
 use Rattle.buffer.specs.BufferLaws.{wrote_nothing}
-use mathlib.Core.Path.{sym}
-use borrow.Author.Rules.{rules}
+use mathlib.Core.List.{[], ◌∷◌}
+use mathlib.Core.Logic.{⊎_elim}
+use mathlib.Core.Path.{◌≡◌, sym}
 use Rattle.address_pieces.proofs.address_piece.put_removal_start.Goals as goal
 
 pub returns-in-Spool : goal.returns-in-Spool
 unfolding removal_start bytes
-returns-in-Spool c = rw c.in-Spool.is (wrote_same (sym (rendered_one (piece (bytes "Internationalized Address")))) c.put_piece.ensures)
-
-pub returns-in-Current : goal.returns-in-Current
-unfolding removal_start bytes
-returns-in-Current c = rw c.in-Current.is (wrote_same (sym (rendered_one (piece (bytes "Internationalized Address")))) c.put_piece-in-Current.ensures)
+returns-in-Spool c =
+    let same : removal_start c.args.rules ≡ bytes "Internationalized Address" ∷ [] = ⊎_elim (λ e. rw e) (λ e. rw e) c.in-Spool.is in
+    rw same (wrote_same (sym (rendered_one (piece (bytes "Internationalized Address")))) c.put_piece.ensures)
 
 pub returns-in-Mailbox : goal.returns-in-Mailbox
 unfolding removal_start rendered

@@ -7,6 +7,7 @@ use Rattle.encoded_word.specs.Segments.Segment.{raw}
 use Rattle.buffer.specs.BufferLaws.{wrote_nothing}
 use native.Mathlib.Omega.{arith}
 use mathlib.Core.List.{[], ◌∷◌}
+use mathlib.Core.Logic.{⊎_elim}
 use mathlib.Core.Path.{sym}
 use borrow.Author.Rules.{rules}
 use Rattle.address_pieces.proofs.part.put_part.Goals as goal
@@ -14,11 +15,11 @@ use Rattle.address_pieces.proofs.part.put_part.Goals as goal
 pub overflow_add-end : goal.overflow_add-end
 overflow_add-end c = omega (arith, rw c.in-Angled.is at c.requires.1.1)
 
-pub slice_bounds-put_angled-end : goal.slice_bounds-put_angled-end
-slice_bounds-put_angled-end c = omega (arith, rw c.in-Angled.is at c.requires.1.1)
+pub slice_bounds-put_address-end : goal.slice_bounds-put_address-end
+slice_bounds-put_address-end c = omega (arith, rw c.in-Angled.is at c.requires.1.1)
 
-pub put_angled-requires : goal.put_angled-requires
-put_angled-requires c = omega (arith, rw c.in-Angled.is at c.requires.1.1, c.requires.0)
+pub put_address-requires-in-Angled : goal.put_address-requires-in-Angled
+put_address-requires-in-Angled c = omega (arith, rw c.in-Angled.is at c.requires.1.1, c.requires.0)
 
 pub overflow_add-end-in-Alternative : goal.overflow_add-end-in-Alternative
 overflow_add-end-in-Alternative c = omega (arith, rw c.in-Alternative.is at c.requires.1.1)
@@ -31,7 +32,7 @@ put_in_angles-requires c = omega (arith, rw c.in-Alternative.is at c.requires.1.
 
 pub returns-in-Blank : goal.returns-in-Blank
 unfolding pieces rendered
-returns-in-Blank c = rw c.in-Blank.is (wrote_nothing _)
+returns-in-Blank c = ⊎_elim (λ e. rw e (wrote_nothing _)) (λ e. rw e (wrote_nothing _)) c.in-Blank.is
 
 pub returns-in-Comment : goal.returns-in-Comment
 unfolding pieces
@@ -55,14 +56,10 @@ returns-in-Phrase c = rw c.in-Phrase.is c.put_phrase.ensures
 
 pub returns-in-Address : goal.returns-in-Address
 unfolding pieces
-returns-in-Address c = rw c.in-Address.is c.put_bare.ensures
+returns-in-Address c = rw c.in-Address.is c.put_address.ensures
 
 pub returns-in-Angled : goal.returns-in-Angled
-returns-in-Angled c = rw c.in-Angled.is (wrote_same (pieces_angled _ _ _ _) c.put_angled.ensures)
+returns-in-Angled c = rw c.in-Angled.is (wrote_same (pieces_angled _ _ _ _) c.put_address-in-Angled.ensures)
 
 pub returns-in-Alternative : goal.returns-in-Alternative
 returns-in-Alternative c = rw c.in-Alternative.is (wrote_same (pieces_alternative _ _ _ _) c.put_in_angles.ensures)
-
-pub returns-in-Stray : goal.returns-in-Stray
-unfolding pieces rendered
-returns-in-Stray c = rw c.in-Stray.is (wrote_nothing _)

@@ -24,14 +24,14 @@ slice_bounds-put_turn-count c = omega (arith, c.clip-a.ensures)
 pub slice_bounds-put_turn-start : goal.slice_bounds-put_turn-start
 slice_bounds-put_turn-start c = omega (arith, c.clip-a.ensures)
 
-pub slice_bounds-put_turn-count-in-loop-i : goal.slice_bounds-put_turn-count-in-loop-i
-slice_bounds-put_turn-count-in-loop-i c = (c.next_from-turn.ensures.1.there c.loop-i-test.true).ordered
+pub slice_bounds-t-count : goal.slice_bounds-t-count
+slice_bounds-t-count c = (c.next_from-turn.ensures.1.there c.loop-i-test.true).ordered
 
-pub slice_bounds-put_turn-start-in-loop-i : goal.slice_bounds-put_turn-start-in-loop-i
-slice_bounds-put_turn-start-in-loop-i c = (c.next_from-turn.ensures.1.there c.loop-i-test.true).ordered
+pub slice_bounds-t-start : goal.slice_bounds-t-start
+slice_bounds-t-start c = (c.next_from-turn.ensures.1.there c.loop-i-test.true).ordered
 
-pub slice_bounds-put_turn-end-in-loop-i : goal.slice_bounds-put_turn-end-in-loop-i
-slice_bounds-put_turn-end-in-loop-i c = let w = c.next_from-turn.ensures.1.there c.loop-i-test.true in omega (arith, w.covers, w.within)
+pub slice_bounds-t-end : goal.slice_bounds-t-end
+slice_bounds-t-end c = let w = c.next_from-turn.ensures.1.there c.loop-i-test.true in omega (arith, w.covers, w.within)
 
 pub put_turn-requires : goal.put_turn-requires
 put_turn-requires c = turn_fits (c.next_from-turn.ensures.1.there c.loop-i-test.true) _ c.requires.0 (omega (arith, c.loop-i.invariant.1, c.requires.1))

@@ -1,13 +1,8 @@
-use Rattle.call.specs.Outcome.{first_of, of_header}
-use Rattle.call.specs.OutcomeLaws.{with_most}
-use mathlib.Core.Path.{◌∙◌}
-use borrow.Author.Rules.{rules}
+use Rattle.call.proofs.OutcomeLaws.{line_content, past_lines}
 use Rattle.call.proofs.refusals.of_content.Goals as goal
 
-pub returns-in-Accept : goal.returns-in-Accept
-unfolding first_of of_header
-returns-in-Accept c = c.non_ascii.ensures ∙ rw (← c.of_lines.ensures, c.in-Accept.is)
+pub returns-in_err-of_lines : goal.returns-in_err-of_lines
+returns-in_err-of_lines c = line_content _ _ _ _ c.of_lines.ensures c.in_err-of_lines.was c.from_residual.ensures.1
 
-pub returns-in-Refuse : goal.returns-in-Refuse
-unfolding first_of of_header with_most
-returns-in-Refuse c = rw (← c.of_lines.ensures, c.in-Refuse.is)
+pub returns : goal.returns
+returns c = past_lines _ _ _ c.of_lines.ensures c.in_ok-of_lines.was c.non_ascii.ensures

@@ -14,21 +14,21 @@ loop-i-init c = refl
 
 pub returns-then-s-p : goal.returns-then-s-p
 unfolding run_len
-returns-then-s-p c = sym (c.loop-i.invariant ∙ text_over is_paren _ _ _ c.text_end-p.ensures c.if-s-p.true)
+returns-then-s-p c = sym (c.loop-i.invariant ∙ text_over is_paren _ _ _ c.run_end-p.ensures c.if-s-p.true)
 
 pub returns-then-s-p-ne92 : goal.returns-then-s-p-ne92
 unfolding run_len
-returns-then-s-p-ne92 c = sym (c.loop-i.invariant ∙ text_found is_paren _ _ _ c.text_end-p.ensures c.if-s-p.false c.if-s-p-ne92.true)
+returns-then-s-p-ne92 c = sym (c.loop-i.invariant ∙ text_found is_paren _ _ _ c.run_end-p.ensures c.if-s-p.false c.if-s-p-ne92.true)
 
 pub returns-then-s-escaped : goal.returns-then-s-escaped
 unfolding run_len
-returns-then-s-escaped c = sym (c.loop-i.invariant ∙ text_last is_paren _ _ _ c.text_end-p.ensures c.if-s-p.false refl c.if-s-p-ne92.false c.if-s-escaped.true)
+returns-then-s-escaped c = sym (c.loop-i.invariant ∙ text_last is_paren _ _ _ c.run_end-p.ensures c.if-s-p.false refl c.if-s-p-ne92.false c.if-s-escaped.true)
 
 pub loop-i-smaller : goal.loop-i-smaller
-loop-i-smaller c = omega (arith, c.text_end-p.ensures)
+loop-i-smaller c = omega (arith, c.run_end-p.ensures)
 
 pub loop-i-preserved : goal.loop-i-preserved
-loop-i-preserved c = c.loop-i.invariant ∙ text_escaped is_paren _ _ _ c.text_end-p.ensures c.if-s-p.false refl c.if-s-p-ne92.false c.if-s-escaped.false
+loop-i-preserved c = c.loop-i.invariant ∙ text_escaped is_paren _ _ _ c.run_end-p.ensures c.if-s-p.false refl c.if-s-p-ne92.false c.if-s-escaped.false
 
 pub returns : goal.returns
 unfolding run_len

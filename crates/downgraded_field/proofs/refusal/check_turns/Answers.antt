@@ -1,51 +1,28 @@
-use lib.ListN.{length}
-use Prim.Native.Nat.{◌-◌}
+use mathlib.Core.Path.{refl, sym, ap, ◌∙◌}
 use native.Mathlib.Omega.{arith}
-use Rattle.downgraded_field.specs.ShownLaws.{turn_step, run_fits_lem, Counting, counting_start, counting_fits, counting_next, counting_end}
-use borrow.Author.Rules.{rules}
+use Rattle.downgraded_field.specs.ShownLaws.{counting_start, run_short, counting_fits, counting_text, counting_fault, counting_fault_end, counting_text_end}
 use Rattle.downgraded_field.proofs.refusal.check_turns.Goals as goal
+use Rattle.downgraded_field.proofs.refusal.check_turns.Goals.{in-Ok, in-Err}
 
-pub loop-i-init : goal.loop-i-init
-loop-i-init c = counting_start _ _ c.requires.0
+pub loop-turn-init : goal.loop-turn-init
+loop-turn-init c = counting_start _ c.requires
 
-pub slice_bounds-is_word-count : goal.slice_bounds-is_word-count
-slice_bounds-is_word-count c = omega (arith, c.solid_end-e.ensures)
-
-pub slice_bounds-is_word-start : goal.slice_bounds-is_word-start
-slice_bounds-is_word-start c = let t = (turn_step c.args.s.now c.loop-i.i c.spacing_end-g.result c.solid_end-e.result c.loop-i-test.true c.spacing_end-g.ensures c.solid_end-e.ensures) in omega (arith, t.run_up, t.inside)
-
-pub slice_bounds-is_word-end : goal.slice_bounds-is_word-end
-slice_bounds-is_word-end c = let t = (turn_step c.args.s.now c.loop-i.i c.spacing_end-g.result c.solid_end-e.result c.loop-i-test.true c.spacing_end-g.ensures c.solid_end-e.ensures) in omega (arith, t.run_up, t.inside)
-
-pub slice_bounds-check_turn-count : goal.slice_bounds-check_turn-count
-slice_bounds-check_turn-count c = omega (arith, c.spacing_end-g.ensures)
-
-pub slice_bounds-check_turn-start : goal.slice_bounds-check_turn-start
-slice_bounds-check_turn-start c = let t = (turn_step c.args.s.now c.loop-i.i c.spacing_end-g.result c.solid_end-e.result c.loop-i-test.true c.spacing_end-g.ensures c.solid_end-e.ensures) in omega (arith, t.gap_up, t.run_up, t.inside)
-
-pub slice_bounds-check_turn-end : goal.slice_bounds-check_turn-end
-slice_bounds-check_turn-end c = let t = (turn_step c.args.s.now c.loop-i.i c.spacing_end-g.result c.solid_end-e.result c.loop-i-test.true c.spacing_end-g.ensures c.solid_end-e.ensures) in omega (arith, t.gap_up, t.run_up, t.inside)
-
-pub slice_bounds-check_turn-count-in-loop-i : goal.slice_bounds-check_turn-count-in-loop-i
-slice_bounds-check_turn-count-in-loop-i c = omega (arith, c.solid_end-e.ensures)
-
-pub slice_bounds-check_turn-start-in-loop-i : goal.slice_bounds-check_turn-start-in-loop-i
-slice_bounds-check_turn-start-in-loop-i c = let t = (turn_step c.args.s.now c.loop-i.i c.spacing_end-g.result c.solid_end-e.result c.loop-i-test.true c.spacing_end-g.ensures c.solid_end-e.ensures) in omega (arith, t.run_up, t.inside)
-
-pub slice_bounds-check_turn-end-in-loop-i : goal.slice_bounds-check_turn-end-in-loop-i
-slice_bounds-check_turn-end-in-loop-i c = let t = (turn_step c.args.s.now c.loop-i.i c.spacing_end-g.result c.solid_end-e.result c.loop-i-test.true c.spacing_end-g.ensures c.solid_end-e.ensures) in omega (arith, t.run_up, t.inside)
-
-pub check_turn-c-requires : goal.check_turn-c-requires
-check_turn-c-requires c = (c.is_word-word.ensures, run_fits_lem c.requires.1 (turn_step c.args.s.now c.loop-i.i c.spacing_end-g.result c.solid_end-e.result c.loop-i-test.true c.spacing_end-g.ensures c.solid_end-e.ensures))
+pub check_turn-requires : goal.check_turn-requires
+check_turn-requires c = run_short c.loop-turn.invariant c.in-Some.ensures
 
 pub overflow_add-length : goal.overflow_add-length
-overflow_add-length c = omega (arith, counting_fits c.loop-i.invariant (turn_step c.args.s.now c.loop-i.i c.spacing_end-g.result c.solid_end-e.result c.loop-i-test.true c.spacing_end-g.ensures c.solid_end-e.ensures) c.is_word-word.ensures c.check_turn-c.ensures)
+overflow_add-length c = omega (arith, counting_fits c.loop-turn.invariant c.in-Some.ensures c.in-Ok.ensures.1)
 
-pub loop-i-smaller : goal.loop-i-smaller
-loop-i-smaller c = let t = (turn_step c.args.s.now c.loop-i.i c.spacing_end-g.result c.solid_end-e.result c.loop-i-test.true c.spacing_end-g.ensures c.solid_end-e.ensures) in omega (arith, t.some, t.inside)
+pub loop-turn-preserved : goal.loop-turn-preserved
+loop-turn-preserved c =
+    let k = c.is_word-after.ensures in
+    elim c.match-check_turn.branch [
+      | in-Ok w ↦ rw (w.found-is, w.length-is) (counting_text c.loop-turn.invariant c.in-Some.ensures k w.in-Ok.ensures)
+      | in-Err w ↦ rw (w.found-is, w.length-is) (counting_fault c.loop-turn.invariant c.in-Some.ensures k _ _ w.in-Err.ensures w.lower.ensures)
+    ]
 
-pub loop-i-preserved : goal.loop-i-preserved
-loop-i-preserved c = counting_next c.loop-i.invariant (turn_step c.args.s.now c.loop-i.i c.spacing_end-g.result c.solid_end-e.result c.loop-i-test.true c.spacing_end-g.ensures c.solid_end-e.ensures) c.is_word-word.ensures c.check_turn-c.ensures c.clip-number.ensures
+pub returns-in-Some-found : goal.returns-in-Some-found
+returns-in-Some-found c = counting_fault_end c.loop-turn.invariant c.in_default.ensures _ c.in-Some-found.is
 
-pub returns : goal.returns
-returns c = counting_end c.loop-i.invariant c.loop-i-test.false
+pub returns-in-None : goal.returns-in-None
+returns-in-None c = counting_text_end c.loop-turn.invariant c.in_default.ensures c.in-None.is

@@ -1,12 +1,9 @@
 use lib.ListN.{length}
-use Prim.Native.Nat.{◌-◌}
-use native.Mathlib.Omega.{arith}
-use Rattle.downgraded_field.specs.ShownLaws.{turn_step, run_fits_lem, Counting, counting_start, counting_fits, counting_next, counting_end}
-use borrow.Author.Rules.{rules}
+use Rattle.downgraded_field.specs.ShownLaws.{Counting}
 use Rattle.downgraded_field.proofs.refusal.check_turns.Given as goal
 
-abbrev pub invariant-loop-i : goal.invariant-loop-i
-invariant-loop-i l = Counting l.s l.start l.number l.length l.i l.after
+abbrev pub invariant-loop-turn : goal.invariant-loop-turn
+invariant-loop-turn l = Counting l.s l.found l.length l.rest l.after
 
-abbrev pub decreases-loop-i : goal.decreases-loop-i
-decreases-loop-i l = length l.s - l.i
+abbrev pub decreases-loop-turn : goal.decreases-loop-turn
+decreases-loop-turn l = length l.rest

@@ -1,6 +1,5 @@
 use native.Mathlib.Omega.{arith}
 use Rattle.downgraded_field.specs.ShownLaws.{gap_length}
-use borrow.Author.Rules.{rules}
 use Rattle.downgraded_field.proofs.refusal.gap_length.Goals as goal
 
 pub returns : goal.returns

@@ -1,8 +1,5 @@
-use Rattle.encoded_word.specs.WritingLaws.{PutSoFar, put_start, put_place, put_length, put_on, put_end, put_full}
-use Rattle.buffer.specs.BufferLaws.{length_appended}
-use native.Mathlib.Omega.{arith}
+use Rattle.encoded_word.specs.WritingLaws.{PutSoFar}
 use lib.ListN.{length}
-use mathlib.Core.Path.{◌∙◌}
 use Prim.Native.Nat.{◌-◌}
 use Rattle.encoded_word.proofs.character.put_in_q.Given as goal
 

@@ -3,7 +3,6 @@ use Rattle.row_length.specs.LengthLaws.{stepped_high}
 use Rattle.buffer.specs.BufferLaws.{appended_then}
 use native.Mathlib.Omega.{arith}
 use mathlib.Core.Path.{◌≡◌, refl}
-use borrow.Author.Rules.{rules}
 use Rattle.encoded_word.proofs.character.put_whole.Goals as goal
 
 pub returns-then-left-m : goal.returns-then-left-m
@@ -11,12 +10,12 @@ returns-then-left-m c = put_stop (stepped_high (omega arith) c.requires.4) c.if-
 
 pub returns-then-n-eq2 : goal.returns-then-n-eq2
 returns-then-n-eq2 c = let size : c.args.n ≡ 2 = c.if-n-eq2.true in
-    put_high_lem _ _ _ _ _ (omega arith) c.requires.4 _ (rw size (escapes_two c.args.s.now c.args.i (omega arith))) c.if-left-m.false refl c.put_escapes-third.ensures
+    (omega arith, put_high_lem _ _ _ _ _ (omega arith) c.requires.4 _ (rw size (escapes_two c.args.s.now c.args.i (omega arith))) c.if-left-m.false refl c.put_escapes-third.ensures)
 
 pub returns-then-n-eq3 : goal.returns-then-n-eq3
 returns-then-n-eq3 c = let size : c.args.n ≡ 3 = c.if-n-eq3.true in
-    put_high_lem _ _ _ _ _ (omega arith) c.requires.4 _ (rw size (escapes_three c.args.s.now c.args.i (omega arith))) c.if-left-m.false refl (appended_then c.put_escapes-third.ensures c.put_escape-fourth.ensures)
+    (omega arith, put_high_lem _ _ _ _ _ (omega arith) c.requires.4 _ (rw size (escapes_three c.args.s.now c.args.i (omega arith))) c.if-left-m.false refl (appended_then c.put_escapes-third.ensures c.put_escape-fourth.ensures))
 
 pub returns : goal.returns
 returns c = let size : c.args.n ≡ 4 = omega arith in
-    put_high_lem _ _ _ _ _ (omega arith) c.requires.4 _ (rw size (escapes_four c.args.s.now c.args.i (omega arith))) c.if-left-m.false refl (appended_then (appended_then c.put_escapes-third.ensures c.put_escape-fourth.ensures) c.put_escape-after.ensures)
+    (omega arith, put_high_lem _ _ _ _ _ (omega arith) c.requires.4 _ (rw size (escapes_four c.args.s.now c.args.i (omega arith))) c.if-left-m.false refl (appended_then (appended_then c.put_escapes-third.ensures c.put_escape-fourth.ensures) c.put_escape-after.ensures))

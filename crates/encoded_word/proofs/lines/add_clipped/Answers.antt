@@ -2,7 +2,6 @@ use Rattle.encoded_word.specs.WritingLaws.{begun_empty, begun_word, word_length}
 use Rattle.buffer.specs.BufferLaws.{length_appended}
 use lib.ListN.{length-take}
 use native.Mathlib.Omega.{arith}
-use borrow.Author.Rules.{rules}
 use Rattle.encoded_word.proofs.lines.add_clipped.Goals as goal
 
 pub returns-then-e-eq0 : goal.returns-then-e-eq0

@@ -1,10 +1,5 @@
-use Rattle.encoded_word.specs.WritingLaws.{begun_none, straight}
-use lib.ListN.{length}
-use borrow.Author.Rules.{rules}
+use Rattle.encoded_word.specs.WritingLaws.{begun_none}
 use Rattle.encoded_word.proofs.lines.add_first.Goals as goal
 
 pub returns-then-column-ge63 : goal.returns-then-column-ge63
 returns-then-column-ge63 c = begun_none _ _ _ c.if-column-ge63.true
-
-pub put_first-requires : goal.put_first-requires
-put_first-requires c = let t = straight c.args.column (length c.args.text.now) (length c.args.out.now) c.if-column-text.true in t

@@ -1,13 +1,8 @@
-use Rattle.encoded_word.specs.WritingLaws.{line_length, line_some, copied_on}
-use Rattle.row.proofs.WordEndLaws.{row_end}
 use Rattle.row.specs.Row.{row}
-use Rattle.buffer.specs.BufferLaws.{length_appended, capped_none, capped_start, capped_end, length_capped}
 use Rattle.buffer.specs.Buffer.{ReachedCapped}
-use borrow.Author.Rules.{rules}
-use native.Mathlib.Omega.{arith}
-use lib.ListN.{length, drop, length-take}
-use Prim.Native.Nat.{◌+◌, ◌-◌, ◌≤◌}
-use mathlib.Core.Path.{◌≡◌, refl, sym, ◌∙◌}
+use lib.ListN.{length, drop}
+use Prim.Native.Nat.{◌-◌, ◌≤◌}
+use mathlib.Core.Path.{◌≡◌}
 use Rattle.encoded_word.proofs.lines.add_lines.Given as goal
 
 abbrev pub invariant-loop-i : goal.invariant-loop-i

@@ -1,30 +1,11 @@
 use Rattle.encoded_word.specs.WritingLaws.{ran_start, ran_on, line_some, looping}
-use Rattle.encoded_word.specs.Writing.{Ran}
-use Rattle.buffer.specs.BufferLaws.{length_reached}
 use native.Mathlib.Omega.{arith}
 use lib.ListN.{length}
-use Prim.Native.Nat.{◌+◌, ◌-◌, ◌≤◌}
+use Prim.Native.Nat.{◌-◌}
 use Rattle.encoded_word.proofs.lines.put_lines.Goals as goal
 
 pub loop-i-init : goal.loop-i-init
 loop-i-init c = ran_start _ _ _ _ c.requires
-
-pub slice_bounds-put_line-count : goal.slice_bounds-put_line-count
-slice_bounds-put_line-count c = omega (arith, c.loop-i.invariant.within)
-
-pub slice_bounds-put_line-start : goal.slice_bounds-put_line-start
-slice_bounds-put_line-start c = omega (arith, c.loop-i.invariant.within)
-
-pub slice_bounds-put_line-end : goal.slice_bounds-put_line-end
-slice_bounds-put_line-end c = omega (arith, c.loop-i.invariant.within)
-
-pub put_line-w-requires : goal.put_line-w-requires
-put_line-w-requires c = let p = looping c.loop-i.i (length c.args.text.now) c.loop-i.at (length c.args.out.now - 78) c.loop-i-test.true in
-    omega (arith, p.1, length_reached c.loop-i.invariant.reached, c.if-out-ge78.true)
-
-pub overflow_add-i : goal.overflow_add-i
-overflow_add-i c = let p = looping c.loop-i.i (length c.args.text.now) c.loop-i.at (length c.args.out.now - 78) c.loop-i-test.true in
-    omega (arith, line_some c.args.text.now c.loop-i.i p.0 c.put_line-w.ensures)
 
 pub loop-i-smaller : goal.loop-i-smaller
 loop-i-smaller c = let p = looping c.loop-i.i (length c.args.text.now) c.loop-i.at (length c.args.out.now - 78) c.loop-i-test.true in
@@ -33,12 +14,6 @@ loop-i-smaller c = let p = looping c.loop-i.i (length c.args.text.now) c.loop-i.
 pub loop-i-preserved : goal.loop-i-preserved
 loop-i-preserved c = let p = looping c.loop-i.i (length c.args.text.now) c.loop-i.at (length c.args.out.now - 78) c.loop-i-test.true in
     ran_on c.loop-i.invariant p.0 c.put_line-w.ensures
-
-pub shape_of-out : goal.shape_of-out
-shape_of-out c = length_reached c.loop-i.invariant.reached
-
-pub returns-after-loop-i : goal.returns-after-loop-i
-returns-after-loop-i c = c.loop-i.invariant
 
 pub returns-else-out-ge78 : goal.returns-else-out-ge78
 returns-else-out-ge78 c = ran_start _ _ _ _ c.requires

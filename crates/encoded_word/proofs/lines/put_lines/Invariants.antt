@@ -1,9 +1,6 @@
-use Rattle.encoded_word.specs.WritingLaws.{ran_start, ran_on, line_some, looping}
 use Rattle.encoded_word.specs.Writing.{Ran}
-use Rattle.buffer.specs.BufferLaws.{length_reached}
-use native.Mathlib.Omega.{arith}
 use lib.ListN.{length}
-use Prim.Native.Nat.{◌+◌, ◌-◌, ◌≤◌}
+use Prim.Native.Nat.{◌-◌}
 use Rattle.encoded_word.proofs.lines.put_lines.Given as goal
 
 abbrev pub invariant-loop-i : goal.invariant-loop-i

@@ -1,15 +1,8 @@
 use Rattle.word_spelling.specs.Spelling.{spell}
-use Rattle.word_spelling.specs.SpellingLaws.{spell_at, spell_end, spell_byte_some, cost_at}
 use Rattle.buffer.specs.Buffer.{Reached}
-use Rattle.buffer.specs.BufferLaws.{reached_start, reached_then, reached_end, reached_within, length_reached}
-use native.Mathlib.Omega.{arith}
-use Prim.Native.Nat.{◌+◌, ◌-◌, ◌≤◌}
-use lib.ListN.{length, drop, get_or}
-use mathlib.Core.Path.{◌≡◌, refl, ◌∙◌}
+use Prim.Native.Nat.{◌≤◌}
+use lib.ListN.{length, drop}
 use Rattle.encoded_word.proofs.spelling.put_char.Given as goal
 
-abbrev pub invariant-loop-i : goal.invariant-loop-i
-invariant-loop-i l = (l.i ≤ length l.c) × Reached (spell l.c) (spell (drop l.i l.c)) l.at l.initial.out l.out l.next
-
-abbrev pub decreases-loop-i : goal.decreases-loop-i
-decreases-loop-i l = length l.c - l.i
+abbrev pub invariant-loop-b : goal.invariant-loop-b
+invariant-loop-b l = (l.b-index ≤ length l.c) × Reached (spell l.c) (spell (drop l.b-index l.c)) l.at l.initial.out l.out l.next

@@ -14,4 +14,4 @@ bounds-out-third c = simp length-set (omega arith)
 
 pub returns : goal.returns
 unfolding stores
-returns c = rw (← upper_half c.args.b (search rules) c.digit.ensures, ← lower_half c.args.b c.digit-2.ensures) (appended_stores (61 ∷ c.digit.result ∷ c.digit-2.result ∷ []) _ _ _ (omega arith))
+returns c = rw (← upper_half c.args.b (search rules) c.digit-high.ensures, ← lower_half c.args.b c.digit-low.ensures) (appended_stores (61 ∷ c.digit-high.result ∷ c.digit-low.result ∷ []) _ _ _ (omega arith))

@@ -1,5 +1,4 @@
 use Rattle.buffer.specs.BufferLaws.{appended_then}
-use borrow.Author.Rules.{rules}
 use Rattle.encoded_word.proofs.spelling.put_escapes.Goals as goal
 
 pub returns : goal.returns

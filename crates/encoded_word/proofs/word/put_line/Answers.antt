@@ -1,6 +1,5 @@
 use Rattle.encoded_word.specs.WritingLaws.{line_written}
-use borrow.Author.Rules.{rules}
 use Rattle.encoded_word.proofs.word.put_line.Goals as goal
 
 pub returns : goal.returns
-returns c = line_written c.put_break-started.ensures c.put_word.ensures
+returns c = line_written c.put_bytes-started.ensures c.put_word.ensures

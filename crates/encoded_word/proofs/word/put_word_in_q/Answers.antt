@@ -1,6 +1,5 @@
 use Rattle.encoded_word.specs.WritingLaws.{word_written}
-use borrow.Author.Rules.{rules}
 use Rattle.encoded_word.proofs.word.put_word_in_q.Goals as goal
 
 pub returns : goal.returns
-returns c = word_written c.put_opening-started.ensures c.put_in_q-r.ensures c.put_closing-after.ensures
+returns c = word_written c.put_bytes-started.ensures c.put_in_q-r.ensures c.put_bytes-after.ensures

@@ -1,16 +1,15 @@
-use Rattle.envelope.proofs.CheckLaws.{mail_refused, mail_passed, ended_inside}
-use native.Mathlib.Omega.{arith}
-use borrow.Author.Tests.{not-true, not-false}
-use mathlib.Core.Path.{sym, ◌∙◌}
-use mathlib.Core.Bool.{true}
-use borrow.Author.Rules.{rules}
+use Rattle.std.proofs.Common.{◌≡◌, ◌∙◌, Err, true, arith, sym, rules}
+use Rattle.envelope.proofs.CheckLaws.{mail_refused, mail_passed, mail_line, ended_inside, on_line_ok, on_line_err}
 use Rattle.envelope.proofs.faults.check.Goals as goal
 
-pub returns-then-not-is_fine : goal.returns-then-not-is_fine
-returns-then-not-is_fine c = mail_refused c.front_fault-fault.ensures (sym c.is_fine.ensures ∙ not-true _ c.if-not-is_fine.true-raw)
+pub returns-in_err-check_line : goal.returns-in_err-check_line
+returns-in_err-check_line c =
+    let told = on_line_err _ _ c.check_line.ensures c.in_err-check_line.was in
+    let at : c.from_residual.result ≡ Err c.in_err-check_line.field-0.0 = search rules in
+    rw (at, ← told.1) (mail_refused (mail_line _ _) told.0)
 
 pub overflow_add-end : goal.overflow_add-end
-overflow_add-end c = omega (arith, c.line_end-end.ensures, ended_inside _ true c.args.envelope.now (rw c.front_fault-fault.ensures at (sym c.is_fine.ensures ∙ not-false _ c.if-not-is_fine.false-raw)))
+overflow_add-end c = omega (arith, c.line_end-end.ensures, ended_inside _ true c.args.envelope.now (sym (mail_line _ _) ∙ on_line_ok _ _ c.check_line.ensures c.in_ok-check_line.was))
 
 pub returns : goal.returns
-returns c = mail_passed c.front_fault-fault.ensures _ c.line_end-end.ensures (sym c.is_fine.ensures ∙ not-false _ c.if-not-is_fine.false-raw) c.check_rcpts.ensures
+returns c = mail_passed (mail_line _ _) _ c.line_end-end.ensures (on_line_ok _ _ c.check_line.ensures c.in_ok-check_line.was) c.check_rcpts.ensures

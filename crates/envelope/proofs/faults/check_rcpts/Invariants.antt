@@ -1,10 +1,5 @@
-use Rattle.envelope.proofs.CheckLaws.{RcptsReached, rcpts_start, rcpts_more, rcpts_refused, rcpts_passed, fine_few, fine_end}
-use native.Mathlib.Omega.{arith}
-use borrow.Author.Rules.{rules}
-use borrow.Author.Tests.{not-true, not-false}
-use mathlib.Core.Path.{sym, ◌∙◌}
-use Prim.Native.Nat.{◌+◌, ◌-◌}
-use lib.ListN.{length, drop}
+use Rattle.std.proofs.Common.{◌-◌, length}
+use Rattle.envelope.proofs.CheckLaws.{RcptsReached}
 use Rattle.envelope.proofs.faults.check_rcpts.Given as goal
 
 abbrev pub invariant-loop-i : goal.invariant-loop-i

@@ -1,7 +1,6 @@
 use Rattle.envelope.proofs.CheckLaws.{front_no_cr, front_in, front_no_lf, front_line_lem}
 use native.Mathlib.Omega.{arith}
 use mathlib.Core.Path.{sym, ◌∙◌}
-use borrow.Author.Rules.{rules}
 use Rattle.envelope.proofs.faults.front_fault.Goals as goal
 
 pub returns-then-byte_at-ne13 : goal.returns-then-byte_at-ne13

@@ -1,10 +1,7 @@
 use Rattle.envelope.proofs.OrcptLaws.{orcpt_end, orcpt_found, orcpt_next}
-use Rattle.envelope.specs.Envelope.{texts, orcpt_from, orcpt_line}
+use Rattle.envelope.specs.Envelope.{orcpt_line}
 use native.Mathlib.Omega.{arith}
-use borrow.Author.Rules.{rules}
-use mathlib.Core.Path.{◌≡◌, refl, sym, ◌∙◌}
-use Prim.Native.Nat.{◌-◌, ◌≤◌}
-use lib.ListN.{length, drop}
+use mathlib.Core.Path.{refl, sym, ◌∙◌}
 use Rattle.envelope.proofs.orcpts.orcpt_line.Goals as goal
 
 pub loop-i-init : goal.loop-i-init

@@ -1,8 +1,5 @@
-use Rattle.envelope.proofs.OrcptLaws.{orcpt_end, orcpt_found, orcpt_next}
 use Rattle.envelope.specs.Envelope.{texts, orcpt_from, orcpt_line}
-use native.Mathlib.Omega.{arith}
-use borrow.Author.Rules.{rules}
-use mathlib.Core.Path.{◌≡◌, refl, sym, ◌∙◌}
+use mathlib.Core.Path.{◌≡◌}
 use Prim.Native.Nat.{◌-◌, ◌≤◌}
 use lib.ListN.{length, drop}
 use Rattle.envelope.proofs.orcpts.orcpt_line.Given as goal

@@ -1,6 +1,5 @@
 use Rattle.envelope.proofs.LinesLaws.{text_part}
 use Rattle.envelope.proofs.WrittenLaws.{added_line}
-use borrow.Author.Rules.{rules}
 use Rattle.envelope.proofs.output.add_line_at.Goals as goal
 
 pub returns : goal.returns

@@ -1,7 +1,6 @@
 use Rattle.buffer.specs.BufferLaws.{capped_same}
 use Rattle.envelope.proofs.LinesLaws.{text_part}
 use Rattle.envelope.proofs.WrittenLaws.{replaced_mail}
-use borrow.Author.Rules.{rules}
 use Rattle.envelope.proofs.output.put_mail_replacement.Goals as goal
 
 pub returns : goal.returns

@@ -2,7 +2,6 @@ use Rattle.envelope.proofs.LinesLaws.{text_part}
 use Rattle.envelope.proofs.WrittenLaws.{replaced_other, replaced_one}
 use Rattle.buffer.specs.BufferLaws.{capped_none, capped_same}
 use native.Mathlib.Omega.{arith}
-use borrow.Author.Rules.{rules}
 use Rattle.envelope.proofs.output.put_rcpt_replacement.Goals as goal
 
 pub returns-then-count-ne1 : goal.returns-then-count-ne1

@@ -1,5 +1,4 @@
 use Rattle.envelope_line.specs.EnvelopeLine.{orcpt_fault}
-use borrow.Author.Rules.{rules}
 use Rattle.envelope_line.proofs.orcpt.orcpt_fault.Goals as goal
 
 pub returns : goal.returns

@@ -3,7 +3,6 @@ use Rattle.parameter.specs.ParameterLaws.{value_part}
 use Rattle.xtext.specs.Xtext.{decoded}
 use Rattle.buffer.specs.BufferLaws.{added_by}
 use mathlib.Core.Path.{ap}
-use borrow.Author.Rules.{rules}
 use Rattle.envelope_line.proofs.output.add_decoded.Goals as goal
 
 pub returns : goal.returns

@@ -1,6 +1,5 @@
 use Rattle.buffer.specs.BufferLaws.{capped_then}
 use native.Mathlib.Omega.{arith}
-use borrow.Author.Rules.{rules}
 use Rattle.envelope_line.proofs.output.add_line.Goals as goal
 
 pub returns : goal.returns

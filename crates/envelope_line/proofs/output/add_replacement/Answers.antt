@@ -1,7 +1,6 @@
 use Rattle.envelope_line.proofs.WriteLaws.{path_part, replaced_ascii, replaced_high, new_path_lem}
 use Rattle.buffer.specs.BufferLaws.{capped_none, capped_then, capped_same}
 use native.Mathlib.Omega.{arith}
-use borrow.Author.Rules.{rules}
 use Rattle.envelope_line.proofs.output.add_replacement.Goals as goal
 
 pub returns-then-is_ascii : goal.returns-then-is_ascii

@@ -1,7 +1,6 @@
 use Rattle.letter_case.specs.LetterCase.{bytes}
 use Rattle.envelope_line.proofs.PathLaws.{has_verb_mail, has_verb_rcpt}
 use Rattle.envelope_line.specs.EnvelopeLine.{verb}
-use borrow.Author.Rules.{rules}
 use Rattle.envelope_line.proofs.path.has_verb.Goals as goal
 
 pub returns-then-mail : goal.returns-then-mail

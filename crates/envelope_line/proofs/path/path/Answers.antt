@@ -1,7 +1,6 @@
 use Rattle.letter_case.specs.LetterCase.{bytes}
 use Rattle.envelope_line.proofs.PathLaws.{path_at, path_empty, path_mail, path_postmaster, path_rcpt}
 use mathlib.Core.Path.{sym, ◌∙◌}
-use borrow.Author.Rules.{rules}
 use Rattle.envelope_line.proofs.path.path.Goals as goal
 
 pub returns-then-byte_at-eq62 : goal.returns-then-byte_at-eq62

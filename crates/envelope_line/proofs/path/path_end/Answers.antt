@@ -1,12 +1,11 @@
 use Rattle.envelope_line.proofs.PathLaws.{path_at, path_end_lem}
 use mathlib.Core.Path.{sym, ◌∙◌}
-use borrow.Author.Rules.{rules}
 use Rattle.envelope_line.proofs.path.path_end.Goals as goal
 
-pub returns-in-To : goal.returns-in-To
+pub returns-in-Ok : goal.returns-in-Ok
 unfolding path_at
-returns-in-To c = path_end_lem c.args.mail c.args.line.now (sym c.in-To.is ∙ c.path.ensures)
+returns-in-Ok c = path_end_lem c.args.mail c.args.line.now (sym c.in-Ok.is ∙ c.path.ensures)
 
-pub returns-in-Stop : goal.returns-in-Stop
+pub returns-in-Err : goal.returns-in-Err
 unfolding path_at
-returns-in-Stop c = path_end_lem c.args.mail c.args.line.now (sym c.in-Stop.is ∙ c.path.ensures)
+returns-in-Err c = path_end_lem c.args.mail c.args.line.now (sym c.in-Err.is ∙ c.path.ensures)

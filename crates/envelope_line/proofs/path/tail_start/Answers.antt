@@ -1,6 +1,5 @@
 use native.Mathlib.Omega.{arith}
 use Rattle.envelope_line.proofs.PathLaws.{tail_from}
-use borrow.Author.Rules.{rules}
 use Rattle.envelope_line.proofs.path.tail_start.Goals as goal
 
 pub returns : goal.returns

@@ -1,11 +1,8 @@
-use Rattle.header_line.specs.CleanLaws.{never, clear_end}
 use Rattle.header_line.specs.Clean.{line_placed}
-use Rattle.utf8.specs.WindowLaws.{Clear, clear_none}
+use Rattle.utf8.specs.WindowLaws.{Clear}
 use Rattle.utf8.specs.Window.{window_at}
 use lib.ListN.{length}
-use native.Mathlib.Omega.{arith}
 use Prim.Native.Nat.{◌-◌, ◌+◌, ◌≤◌}
-use borrow.Author.Rules.{rules}
 use Rattle.header_line.proofs.clean.blocks_clean.Given as goal
 
 abbrev pub invariant-loop-at : goal.invariant-loop-at

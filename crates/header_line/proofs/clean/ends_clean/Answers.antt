@@ -1,6 +1,5 @@
 use Rattle.header_line.specs.Clean.{lines_end}
 use mathlib.Core.Path.{refl}
-use borrow.Author.Rules.{rules}
 use Rattle.header_line.proofs.clean.ends_clean.Goals as goal
 
 pub returns : goal.returns

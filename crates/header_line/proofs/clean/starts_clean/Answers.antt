@@ -1,7 +1,7 @@
+use Rattle.utf8.specs.Window.{all_at}
 use Rattle.header_line.specs.Clean.{lines_start}
-use borrow.Author.Rules.{rules}
 use Rattle.header_line.proofs.clean.starts_clean.Goals as goal
 
 pub returns : goal.returns
-unfolding lines_start
-returns c = rw (c.is_placed.ensures, c.is_placed-2.ensures, c.is_placed-3.ensures)
+unfolding lines_start all_at
+returns c = c.all_windows.ensures

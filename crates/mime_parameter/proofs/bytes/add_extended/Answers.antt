@@ -1,21 +1,13 @@
 use Rattle.mime_parameter.specs.ExtendedLaws.{extended_at, extended_end}
-use Rattle.mime_parameter.specs.Extended.{extended}
-use Prim.Native.Nat.{◌-◌}
 use native.Mathlib.Omega.{arith}
-use lib.ListN.{length, drop}
-use borrow.Author.Rules.{rules}
-use Rattle.buffer.specs.BufferLaws.{capped_start, capped_turn, capped_end, length_capped}
-use Rattle.buffer.specs.Buffer.{ReachedCapped}
+use Rattle.buffer.specs.BufferLaws.{capped_start, capped_turn, capped_end}
 use Rattle.mime_parameter.proofs.bytes.add_extended.Goals as goal
 
-pub loop-i-init : goal.loop-i-init
-loop-i-init c = capped_start _ _ _ (omega arith)
+pub loop-b-init : goal.loop-b-init
+loop-b-init c = capped_start _ _ _ (omega arith)
 
-pub loop-i-preserved : goal.loop-i-preserved
-loop-i-preserved c = capped_turn c.loop-i.invariant (extended_at _ _ c.loop-i-test.true) c.add_extended_byte-next.ensures (omega arith)
-
-pub shape_of-out : goal.shape_of-out
-shape_of-out c = length_capped c.loop-i.invariant
+pub loop-b-preserved : goal.loop-b-preserved
+loop-b-preserved c = capped_turn c.loop-b.invariant (extended_at _ _ c.loop-b-test.true) c.add_extended_byte-next.ensures (omega arith)
 
 pub returns : goal.returns
-returns c = capped_end c.loop-i.invariant (extended_end _ _ c.loop-i-test.false)
+returns c = capped_end c.loop-b.invariant (extended_end _ _ c.loop-b-test.false)

@@ -1,15 +1,7 @@
-use Rattle.mime_parameter.specs.ExtendedLaws.{extended_at, extended_end}
 use Rattle.mime_parameter.specs.Extended.{extended}
-use Prim.Native.Nat.{◌-◌}
-use native.Mathlib.Omega.{arith}
-use lib.ListN.{length, drop}
-use borrow.Author.Rules.{rules}
-use Rattle.buffer.specs.BufferLaws.{capped_start, capped_turn, capped_end, length_capped}
+use lib.ListN.{drop}
 use Rattle.buffer.specs.Buffer.{ReachedCapped}
 use Rattle.mime_parameter.proofs.bytes.add_extended.Given as goal
 
-abbrev pub invariant-loop-i : goal.invariant-loop-i
-invariant-loop-i l = ReachedCapped (extended l.text) (extended (drop l.i l.text)) l.at l.initial.out l.out l.next
-
-abbrev pub decreases-loop-i : goal.decreases-loop-i
-decreases-loop-i l = length l.text - l.i
+abbrev pub invariant-loop-b : goal.invariant-loop-b
+invariant-loop-b l = ReachedCapped (extended l.text) (extended (drop l.b-index l.text)) l.at l.initial.out l.out l.next

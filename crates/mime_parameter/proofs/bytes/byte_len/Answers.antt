@@ -1,5 +1,4 @@
 use Rattle.mime_parameter.specs.WritingLaws.{bare_len, octet_len}
-use borrow.Author.Rules.{rules}
 use Rattle.mime_parameter.proofs.bytes.byte_len.Goals as goal
 
 pub returns-then-is_attribute_char : goal.returns-then-is_attribute_char

@@ -1,5 +1,4 @@
 use Rattle.mime_parameter.specs.Extended.{is_attribute_char}
-use borrow.Author.Rules.{rules}
 use Rattle.mime_parameter.proofs.bytes.is_attribute_char.Goals as goal
 
 pub returns : goal.returns

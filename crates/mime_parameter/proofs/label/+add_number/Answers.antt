@@ -1,4 +1,4 @@
-use Rattle.std.proofs.Common.{◌≤◌, arith}
+use Rattle.std.proofs.Common.{arith}
 use Rattle.mime_parameter.specs.WritingLaws.{number_low, number_high}
 use Rattle.mime_parameter.proofs.label.+add_number.Goals as goal
 

@@ -1,6 +1,5 @@
 use Rattle.mime_parameter.specs.WritingLaws.{alone_label_lem}
 use native.Mathlib.Omega.{arith}
-use borrow.Author.Rules.{rules}
 use Rattle.mime_parameter.proofs.label.add_alone_label.Goals as goal
 
 pub returns : goal.returns

@@ -1,6 +1,5 @@
 use Rattle.mime_parameter.specs.WritingLaws.{part_label_lem, first_charset, no_charset}
 use native.Mathlib.Omega.{arith}
-use borrow.Author.Rules.{rules}
 use Rattle.mime_parameter.proofs.label.add_part_label.Goals as goal
 
 pub returns-then-k-eq0 : goal.returns-then-k-eq0

@@ -1,5 +1,4 @@
 use Rattle.mime_parameter.specs.WritingLaws.{label_len}
-use borrow.Author.Rules.{rules}
 use Rattle.mime_parameter.proofs.label.part_label_len.Goals as goal
 
 pub returns : goal.returns

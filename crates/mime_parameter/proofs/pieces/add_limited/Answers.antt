@@ -1,5 +1,4 @@
 use Rattle.mime_parameter.specs.WritingLaws.{lines_alone, lines_parts}
-use borrow.Author.Rules.{rules}
 use Rattle.mime_parameter.proofs.pieces.add_limited.Goals as goal
 
 pub returns-then-fits_alone : goal.returns-then-fits_alone

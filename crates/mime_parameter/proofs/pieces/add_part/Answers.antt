@@ -1,6 +1,5 @@
 use Rattle.mime_parameter.specs.WritingLaws.{part_added}
 use native.Mathlib.Omega.{arith}
-use borrow.Author.Rules.{rules}
 use Rattle.mime_parameter.proofs.pieces.add_part.Goals as goal
 
 pub returns : goal.returns

@@ -1,10 +1,7 @@
-use Rattle.mime_parameter.specs.PartLaws.{parts_laid, laid_next, laid_end}
-use Rattle.buffer.specs.BufferLaws.{capped_start, capped_turn, capped_end, length_capped}
+use Rattle.mime_parameter.specs.PartLaws.{parts_laid}
 use Rattle.buffer.specs.Buffer.{ReachedCapped}
-use Prim.Native.Nat.{◌-◌, ◌+◌, ◌≤◌}
-use native.Mathlib.Omega.{arith}
+use Prim.Native.Nat.{◌-◌, ◌≤◌}
 use lib.ListN.{length, drop}
-use borrow.Author.Rules.{rules}
 use Rattle.mime_parameter.proofs.pieces.add_parts.Given as goal
 
 abbrev pub invariant-loop-i : goal.invariant-loop-i

@@ -2,7 +2,6 @@ use Rattle.mime_parameter.specs.WritingLaws.{alone_fits}
 use Rattle.mime_parameter.specs.ExtendedLaws.{length_extended}
 use mathlib.Core.Path.{refl}
 use native.Mathlib.Omega.{arith}
-use borrow.Author.Rules.{rules}
 use Rattle.mime_parameter.proofs.pieces.fits_alone.Goals as goal
 
 pub overflow_add-result-2 : goal.overflow_add-result-2

@@ -1,5 +1,4 @@
 use Rattle.mime_parameter.specs.WritingLaws.{room_alone, room_parts}
-use borrow.Author.Rules.{rules}
 use Rattle.mime_parameter.proofs.pieces.limited_room.Goals as goal
 
 pub returns-then-fits_alone : goal.returns-then-fits_alone

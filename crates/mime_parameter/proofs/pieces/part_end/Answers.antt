@@ -1,45 +1,14 @@
 use Rattle.mime_parameter.specs.PartLaws.{char_ahead}
 use Rattle.mime_parameter.specs.WritingLaws.{label_length}
-use Rattle.mime_parameter.specs.PartLaws.{Filling, filling_start, filling_end, filling_full, filling_more, part_short, cost_small}
-use Prim.Native.Nat.{◌-◌, ◌≤◌}
+use Rattle.mime_parameter.specs.PartLaws.{filling_start, filling_end, filling_full, filling_more, cost_small}
 use native.Mathlib.Omega.{arith}
-use mathlib.Core.Path.{refl, ◌∙◌}
-use lib.ListN.{length}
-use borrow.Author.Rules.{rules}
 use Rattle.mime_parameter.proofs.pieces.part_end.Goals as goal
-
-pub part_label_len-label-requires : goal.part_label_len-label-requires
-part_label_len-label-requires c = (c.requires.0, c.requires.2)
-
-pub slice_bounds-extended_len-count : goal.slice_bounds-extended_len-count
-slice_bounds-extended_len-count c = omega (arith, c.char_end-first.ensures)
-
-pub slice_bounds-extended_len-start : goal.slice_bounds-extended_len-start
-slice_bounds-extended_len-start c = omega (arith, c.char_end-first.ensures)
-
-pub slice_bounds-extended_len-end : goal.slice_bounds-extended_len-end
-slice_bounds-extended_len-end c = omega (arith, c.char_end-first.ensures)
-
-pub extended_len-requires : goal.extended_len-requires
-extended_len-requires c = part_short c.args.text.now c.args.at c.char_end-first.result c.requires.1
 
 pub overflow_add-used : goal.overflow_add-used
 overflow_add-used c = omega (arith, c.extended_len.ensures, cost_small c.args.text.now c.args.at c.char_end-first.result c.requires.1, c.part_label_len-label.ensures, label_length c.args.name.now c.args.k c.requires.0 c.requires.2)
 
 pub loop-i-init : goal.loop-i-init
 loop-i-init c = (omega (arith, c.extended_len.ensures, cost_small c.args.text.now c.args.at c.char_end-first.result c.requires.1, c.part_label_len-label.ensures, label_length c.args.name.now c.args.k c.requires.0 c.requires.2), filling_start _ _ _ _ _ c.extended_len.result _ c.requires.3 c.char_end-first.ensures c.extended_len.ensures (rw c.part_label_len-label.ensures))
-
-pub slice_bounds-extended_len-count-in-loop-i : goal.slice_bounds-extended_len-count-in-loop-i
-slice_bounds-extended_len-count-in-loop-i c = omega (arith, c.char_end-end.ensures)
-
-pub slice_bounds-extended_len-start-in-loop-i : goal.slice_bounds-extended_len-start-in-loop-i
-slice_bounds-extended_len-start-in-loop-i c = omega (arith, c.char_end-end.ensures)
-
-pub slice_bounds-extended_len-end-in-loop-i : goal.slice_bounds-extended_len-end-in-loop-i
-slice_bounds-extended_len-end-in-loop-i c = omega (arith, c.char_end-end.ensures)
-
-pub extended_len-requires-in-loop-i : goal.extended_len-requires-in-loop-i
-extended_len-requires-in-loop-i c = part_short c.args.text.now c.loop-i.i c.char_end-end.result c.requires.1
 
 pub overflow_add-more : goal.overflow_add-more
 overflow_add-more c = omega (arith, c.extended_len-in-loop-i.ensures, cost_small c.args.text.now c.loop-i.i c.char_end-end.result c.requires.1, c.loop-i.invariant.0)

@@ -1,10 +1,7 @@
-use Rattle.mime_parameter.specs.WritingLaws.{label_length}
-use Rattle.mime_parameter.specs.PartLaws.{parts_fit, part_short, cost_small, fit_next, fit_fails, fit_end}
-use Prim.Native.Nat.{◌-◌, ◌+◌, ◌≤◌}
-use mathlib.Core.Path.{◌≡◌, refl, sym, ◌∙◌}
-use native.Mathlib.Omega.{arith}
+use Rattle.mime_parameter.specs.PartLaws.{parts_fit}
+use Prim.Native.Nat.{◌-◌, ◌≤◌}
+use mathlib.Core.Path.{◌≡◌}
 use lib.ListN.{length, drop}
-use borrow.Author.Rules.{rules}
 use Rattle.mime_parameter.proofs.pieces.parts_fit.Given as goal
 
 abbrev pub invariant-loop-i : goal.invariant-loop-i

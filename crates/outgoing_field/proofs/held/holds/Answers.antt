@@ -7,31 +7,11 @@ use Rattle.outgoing_field.proofs.held.holds.Goals as goal
 pub slice_bounds-passes-end : goal.slice_bounds-passes-end
 slice_bounds-passes-end c = name_size _ _ c.name_len-n.ensures
 
-pub returns-in-Pieces : goal.returns-in-Pieces
-unfolding holds
-returns-in-Pieces c = rw c.in-Pieces.is
-
-pub returns-in-PlainText : goal.returns-in-PlainText
-unfolding holds
-returns-in-PlainText c = rw c.in-PlainText.is
-
-pub returns-in-Encapsulated : goal.returns-in-Encapsulated
-unfolding holds
-returns-in-Encapsulated c = rw c.in-Encapsulated.is
-
 pub returns-in-Received : goal.returns-in-Received
 returns-in-Received c = holds_received _ _ c.in-Received.is c.value.ensures c.name_len-n.ensures c.passes.ensures
 
 pub returns-in-CommentsOrHeld : goal.returns-in-CommentsOrHeld
 returns-in-CommentsOrHeld c = holds_commented _ _ c.in-CommentsOrHeld.is c.value-in-CommentsOrHeld.ensures c.ascii_outside_comments.ensures
 
-pub returns-in-CommentsOrEncapsulated : goal.returns-in-CommentsOrEncapsulated
-unfolding holds
-returns-in-CommentsOrEncapsulated c = rw c.in-CommentsOrEncapsulated.is
-
 pub returns-in-Parameters : goal.returns-in-Parameters
 returns-in-Parameters c = holds_parameters _ _ c.in-Parameters.is c.requires c.value-in-Parameters.ensures c.passes-in-Parameters.ensures
-
-pub returns-in-Held : goal.returns-in-Held
-unfolding holds
-returns-in-Held c = rw c.in-Held.is

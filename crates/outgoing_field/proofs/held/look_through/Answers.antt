@@ -31,20 +31,20 @@ slice_bounds-look-start c = let a = field_after _ _ _ c.if-h-start.false c.field
 pub slice_bounds-look-end : goal.slice_bounds-look-end
 slice_bounds-look-end c = let a = field_after _ _ _ c.if-h-start.false c.field_end-to.ensures in omega (arith, a.1)
 
-pub look-field-requires : goal.look-field-requires
-look-field-requires c = let a = field_after _ _ _ c.if-h-start.false c.field_end-to.ensures in omega (arith, a.1, c.requires)
+pub look-requires : goal.look-requires
+look-requires c = let a = field_after _ _ _ c.if-h-start.false c.field_end-to.ensures in omega (arith, a.1, c.requires)
 
-pub returns-then-field : goal.returns-then-field
-returns-then-field c = looking_here (looking_skip c.loop-at.invariant (omega (arith, c.loop-at-test.true)) (ascii_fields_lem c.ascii_fields_end-start.ensures)) c.if-h-start.false c.field_end-to.ensures c.look-field.ensures.0 _ c.if-field.true c.line_count.ensures
+pub returns-in-None : goal.returns-in-None
+returns-in-None c = looking_here (looking_skip c.loop-at.invariant (omega (arith, c.loop-at-test.true)) (ascii_fields_lem c.ascii_fields_end-start.ensures)) c.if-h-start.false c.field_end-to.ensures c.in-None.ensures c.line_count.ensures
 
-pub overflow_add-most-in-loop-at : goal.overflow_add-most-in-loop-at
-overflow_add-most-in-loop-at c = omega (arith, looking_small (looking_next (looking_skip c.loop-at.invariant (omega (arith, c.loop-at-test.true)) (ascii_fields_lem c.ascii_fields_end-start.ensures)) c.if-h-start.false c.field_end-to.ensures c.look-field.ensures.0 c.if-field.false c.look-field.ensures.1) c.requires)
+pub overflow_add-most-in-Some : goal.overflow_add-most-in-Some
+overflow_add-most-in-Some c = omega (arith, looking_small (looking_next (looking_skip c.loop-at.invariant (omega (arith, c.loop-at-test.true)) (ascii_fields_lem c.ascii_fields_end-start.ensures)) c.if-h-start.false c.field_end-to.ensures c.in-Some.ensures) c.requires)
 
 pub loop-at-smaller : goal.loop-at-smaller
 loop-at-smaller c = let a = field_after _ _ _ c.if-h-start.false c.field_end-to.ensures in omega (arith, a.0, a.1, (ascii_fields_lem c.ascii_fields_end-start.ensures).up, c.loop-at-test.true)
 
 pub loop-at-preserved : goal.loop-at-preserved
-loop-at-preserved c = looking_next (looking_skip c.loop-at.invariant (omega (arith, c.loop-at-test.true)) (ascii_fields_lem c.ascii_fields_end-start.ensures)) c.if-h-start.false c.field_end-to.ensures c.look-field.ensures.0 c.if-field.false c.look-field.ensures.1
+loop-at-preserved c = looking_next (looking_skip c.loop-at.invariant (omega (arith, c.loop-at-test.true)) (ascii_fields_lem c.ascii_fields_end-start.ensures)) c.if-h-start.false c.field_end-to.ensures c.in-Some.ensures
 
 pub returns : goal.returns
 returns c = looking_end c.loop-at.invariant c.loop-at-test.false

@@ -1,25 +1,5 @@
-use native.Mathlib.Omega.{arith}
-use Prim.Native.Nat.{◌-◌}
-use mathlib.Core.Path.{◌≡◌, refl, sym, ap, ◌∙◌}
-use lib.ListN.{length, drop}
-use borrow.Author.Rules.{rules}
-use borrow.Author.Tests.{not-true, not-false}
-use Rattle.lists.specs.Lists.{all}
-use Rattle.parameter.specs.ParameterLaws.{param_part, each_step, each_stop, each_end}
-use Rattle.parameter.specs.Parameter.{params, orcpt_clean}
+use Rattle.parameter.specs.FirstLaws.{all_meet}
 use Rattle.parameter.proofs.tail.are_orcpt_clean.Goals as goal
 
-pub loop-i-init : goal.loop-i-init
-loop-i-init c = refl
-
-pub returns-then-not-is_orcpt_clean : goal.returns-then-not-is_orcpt_clean
-returns-then-not-is_orcpt_clean c = sym (c.loop-i.invariant ∙ each_stop _ _ orcpt_clean c.loop-i-test.true (ap orcpt_clean (sym (c.part.ensures ∙ param_part _ _ _ c.param_end-end.ensures)) ∙ sym c.is_orcpt_clean.ensures ∙ not-true _ c.if-not-is_orcpt_clean.true-raw))
-
-pub loop-i-smaller : goal.loop-i-smaller
-loop-i-smaller c = omega (arith, c.param_end-end.ensures)
-
-pub loop-i-preserved : goal.loop-i-preserved
-loop-i-preserved c = c.loop-i.invariant ∙ each_step _ _ orcpt_clean _ c.param_end-end.ensures c.loop-i-test.true (ap orcpt_clean (sym (c.part.ensures ∙ param_part _ _ _ c.param_end-end.ensures)) ∙ sym c.is_orcpt_clean.ensures ∙ not-false _ c.if-not-is_orcpt_clean.false-raw)
-
 pub returns : goal.returns
-returns c = sym (c.loop-i.invariant ∙ each_end _ _ orcpt_clean c.loop-i-test.false)
+returns c = all_meet _ _ _ c.first.ensures c.is_none.ensures

@@ -1,5 +1,4 @@
 use Rattle.parameter.specs.ParameterLaws.{spaced_at, spaced_end}
-use borrow.Author.Rules.{rules}
 use Rattle.parameter.proofs.tail.is_spaced.Goals as goal
 
 pub returns-then-at-line : goal.returns-then-at-line

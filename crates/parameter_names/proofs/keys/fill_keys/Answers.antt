@@ -9,9 +9,6 @@ use Rattle.parameter_names.proofs.keys.fill_keys.Goals as goal
 pub loop-i-init : goal.loop-i-init
 loop-i-init c = gathered_start _ c.requires
 
-pub returns-then-n-eq8192 : goal.returns-then-n-eq8192
-returns-then-n-eq8192 c = (omega (arith, c.loop-i.invariant.size), λ h. absurd (h c.if-n-eq8192.true))
-
 pub slice_bounds-key_of-count : goal.slice_bounds-key_of-count
 slice_bounds-key_of-count c = omega (arith, marked_ahead c.args.s.now c.loop-i.i c.marked_end-end.result c.loop-i-test.true c.marked_end-end.ensures)
 
@@ -28,4 +25,4 @@ pub loop-i-preserved : goal.loop-i-preserved
 loop-i-preserved c = gathered_more _ _ _ c.loop-i-test.true c.marked_end-end.ensures c.if-n-eq8192.false c.key_of.ensures c.loop-i.invariant
 
 pub returns : goal.returns
-returns c = (omega (arith, c.loop-i.invariant.size), λ h. gathered_all _ _ c.loop-i-test.false c.loop-i.invariant)
+returns c = (omega (arith, c.loop-i.invariant.size, c.loop-i.invariant.most), gathered_all _ _ c.loop-i-test.false c.loop-i.invariant)

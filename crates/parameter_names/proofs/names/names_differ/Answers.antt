@@ -1,13 +1,9 @@
-use lib.Seq.{length-take-le}
-use mathlib.Core.Path.{sym}
-use borrow.Author.Rules.{rules}
+use Rattle.std.proofs.Common.{sym}
+use Rattle.std.proofs.Math.Seq.{length-take-le}
 use Rattle.parameter_names.proofs.names.names_differ.Goals as goal
 
-pub slice_bounds-keys-end : goal.slice_bounds-keys-end
-slice_bounds-keys-end c = c.fill_keys-n.ensures.0
-
 pub slice_bounds-keyed_differ-end : goal.slice_bounds-keyed_differ-end
-slice_bounds-keyed_differ-end c = sym (length-take-le _ _ c.fill_keys-n.ensures.0)
+slice_bounds-keyed_differ-end c = sym (length-take-le _ _ c.in-Some.ensures.0)
 
 pub keyed_differ-requires : goal.keyed_differ-requires
-keyed_differ-requires c = c.fill_keys-n.ensures.1 c.if-n-eq8192.false
+keyed_differ-requires c = c.in-Some.ensures.1

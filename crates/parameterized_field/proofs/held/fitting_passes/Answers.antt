@@ -1,19 +1,23 @@
 use Rattle.parameterized_field.specs.Value.{passes}
-use native.Mathlib.Omega.{arith}
-use borrow.Author.Tests.{not-true, not-false}
-use borrow.Author.Rules.{rules}
+use Rattle.std.proofs.Common.{List, ℕ, ◌≡◌, ◌≤◌, ◌*◌, length, take, arith}
+use lib.Seq.{take-length}
+use Rattle.parameterized_field.specs.RuleLaws.{tested, tested_all}
 use Rattle.parameterized_field.proofs.held.fitting_passes.Goals as goal
 
-pub parts_clear-requires : goal.parts_clear-requires
-parts_clear-requires c = (c.requires.0, omega (arith, c.requires.1))
+the_value : (v : List ℕ) (room : ℕ) → length v ≤ 32768 → 2 * length v ≤ room → take (tested (length v) room) v ≡ v
+the_value v room h k = rw (tested_all (length v) room h (omega arith)) (take-length v)
 
-pub returns-then-not-parts_clear : goal.returns-then-not-parts_clear
+pub returns-then-not-all_clear : goal.returns-then-not-all_clear
 unfolding passes
-returns-then-not-parts_clear c = rw (← c.parts_clear.ensures, not-true c.parts_clear.result c.if-not-parts_clear.true-raw)
+returns-then-not-all_clear c =
+    let is = rw (the_value c.args.value.now _ c.requires.0 c.requires.1) at c.all_clear.ensures.is in
+    rw (← is, c.if-not-all_clear.true)
 
 pub names_differ-requires : goal.names_differ-requires
 names_differ-requires c = (c.requires.0, omega (arith, c.requires.1))
 
 pub returns : goal.returns
 unfolding passes
-returns c = rw (← c.parts_clear.ensures, not-false c.parts_clear.result c.if-not-parts_clear.false-raw) c.names_differ.ensures
+returns c =
+    let is = rw (the_value c.args.value.now _ c.requires.0 c.requires.1) at c.all_clear.ensures.is in
+    rw (← is, c.if-not-all_clear.false) c.names_differ.ensures

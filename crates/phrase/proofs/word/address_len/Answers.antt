@@ -1,18 +1,23 @@
-use Prim.Native.Nat.{◌-◌}
 use mathlib.Core.Path.{sym, ◌∙◌}
-use native.Mathlib.Omega.{arith}
 use lib.ListN.{drop}
+use Rattle.lists.specs.NonzeroLaws.{none_of}
 use Rattle.address.specs.Address.{address_scan}
 use Rattle.address.specs.TakenLaws.{taken_address}
-use Rattle.phrase.specs.WordsLaws.{found_to, found_stop, address_of, capped_le, capped_in}
-use borrow.Author.Rules.{rules}
+use Rattle.phrase.specs.WordsLaws.{taken_some, taken_none, address_of, address_none, address_within}
 use Rattle.phrase.proofs.word.address_len.Goals as goal
 
-pub overflow_sub-n : goal.overflow_sub-n
-overflow_sub-n c = (found_to c.args.s.now c.args.at (address_scan (drop c.args.at c.args.s.now)) (taken_address _) _ (sym c.in-To.is ∙ c.address.ensures)).1.0
+pub returns-in_err-end : goal.returns-in_err-end
+returns-in_err-end c =
+    let scan = address_scan (drop c.args.at c.args.s.now) in
+    (c.from_residual.ensures ∙ none_of (address_none _ (taken_none c.args.s.now c.args.at scan (taken_address _) c.ok.ensures.value c.address.ensures c.in_err-end.was)), address_within c.args.s.now c.args.at)
 
-pub returns-in-To : goal.returns-in-To
-returns-in-To c = let f = found_to c.args.s.now c.args.at (address_scan (drop c.args.at c.args.s.now)) (taken_address _) _ (sym c.in-To.is ∙ c.address.ensures) in (address_of _ _ _ f.0 c.capped.ensures, capped_le c.capped.ensures f.1.1)
+pub overflow_sub-end : goal.overflow_sub-end
+overflow_sub-end c =
+    let scan = address_scan (drop c.args.at c.args.s.now) in
+    (taken_some c.args.s.now c.args.at scan (taken_address _) c.ok.ensures.value c.address.ensures c.in_ok-end.was).1.0
 
-pub returns-in-Stop : goal.returns-in-Stop
-returns-in-Stop c = (address_of _ _ _ (found_stop c.args.s.now c.args.at (address_scan (drop c.args.at c.args.s.now)) (taken_address _) _ (sym c.in-Stop.is ∙ c.address.ensures)) (capped_in 0 (omega arith)), omega arith)
+pub returns : goal.returns
+returns c =
+    let scan = address_scan (drop c.args.at c.args.s.now) in
+    let taken = taken_some c.args.s.now c.args.at scan (taken_address _) c.ok.ensures.value c.address.ensures c.in_ok-end.was in
+    (rw (address_of _ _ taken.0) at c.capped.ensures, address_within c.args.s.now c.args.at)

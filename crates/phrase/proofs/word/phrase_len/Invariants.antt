@@ -1,14 +1,9 @@
-use mathlib.Core.Path.{◌≡◌, sym, ◌∙◌}
-use Prim.Native.Nat.{◌+◌, ◌-◌, ◌≤◌}
-use native.Mathlib.Omega.{arith}
-use borrow.Author.Rules.{rules}
-use lib.ListN.{length, drop}
-use Rattle.phrase.specs.WordsLaws.{words_stop, words_step, words_end, phrase_none, phrase_some}
+use Rattle.std.proofs.Common.{◌≡◌, ◌+◌, ◌-◌, ◌≤◌, ◌<◌, length, drop}
 use Rattle.phrase.specs.Words.{phrase_len, next_words_len}
 use Rattle.phrase.proofs.word.phrase_len.Given as goal
 
-abbrev pub invariant-loop-i : goal.invariant-loop-i
-invariant-loop-i l = (l.i ≤ length l.s) × (phrase_len l.s ≡ l.i + next_words_len 0 (drop l.i l.s))
+abbrev pub invariant-loop-n : goal.invariant-loop-n
+invariant-loop-n l = (l.end ≤ length l.s) × ((phrase_len l.s ≡ l.end + next_words_len 0 (drop l.end l.s)) × (0 < l.end))
 
-abbrev pub decreases-loop-i : goal.decreases-loop-i
-decreases-loop-i l = length l.s - l.i
+abbrev pub decreases-loop-n : goal.decreases-loop-n
+decreases-loop-n l = length l.s - l.end

@@ -1,13 +1,14 @@
-use native.Mathlib.Omega.{arith}
-use borrow.Author.Rules.{rules}
-use Rattle.read_back.specs.CallsLaws.{Going, going_start, going_on, going_end}
+use Rattle.std.proofs.Common.{◌≡◌, ◌-◌, ◌+◌, arith}
+use Rattle.read_back.specs.CallsLaws.{going_start, going_on, going_end}
 use Rattle.read_back.proofs.numbered.read_number.Goals as goal
 
-pub loop-left-init : goal.loop-left-init
-loop-left-init c = going_start
+pub loop-init : goal.loop-init
+loop-init c = let e : c.args.k - 0 ≡ c.args.k = omega arith in rw e going_start
 
-pub loop-left-preserved : goal.loop-left-preserved
-loop-left-preserved c = going_on c.loop-left.invariant c.hennelaku_read_downgraded_slices-r.ensures (omega arith)
+pub loop-preserved : goal.loop-preserved
+loop-preserved c =
+    let left : c.args.k - c.loop.counter - 1 ≡ c.args.k - (c.loop.counter + 1) = omega arith in
+    rw (← left) (going_on c.loop.invariant c.hennelaku_read_downgraded_slices-r.ensures (omega (arith, c.loop-test.true)))
 
 pub returns : goal.returns
-returns c = going_end c.loop-left.invariant c.hennelaku_read_downgraded_slices.ensures (omega arith)
+returns c = going_end c.loop.invariant c.hennelaku_read_downgraded_slices.ensures (omega (arith, c.loop-test.false))

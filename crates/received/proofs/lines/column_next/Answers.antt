@@ -1,4 +1,4 @@
-use Rattle.received.proofs.LinesLaws.{column_stays, column_ends, column_goes}
+use Rattle.received.specs.LinesLaws.{column_stays, column_ends, column_goes}
 use borrow.Author.Rules.{rules}
 use Rattle.received.proofs.lines.column_next.Goals as goal
 

@@ -5,7 +5,7 @@ use native.Mathlib.Omega.{arith}
 use borrow.Author.Rules.{rules}
 use Rattle.comment.proofs.PartsLaws.{part_beyond, part_end_within}
 use Rattle.received.specs.Received.{column_after}
-use Rattle.received.proofs.CommentLinesLaws.{comment_step, comment_over, comment_bytes}
+use Rattle.received.specs.CommentLinesLaws.{comment_step, comment_over, comment_bytes}
 use Rattle.received.proofs.lines.comment_column.Goals as goal
 
 pub loop-i-init : goal.loop-i-init

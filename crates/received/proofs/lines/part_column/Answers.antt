@@ -1,5 +1,5 @@
 use mathlib.Core.Path.{sym, ◌∙◌}
-use Rattle.received.proofs.CommentLinesLaws.{part_ascii, part_encoded}
+use Rattle.received.specs.CommentLinesLaws.{part_ascii, part_encoded}
 use borrow.Author.Rules.{rules}
 use Rattle.received.proofs.lines.part_column.Goals as goal
 

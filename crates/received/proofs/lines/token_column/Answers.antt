@@ -1,6 +1,6 @@
 use mathlib.Core.Path.{sym, ◌∙◌}
 use Rattle.received.proofs.PassesLaws.{column_same, column_none}
-use Rattle.received.proofs.TokenLaws.{bytes_comment, clause_stays, clause_removed, bytes_bare, bytes_open, bytes_other}
+use Rattle.received.specs.TokenLaws.{bytes_comment, clause_stays, clause_removed, bytes_kept}
 use borrow.Author.Rules.{rules}
 use Rattle.received.proofs.lines.token_column.Goals as goal
 
@@ -14,10 +14,4 @@ pub returns-else-is_ascii : goal.returns-else-is_ascii
 returns-else-is_ascii c = column_none _ (clause_removed _ _ c.in-Clause.is (sym c.is_ascii.ensures ∙ c.if-is_ascii.false))
 
 pub returns-in-BareFor : goal.returns-in-BareFor
-returns-in-BareFor c = column_same _ c.column_after-in-BareFor.ensures (bytes_bare _ _ c.in-BareFor.is)
-
-pub returns-in-Open : goal.returns-in-Open
-returns-in-Open c = column_same _ c.column_after-in-Open.ensures (bytes_open _ _ c.in-Open.is)
-
-pub returns-in-Other : goal.returns-in-Other
-returns-in-Other c = column_same _ c.column_after-in-Other.ensures (bytes_other _ _ c.in-Other.is)
+returns-in-BareFor c = column_same _ c.column_after-in-BareFor.ensures (bytes_kept _ _ c.in-BareFor.is)

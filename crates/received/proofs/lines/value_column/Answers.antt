@@ -16,19 +16,19 @@ unfolding value_segments
 loop-i-init c = refl
 
 pub slice_bounds-token_column-count : goal.slice_bounds-token_column-count
-slice_bounds-token_column-count c = omega (arith, c.token_at-token.ensures.some c.loop-i-test.true)
+slice_bounds-token_column-count c = omega (arith, c.token_at-kind.ensures.some c.loop-i-test.true)
 
 pub slice_bounds-token_column-start : goal.slice_bounds-token_column-start
-slice_bounds-token_column-start c = omega (arith, c.token_at-token.ensures.some c.loop-i-test.true)
+slice_bounds-token_column-start c = omega (arith, c.token_at-kind.ensures.some c.loop-i-test.true)
 
 pub slice_bounds-token_column-end : goal.slice_bounds-token_column-end
-slice_bounds-token_column-end c = c.token_at-token.ensures.within c.loop-i-test.true
+slice_bounds-token_column-end c = c.token_at-kind.ensures.within c.loop-i-test.true
 
 pub loop-i-smaller : goal.loop-i-smaller
-loop-i-smaller c = omega (arith, c.token_at-token.ensures.some c.loop-i-test.true)
+loop-i-smaller c = omega (arith, c.token_at-kind.ensures.some c.loop-i-test.true)
 
 pub loop-i-preserved : goal.loop-i-preserved
-loop-i-preserved c = c.loop-i.invariant ∙ column_step _ c.loop-i-test.true c.token_at-token.ensures c.goes_on-comments.ensures c.token_column-at.ensures
+loop-i-preserved c = c.loop-i.invariant ∙ column_step _ c.loop-i-test.true c.token_at-kind.ensures c.goes_on-comments.ensures c.token_column-at.ensures
 
 pub returns : goal.returns
 returns c = sym (c.loop-i.invariant ∙ column_end _ _ _ _ c.loop-i-test.false)

@@ -1,7 +1,7 @@
 use mathlib.Core.Path.{sym, ◌∙◌}
 use native.Mathlib.Omega.{arith}
 use Rattle.buffer.specs.BufferLaws.{capped_same}
-use Rattle.received.proofs.TokenLaws.{clause_stays, clause_removed, bytes_bare, bytes_open, bytes_other}
+use Rattle.received.specs.TokenLaws.{clause_stays, clause_removed, bytes_kept}
 use Rattle.received.proofs.WritingLaws.{token_comment, token_removed}
 use borrow.Author.Rules.{rules}
 use Rattle.received.proofs.writer.add_token.Goals as goal
@@ -16,10 +16,4 @@ pub returns-else-is_ascii : goal.returns-else-is_ascii
 returns-else-is_ascii c = token_removed _ _ (clause_removed _ _ c.in-Clause.is (sym c.is_ascii.ensures ∙ c.if-is_ascii.false)) (omega arith)
 
 pub returns-in-BareFor : goal.returns-in-BareFor
-returns-in-BareFor c = capped_same (bytes_bare _ _ c.in-BareFor.is) c.add_slice-in-BareFor.ensures
-
-pub returns-in-Open : goal.returns-in-Open
-returns-in-Open c = capped_same (bytes_open _ _ c.in-Open.is) c.add_slice-in-Open.ensures
-
-pub returns-in-Other : goal.returns-in-Other
-returns-in-Other c = capped_same (bytes_other _ _ c.in-Other.is) c.add_slice-in-Other.ensures
+returns-in-BareFor c = capped_same (bytes_kept _ _ c.in-BareFor.is) c.add_slice-in-BareFor.ensures

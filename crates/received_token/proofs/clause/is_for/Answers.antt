@@ -1,17 +1,15 @@
 use native.Mathlib.Omega.{arith}
-use borrow.Author.Tests.{not-true, not-false}
 use Rattle.received_token.proofs.TokensLaws.{for_not, for_within, for_rest}
-use borrow.Author.Rules.{rules}
 use Rattle.received_token.proofs.clause.is_for.Goals as goal
 
 pub returns-then-not-first : goal.returns-then-not-first
-returns-then-not-first c = for_not c.args.s.now c.args.at c.byte_at-first.ensures (not-true _ c.if-not-first.true-raw)
+returns-then-not-first c = for_not c.args.s.now c.args.at c.byte_at-first.ensures c.if-not-first.true
 
 pub slice_bounds-is_for_there-count : goal.slice_bounds-is_for_there-count
-slice_bounds-is_for_there-count c = let k = for_within c.args.s.now c.args.at c.byte_at-first.ensures (not-false _ c.if-not-first.false-raw) in omega (arith, k)
+slice_bounds-is_for_there-count c = let k = for_within c.args.s.now c.args.at c.byte_at-first.ensures c.if-not-first.false in omega (arith, k)
 
 pub slice_bounds-is_for_there-start : goal.slice_bounds-is_for_there-start
-slice_bounds-is_for_there-start c = let k = for_within c.args.s.now c.args.at c.byte_at-first.ensures (not-false _ c.if-not-first.false-raw) in omega (arith, k)
+slice_bounds-is_for_there-start c = let k = for_within c.args.s.now c.args.at c.byte_at-first.ensures c.if-not-first.false in omega (arith, k)
 
 pub returns : goal.returns
 returns c = for_rest c.args.s.now c.args.at c.is_for_there.ensures

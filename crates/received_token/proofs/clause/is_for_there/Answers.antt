@@ -1,5 +1,4 @@
 use Rattle.received_token.proofs.ClauseLaws.{for_is}
-use borrow.Author.Rules.{rules}
 use Rattle.received_token.proofs.clause.is_for_there.Goals as goal
 
 pub returns : goal.returns

@@ -1,4 +1,4 @@
-use Rattle.structured_field.proofs.WritingLaws.{part_stays, part_encoded}
+use Rattle.structured_field.specs.WritingLaws.{part_stays, part_encoded}
 use Rattle.piece.proofs.CommentPiecesLaws.{run_made}
 use Rattle.buffer.specs.BufferLaws.{capped_same}
 use native.Mathlib.Omega.{arith}

@@ -1,4 +1,4 @@
-use Rattle.structured_field.proofs.WritingLaws.{part_served, comment_next, comment_none}
+use Rattle.structured_field.specs.WritingLaws.{part_served, comment_next, comment_none}
 use Rattle.structured_field.specs.StructuredField.{part_segments}
 use Rattle.comment.proofs.PartsLaws.{part_beyond, part_end_within}
 use Rattle.comment.specs.Parts.{parts}

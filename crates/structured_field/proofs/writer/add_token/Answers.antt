@@ -1,4 +1,4 @@
-use Rattle.structured_field.proofs.WritingLaws.{token_comment, token_stays}
+use Rattle.structured_field.specs.WritingLaws.{token_comment, token_stays}
 use Rattle.buffer.specs.BufferLaws.{capped_same}
 use borrow.Author.Rules.{rules}
 use Rattle.structured_field.proofs.writer.add_token.Goals as goal

@@ -1,5 +1,4 @@
 use Rattle.structured_token.proofs.TokensLaws.{calm_plain, calm_space}
-use borrow.Author.Rules.{rules}
 use Rattle.structured_token.proofs.ends.is_calm.Goals as goal
 
 pub returns-then-is_plain_ascii : goal.returns-then-is_plain_ascii

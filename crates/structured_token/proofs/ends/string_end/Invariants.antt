@@ -1,10 +1,8 @@
 use Prim.Native.Nat.{◌+◌, ◌-◌, ◌<◌}
-use mathlib.Core.Path.{◌≡◌, sym, ◌∙◌}
+use mathlib.Core.Path.{◌≡◌}
 use lib.ListN.{length, drop}
-use native.Mathlib.Omega.{arith}
-use borrow.Author.Rules.{rules}
 use Rattle.structured_token.specs.Tokens.{string_len}
-use Rattle.structured_token.proofs.TokensLaws.{string_from, string_start, string_over, string_unclosed, string_closed, string_escaped}
+use Rattle.structured_token.proofs.TokensLaws.{string_from}
 use Rattle.structured_token.proofs.ends.string_end.Given as goal
 
 abbrev pub invariant-loop-i : goal.invariant-loop-i

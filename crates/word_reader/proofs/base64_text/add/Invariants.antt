@@ -1,14 +1,9 @@
-use Rattle.buffer.specs.BufferLaws.{length_added}
-use mathlib.Core.Path.{◌∙◌}
-use borrow.Author.Rules.{rules}
-use Rattle.word_reader.specs.WordLaws.{Groups, groups_start, groups_next, groups_end, length_groups}
-use Prim.Native.Nat.{◌-◌, ◌+◌}
-use native.Mathlib.Omega.{arith}
-use lib.ListN.{length, length-take, length-drop}
+use lib.ListN.{length}
+use Rattle.word_reader.specs.WordLaws.{Groups}
 use Rattle.word_reader.proofs.base64_text.add.Given as goal
 
-abbrev pub invariant-loop-i : goal.invariant-loop-i
-invariant-loop-i l = Groups l.s l.at l.initial.out l.out l.i l.place l.good
+abbrev pub invariant-loop-quad : goal.invariant-loop-quad
+invariant-loop-quad l = Groups l.s l.at l.initial.out l.out l.rest l.place l.good
 
-abbrev pub decreases-loop-i : goal.decreases-loop-i
-decreases-loop-i l = length l.s - l.i
+abbrev pub decreases-loop-quad : goal.decreases-loop-quad
+decreases-loop-quad l = length l.rest

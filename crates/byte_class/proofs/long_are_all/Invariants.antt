@@ -1,0 +1,6 @@
+use Rattle.std.proofs.Common.{◌≡◌, take}
+use Rattle.lists.specs.Lists.{all}
+use Rattle.byte_class.proofs.long_are_all.Given as goal
+
+abbrev pub invariant-loop-b : goal.invariant-loop-b
+invariant-loop-b g l = l.ok ≡ all g.C.Class.member (take l.b-index l.s)

@@ -1,5 +1,0 @@
-use borrow.Author.Rules.{rules}
-use Rattle.envelope_stop.proofs.form_need.Goals as goal
-
-pub returns-in-Verb : goal.returns-in-Verb
-returns-in-Verb c = rw c.in-Verb.is c.verb_need.ensures

@@ -1,7 +1,0 @@
-use Rattle.line_stop.specs.Scanner.{alive}
-use borrow.Author.Rules.{rules}
-use Rattle.header_stop.proofs.is_alive.Goals as goal
-
-pub returns : goal.returns
-unfolding alive
-returns c = rw (c.char_need.ensures.0, c.form_need.ensures.0, c.char_live.ensures, c.not_bad.ensures)

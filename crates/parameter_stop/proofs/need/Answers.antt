@@ -1,5 +1,0 @@
-use borrow.Author.Rules.{rules}
-use Rattle.parameter_stop.proofs.need.Goals as goal
-
-pub returns-in-Key : goal.returns-in-Key
-returns-in-Key c = rw c.in-Key.is c.key_need.ensures

@@ -1,8 +1,0 @@
-use Rattle.rules.specs.RulesLaws.{setting_spool, setting_current}
-use Rattle.rules.proofs.of_setting.Goals as goal
-
-pub returns-then-setting-eq0 : goal.returns-then-setting-eq0
-returns-then-setting-eq0 c = setting_spool _ c.if-setting-eq0.true
-
-pub returns : goal.returns
-returns c = setting_current _ c.if-setting-eq0.false

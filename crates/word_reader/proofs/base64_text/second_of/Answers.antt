@@ -1,6 +1,0 @@
-use Rattle.word_reader.specs.WordLaws.{second_by}
-use borrow.Author.Rules.{rules}
-use Rattle.word_reader.proofs.base64_text.second_of.Goals as goal
-
-pub returns : goal.returns
-returns c = second_by _ _ c.value.ensures.0 c.value-2.ensures.0
