@@ -1,4 +1,4 @@
-use Rattle.std.proofs.Common.{◌≡◌, ◌≤◌, ◌∙◌, ◌-◌, refl, arith, length, take, drop, take_all, length-take, length-drop}
+use Rattle.std.proofs.Common.{◌≡◌, ◌≤◌, ◌∙◌, ◌-◌, ◌*◌, refl, arith, length, take, drop, take_all, length-take, length-drop}
 use Rattle.buffer.specs.BufferLaws.{capped_start, capped_turn, capped_end, length_capped}
 use Rattle.piece.specs.Piece.{fitting}
 use Rattle.piece.proofs.PieceLaws.{fitting_short}
@@ -15,7 +15,9 @@ loop-i-preserved g c =
     let e = c.part_at-kind.result.end in
     let part = take (e - i) (drop i s) in
     let size : length part ≤ length s = omega (arith, length-take (e - i) (drop i s), length-drop i s) in
-    let served : fitting (length c.loop-i.scratch) part ≡ part = fitting_short (length c.loop-i.scratch) part (omega (arith, c.requires.0)) (omega (arith, c.requires.1, c.loop-i.invariant.room)) in
+    let small : length part ≤ 32768 = omega (arith, c.requires.0) in
+    let roomy : 2 * length part ≤ length c.loop-i.scratch = omega (arith, c.requires.1, c.loop-i.invariant.room) in
+    let served : fitting (length c.loop-i.scratch) part ≡ part = fitting_short (length c.loop-i.scratch) part small roomy in
     let after : take (length s - e) (drop e s) ≡ drop e s = take_all (length s - e) (drop e s) (rw length-drop (omega arith)) in
     let took = c.part_at-kind.ensures.what c.loop-i-test.true in
     let added = (rw (served, after) at c.add_part-begun.ensures.is) (rule.fits_part _ _ _ _ _ c.loop-i-test.true took) in

@@ -1,4 +1,5 @@
-use Rattle.std.proofs.Common.{◌≡◌, ◌≤◌, ◌-◌, ◌&&◌, ◌∙◌, sym, refl, arith, Bool, true, false, List, ℕ, length, take, drop, length-take, length-drop}
+use Rattle.std.specs.Prelude.{◌≡◌, ◌≤◌, ◌-◌, ◌&&◌, refl, Bool, true, false, List, ℕ, length, take, drop}
+use Rattle.std.proofs.Common.{◌∙◌, sym, arith, length-take, length-drop}
 use lib.Seq.{take-length}
 use Rattle.structured_field.proofs.rule.parts_clear.Goals as goal
 
@@ -26,11 +27,15 @@ returns-then-not-is_clear g c =
     let s = c.args.value.now in
     let room = length c.loop-i.scratch in
     let can : g.R.ValueRule.can_test (length s) room = rw c.loop-i.invariant.room c.requires in
-    let part = counted g.R.ValueRule.tested s c.loop-i.i c.part_at-kind.result.end room (λ m h. rule.tested_all m room (rule.can_less m (length s) room h can)) in
+    let all = λ (m : ℕ) (h : m ≤ length s). rule.tested_all m room (rule.can_less m (length s) room h can) in
+    let part = counted g.R.ValueRule.tested s c.loop-i.i c.part_at-kind.result.end room all in
     let took = c.part_at-kind.ensures.what c.loop-i-test.true in
     let is = (rw part at c.is_clear.ensures.is) (rule.fits_part _ _ _ _ _ c.loop-i-test.true took) in
     let step = rule.clear_step _ _ _ _ _ _ c.loop-i-test.true took refl in
-    record { is = sym (c.loop-i.invariant.rest ∙ stops _ step is c.if-not-is_clear.true); kept = c.is_clear.ensures.kept ∙ c.loop-i.invariant.room }
+    record {
+      is = sym (c.loop-i.invariant.rest ∙ stops _ step is c.if-not-is_clear.true);
+      kept = c.is_clear.ensures.kept ∙ c.loop-i.invariant.room;
+    }
 
 pub loop-i-smaller : goal.loop-i-smaller
 loop-i-smaller g c = omega (arith, c.part_at-kind.ensures.some, c.passed_end-i.ensures.is)
@@ -41,11 +46,15 @@ loop-i-preserved g c =
     let s = c.args.value.now in
     let room = length c.loop-i.scratch in
     let can : g.R.ValueRule.can_test (length s) room = rw c.loop-i.invariant.room c.requires in
-    let part = counted g.R.ValueRule.tested s c.loop-i.i c.part_at-kind.result.end room (λ m h. rule.tested_all m room (rule.can_less m (length s) room h can)) in
+    let all = λ (m : ℕ) (h : m ≤ length s). rule.tested_all m room (rule.can_less m (length s) room h can) in
+    let part = counted g.R.ValueRule.tested s c.loop-i.i c.part_at-kind.result.end room all in
     let took = c.part_at-kind.ensures.what c.loop-i-test.true in
     let is = (rw part at c.is_clear.ensures.is) (rule.fits_part _ _ _ _ _ c.loop-i-test.true took) in
     let step = rule.clear_step _ _ _ _ _ _ c.loop-i-test.true took c.passed_end-i.ensures.is in
-    record { rest = c.loop-i.invariant.rest ∙ rw c.next_state-state.ensures (goes_on _ step is c.if-not-is_clear.false); room = c.is_clear.ensures.kept ∙ c.loop-i.invariant.room }
+    record {
+      rest = rw (c.next_state-state.ensures, ← goes_on _ step is c.if-not-is_clear.false) c.loop-i.invariant.rest;
+      room = c.is_clear.ensures.kept ∙ c.loop-i.invariant.room;
+    }
 
 pub returns : goal.returns
 returns g c = record { is = sym (c.loop-i.invariant.rest ∙ g.met.R.ValueRule.clear_none _ _ _ c.loop-i-test.false); kept = c.loop-i.invariant.room }
