@@ -48,10 +48,12 @@ impl ValueRule for Parameterized {
         start()
     }
 
+    #[inline(always)]
     fn next_state(state: State, kind: PartKind) -> State {
         next_state(state, kind)
     }
 
+    #[inline(always)]
     fn part_at(value: &[u8], at: usize, state: State) -> Token<PartKind> {
         if value.len() <= at {
             let kind = PartKind::Token(Kind::End);
