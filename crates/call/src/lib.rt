@@ -87,7 +87,7 @@ pub fn downgrade(
     let mut starts = [0usize; 100];
     match envelope::check(rules, envelope, &mut starts) {
         Err(at) => {
-            let offset = offset::of_fault(envelope, at.fault, at.line);
+            let offset = offset::of_fault(envelope, Err(at.fault), at.line);
             refused(Refusal::EnvelopeLine(at.fault, at.line, offset))
         }
         Ok(count) => {

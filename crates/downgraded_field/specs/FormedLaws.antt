@@ -195,14 +195,14 @@ run_part f (suc i) zero s = omega arith
 run_part f (suc i) (suc n) [] = omega arith
 run_part f (suc i) (suc n) (b ∷ s) = run_part f i n s
 
-value_short : (field : List ℕ) → is_formed field ≡ true → ShortRuns (value_of field)
+pub formed_short : {value : List ℕ} (field : List ℕ) → value ≡ value_of field → is_formed field ≡ true → ShortRuns value
 unfolding value_of
-value_short field t = record {
+formed_short field e t = record {
   short = λ i.
       let f = formed_folds field (true_yes (is_formed field) t) in
       let k = name_len field + 1 in
-      rw drop-drop (omega (arith, run_part solid (k + i) (length field - 2) field, run_anywhere f (k + i)));
+      rw (e, drop-drop) (omega (arith, run_part solid (k + i) (length field - 2) field, run_anywhere f (k + i)));
 }
 
-pub formed_short : {s : List ℕ} (field : List ℕ) → s ≡ text_part field → is_formed field ≡ true → ShortRuns s
-formed_short field e t = rw e (short_rest (run spacing (value_of field)) (value_short field t))
+pub formed_text_short : {s : List ℕ} (field : List ℕ) → s ≡ text_part field → is_formed field ≡ true → ShortRuns s
+formed_text_short field e t = rw e (short_rest (run spacing (value_of field)) (formed_short field refl t))

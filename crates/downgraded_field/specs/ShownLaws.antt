@@ -376,14 +376,22 @@ module _ (gap run : List ℕ) (after : Bool) where
   unfolding turn_number turn_text
   turn_plain w e = (rw w refl, rw (w, length-append, e) refl)
 
-  pub turn_first : {l m : ℕ} → is_word run ≡ true → after ≡ false → (word_number run ≡ 5) × (l ≡ length (added run)) → m ≡ length (without_breaks gap)
-      → (turn_number (turn_of gap run) ≡ 5) × (m + l ≡ length (turn_text after (turn_of gap run)))
+  pub turn_first : {n l m : ℕ} → is_word run ≡ true → after ≡ false → (n ≡ word_number run) × (l ≡ length (added run)) → m ≡ length (without_breaks gap)
+      → (n ≡ turn_number (turn_of gap run)) × (m + l ≡ length (turn_text after (turn_of gap run)))
   unfolding turn_number turn_text
   turn_first w a c e = (rw w c.0, rw (w, a, length-append, e, c.1) refl)
 
-  pub turn_next : {l : ℕ} → is_word run ≡ true → after ≡ true → (word_number run ≡ 5) × (l ≡ length (added run)) → (turn_number (turn_of gap run) ≡ 5) × (l ≡ length (turn_text after (turn_of gap run)))
+  pub turn_next : {n l : ℕ} → is_word run ≡ true → after ≡ true → (n ≡ word_number run) × (l ≡ length (added run)) → (n ≡ turn_number (turn_of gap run)) × (l ≡ length (turn_text after (turn_of gap run)))
   unfolding turn_number turn_text
   turn_next w a c = (rw w c.0, rw (w, a) c.1)
+
+  -- the same of a word without a fault
+  pub read_first : {l m : ℕ} → is_word run ≡ true → after ≡ false → (word_number run ≡ 5) × (l ≡ length (added run)) → m ≡ length (without_breaks gap)
+      → (turn_number (turn_of gap run) ≡ 5) × (m + l ≡ length (turn_text after (turn_of gap run)))
+  read_first w a c e = let k = turn_first w a (sym c.0, c.1) e in (sym k.0, k.1)
+
+  pub read_next : {l : ℕ} → is_word run ≡ true → after ≡ true → (word_number run ≡ 5) × (l ≡ length (added run)) → (turn_number (turn_of gap run) ≡ 5) × (l ≡ length (turn_text after (turn_of gap run)))
+  read_next w a c = let k = turn_next w a (sym c.0, c.1) in (sym k.0, k.1)
 
   pub turn_fault : (f : FieldFault) → is_word run ≡ true → number_of f ≡ word_number run → number_of f ≡ turn_number (turn_of gap run)
   unfolding turn_number
@@ -411,7 +419,7 @@ pub text_by : (field : List ℕ) {value : List ℕ} {n : ℕ} → value ≡ valu
 text_by field {value} {n} e k = let z : n ≡ run spacing value = omega arith in rw (z, e) refl
 
 module _ (field : List ℕ) {s : List ℕ} (e : s ≡ text_part field) where
-  turns_are : turns_of s ≡ field_turns field
+  pub turns_are : turns_of s ≡ field_turns field
   unfolding field_turns
   turns_are = rw e refl
 

@@ -1,5 +1,5 @@
 -- The byte that a refusal points to, as an offset from the start of the envelope or of the header.
-use Rattle.std.specs.Prelude.{Bool, List, ℕ, zero, suc, ◌+◌, ◌-◌, eqb, length, take, drop}
+use Rattle.std.specs.Prelude.{Bool, List, ℕ, zero, suc, ◌+◌, ◌-◌, Result, Ok, Err, ⊤, eqb, length, take, drop}
 use Rattle.lists.specs.Byte.{is_ascii}
 use Rattle.lists.specs.Run.{run}
 use Rattle.line.specs.Line.{line_len}
@@ -60,6 +60,11 @@ fault_byte RetiredAlternative n line = alt_value_byte (eqb n 0) (line_text line)
 -- 2, 3, 4 and 10 at line n of an envelope
 unfoldable pub fault_offset : List ℕ → Fault → ℕ → ℕ
 fault_offset e fault n = line_start n e + fault_byte fault n (line_at n e)
+
+-- the same by what a check of the line found; its first byte where it has no fault
+unfoldable pub checked_offset : List ℕ → Result ⊤ Fault → ℕ → ℕ
+checked_offset e (Ok _) n = line_start n e
+checked_offset e (Err fault) n = fault_offset e fault n
 
 -- 6 at line n of an envelope
 unfoldable pub orcpt_offset : List ℕ → ℕ → ℕ

@@ -3,7 +3,7 @@
 
 ghost use Rattle.std.specs.Prelude.{◌≡◌, drop};
 ghost use Rattle.envelope.specs.Envelope.{line_text};
-ghost use Rattle.offset.specs.Offset.{front_line, line_start, path_byte, alt_value_byte, orcpt_byte, line_at, fault_byte, fault_offset, orcpt_offset, header_line_offset, field_offset};
+ghost use Rattle.offset.specs.Offset.{front_line, line_start, path_byte, alt_value_byte, orcpt_byte, line_at, fault_byte, checked_offset, orcpt_offset, header_line_offset, field_offset};
 
 use envelope_line::Fault;
 use line::part;
@@ -83,13 +83,16 @@ fn fault_byte(line: &[u8], fault: Fault, n: usize) -> usize
     }
 }
 
-// The byte that 2, 3, 4 and 10 point to, at line n of an envelope.
-#[tactic(auto, using(crate::specs::OffsetLaws::fault_inside, crate::specs::OffsetLaws::fault_offset_lem))]
-pub fn of_fault(envelope: &[u8], fault: Fault, n: usize) -> usize
-    ensures { result ≡ fault_offset envelope.now fault n }
+// The byte that a check of line n of an envelope points to: that of 2, 3, 4 or 10, or its first where it has no fault.
+#[tactic(auto, using(crate::specs::OffsetLaws::fault_inside, crate::specs::OffsetLaws::fault_offset_lem), unfolding(crate::specs::Offset::checked_offset))]
+pub fn of_fault(envelope: &[u8], checked: Result<(), Fault>, n: usize) -> usize
+    ensures { result ≡ checked_offset envelope.now checked n }
 {
     let at = line_start(envelope, n);
-    at + fault_byte(front_line(envelope, at), fault, n)
+    match checked {
+        Ok(()) => at,
+        Err(fault) => at + fault_byte(front_line(envelope, at), fault, n),
+    }
 }
 
 // The byte that 6 points to, at line n of an envelope.

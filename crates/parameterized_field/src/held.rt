@@ -25,8 +25,8 @@ impl Class for NoStar {
 
 // Whether a parameter does not hold the field. The text of its value is made in the scratch.
 fn parameter_clear(parameter: &[u8], converted: bool, scratch: &mut [u8]) -> bool
-    requires { (length parameter.now ≤ 32768) × (length parameter.now ≤ length scratch.old) × (converted ≡ is_converted parameter.now) }
-    ensures { result ≡ parameter_clear parameter.now }
+    requires { (length parameter.now ≤ 32768) × (length parameter.now ≤ length scratch.old) }
+    ensures { converted ≡ is_converted parameter.now → result ≡ parameter_clear parameter.now }
 {
     let name = field_parameter::token_end(parameter, 0);
     if !byte_class::are_all::<NoStar>(&parameter[..name]) {
@@ -42,8 +42,9 @@ fn parameter_clear(parameter: &[u8], converted: bool, scratch: &mut [u8]) -> boo
 // Whether a part does not hold the field.
 #[tactic(auto, unfolding(crate::specs::StepLaws::part_clear))]
 pub(crate) fn part_clear(kind: PartKind, part: &[u8], scratch: &mut [u8]) -> bool
-    requires { (length part.now ≤ 32768) × (length part.now ≤ length scratch.old) × (is_parameter kind ≡ true → converts kind ≡ is_converted part.now) }
-    ensures { result ≡ part_clear (is_parameter kind) (token_kind kind) part.now }
+    requires { (length part.now ≤ 32768) × (length part.now ≤ length scratch.old) }
+    ensures { (is_parameter kind ≡ true → converts kind ≡ is_converted part.now) →
+        result ≡ part_clear (is_parameter kind) (token_kind kind) part.now }
 {
     match kind {
         PartKind::Converted => parameter_clear(part, true, scratch),

@@ -29,6 +29,7 @@ pub(crate) fn start() -> State
     }
 }
 
+#[inline(always)]
 fn token_part(s: &[u8], at: usize, comments: bool) -> Token<PartKind>
     requires { at < length s.now }
     ensures { TookToken comments s.now at (is_parameter result.kind) (token_kind result.kind) result.end }
@@ -49,6 +50,7 @@ fn parameter_kind(parameter: &[u8]) -> PartKind
     }
 }
 
+#[inline(always)]
 pub(crate) fn part_at(s: &[u8], at: usize, state: State) -> Token<PartKind>
     requires { at < length s.now }
     ensures { TookPart state s.now at (is_parameter result.kind) (converts result.kind) (token_kind result.kind) result.end }
@@ -107,6 +109,7 @@ fn after_token(state: State, kind: Kind) -> State
     }
 }
 
+#[inline(always)]
 #[tactic(auto, unfolding(crate::specs::StepLaws::part_next))]
 pub(crate) fn next_state(state: State, kind: PartKind) -> State
     ensures { result ≡ part_next state (is_parameter kind) (converts kind) (token_kind kind) }

@@ -78,8 +78,7 @@ fn add_token_part(
 
 // A parameter that stays as it came.
 fn add_parameter(out: &mut [u8], at: usize, parameter: &[u8], fresh: bool) -> usize
-    requires { false ≡ is_converted parameter.now }
-    ensures { AppendedCapped (parameter_bytes fresh parameter.now) at out.old out.new result }
+    ensures { false ≡ is_converted parameter.now → AppendedCapped (parameter_bytes fresh parameter.now) at out.old out.new result }
 {
     let next = add_new_line(out, at, fresh);
     buffer::add_slice(out, next, parameter)
@@ -95,10 +94,11 @@ pub(crate) fn add_part(
     after: &[u8],
     scratch: &mut [u8],
 ) -> usize
-    requires what { is_parameter kind ≡ true → converts kind ≡ is_converted part.now }
     requires small { length part.now ≤ 32768 }
     requires room { 2 * length part.now ≤ length scratch.old }
-    ensures { AppendedCapped (rendered (joined (map item_segments (part_items state (is_parameter kind) (token_kind kind) part.now after.now)))) at out.old out.new result }
+    ensures { (is_parameter kind ≡ true → converts kind ≡ is_converted part.now) →
+        AppendedCapped (rendered (joined (map item_segments (part_items state (is_parameter kind) (token_kind kind) part.now after.now))))
+        at out.old out.new result }
 {
     match kind {
         PartKind::Converted => add_converted(out, at, part, scratch),

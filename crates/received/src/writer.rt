@@ -103,7 +103,8 @@ impl ValueRule for Received {
         _after: &[u8],
         scratch: &mut [u8],
     ) -> usize {
-        add_token(out, at, kind, token, scratch)
+        let n = piece::fitting_len(scratch.len(), token.len());
+        add_token(out, at, kind, &token[..n], scratch)
     }
 
     ghost fits_part = { λ _ _ _ _ _ _ _. tt };

@@ -47,29 +47,29 @@ pub trait ValueRule {
     fn next_state(state: Self::State, kind: Self::Kind) -> Self::State
         ensures { result ≡ next state kind };
 
+    // Where no byte stands at the place, none is taken.
     fn part_at(value: &[u8], at: usize, state: Self::State) -> Token<Self::Kind>
-        requires { at < length value.now }
-        ensures what { took state value.now at result.kind result.end }
-        ensures some { at < result.end }
-        ensures within { result.end ≤ length value.now };
+        ensures what { at < length value.now → took state value.now at result.kind result.end }
+        ensures some { at < length value.now → at < result.end }
+        ensures none { length value.now ≤ at → result.end ≡ at }
+        ensures within { at ≤ length value.now → result.end ≤ length value.now };
 
     fn passed_end(value: &[u8], at: usize) -> usize
-        requires { at ≤ length value.now }
         ensures is { result ≡ at + passed (drop at value.now) }
-        ensures within { result ≤ length value.now };
+        ensures within { at ≤ length value.now → result ≤ length value.now };
 
     fn tested_len(n: usize, room: usize) -> usize
         ensures is { result ≡ tested n room }
         ensures can { can_test result room }
         ensures within { result ≤ n };
 
+    // A part that cannot be tested with the scratch counts as the rule says.
     fn is_clear(kind: Self::Kind, part: &[u8], scratch: &mut [u8]) -> bool
-        requires what { fits kind part.now }
-        requires room { can_test (length part.now) (length scratch.old) }
-        ensures is { result ≡ clear kind part.now }
+        ensures is { let counted = take (tested (length part.now) (length scratch.old)) part.now in
+            fits kind counted → result ≡ clear kind counted }
         ensures kept { length scratch.new ≡ length scratch.old };
 
-    // Writes what becomes of a part, as far as it fits; answers the place after it.
+    // Writes what becomes of a part, as far as it fits; answers the place after it. A part that the scratch cannot serve counts as empty.
     fn add_part(
         out: &mut [u8],
         at: usize,
@@ -79,10 +79,8 @@ pub trait ValueRule {
         after: &[u8],
         scratch: &mut [u8],
     ) -> usize
-        requires what { fits kind part.now }
-        requires small { length part.now ≤ 32768 }
-        requires room { 2 * length part.now ≤ length scratch.old }
-        ensures is { AppendedCapped (bytes state kind part.now after.now) at out.old out.new result }
+        ensures is { let served = fitting (length scratch.old) part.now in
+            fits kind served → AppendedCapped (bytes state kind served after.now) at out.old out.new result }
         ensures kept { length scratch.new ≡ length scratch.old };
 
     ghost fits_part: { (state : Self.State) (s : List ℕ) (i : ℕ) (kind : Self.Kind) (e : ℕ) → i < length s → took state s i kind e → fits kind (take (e - i) (drop i s)) };

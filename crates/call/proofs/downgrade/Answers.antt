@@ -1,5 +1,6 @@
 use mathlib.Core.Path.{refl, sym, ◌∙◌}
 use Rattle.call.proofs.OutputLaws.{refused_observed, envelope_over, header_over, envelope_line_lem, to_ready}
+use Rattle.offset.specs.Offset.{checked_offset}
 use borrow.Author.Rules.{rules}
 use Rattle.call.proofs.downgrade.Goals as goal
 
@@ -13,4 +14,5 @@ pub downgrade_checked-requires : goal.downgrade_checked-requires
 downgrade_checked-requires c = to_ready c.if-envelope-gt16384.false c.if-header-gt32768.false c.check.ensures c.in-Ok.is refl
 
 pub returns-in-Err : goal.returns-in-Err
+unfolding checked_offset
 returns-in-Err c = refused_observed _ _ _ _ _ (envelope_line_lem _ _ _ _ _ c.if-envelope-gt16384.false c.if-header-gt32768.false _ _ _ (sym c.check.ensures.answer ∙ c.in-Err.is) c.of_fault-offset.ensures) c.refused-in-Err.ensures

@@ -2,4 +2,4 @@ use Rattle.structured_token.proofs.TokensLaws.{calm_within}
 use Rattle.structured_field.proofs.writer.StructuredValueRule.passed_end.Goals as goal
 
 pub returns-clause-within : goal.returns-clause-within
-returns-clause-within c = calm_within c.args.value.now c.args.at c.calm_end.ensures c.requires
+returns-clause-within c = calm_within c.args.value.now c.args.at c.calm_end.ensures
